@@ -48,5 +48,8 @@ in_memory words text rest before bytes was faults status nothing never ran wrote
       run = subst (λ n. IsRun (run_between words text rest [] bytes 0 n status)) none
           (subst (λ n. IsRun (run_between words text rest [] bytes n faults status)) never
           (subst (λ t. IsRun (run_between words text rest t bytes was faults status)) nothing ran));
-      no_fault = (λ four. never_risen 0 0 refl refl (four_read_failed (run_between words text rest before bytes was faults status) ran.end four), wrote);
+      no_fault = (
+        λ four. never_risen 0 0 refl refl (four_read_failed (run_between words text rest before bytes was faults status) ran.end four),
+        wrote,
+      );
     }

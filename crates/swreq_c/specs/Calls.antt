@@ -14,8 +14,8 @@ pieces bytes = slice_split (λ b. b == 0) bytes
 abbrev pub AreWords : Text → List Text → Type 0
 AreWords bytes words = (IsUtf8 bytes × (words ≡ pieces bytes)) ⊎ ((IsUtf8 bytes → ⊥) × (words ≡ []))
 
--- The run of the program with these words over this text, of which that is left, which has printed this and ends with this status. No stream
--- of it fails, and nothing watches it.
+-- The run of the program with these words over this text, of which that is left, which has printed this and ends with this status. No
+-- stream of it fails, and nothing watches it.
 abbrev pub run_in_memory : (words : List Text) (text : Text) (rest : Option Text) (printed : Text) → ℕ → Run
 run_in_memory words text rest printed status = record {
   words = words;

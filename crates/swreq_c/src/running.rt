@@ -23,7 +23,8 @@ pub(crate) struct Ran {
 
 /// Does what the words say, over the text.
 pub(crate) fn run_over(alloc: Global, words: &[u8], text: &[u8]) -> Result<Ran, AllocError>
-    ensures { IfOk result (λ r. (said : List Text) → AreWords words.now said → HasRun said text.now r.status r.bytes.items) }
+    ensures { IfOk result (λ r. (said : List Text) → AreWords words.now said
+        → HasRun said text.now r.status r.bytes.items) }
 {
     let words = words_of(alloc, words)?;
     let mut source = Handed { left: text };

@@ -38,7 +38,8 @@ one_place end ts at there a b =
 pub read_are_calls : (ts : List (Token Terminal)) (found : List CallDecl) → read_whole number calls ts ≡ Ok found → AreCalls ts found
 read_are_calls ts found e = whole_matches number calls calls_are_predictive ts found e
 
-pub refused_tells : (end : ℕ) (ts : List (Token Terminal)) (stop : Stop Terminal (Unit {0})) → Fails stop (read_whole number calls ts) → Tells end ts (Err (error_of end stop))
+pub refused_tells : (end : ℕ) (ts : List (Token Terminal)) (stop : Stop Terminal (Unit {0})) → Fails stop (read_whole number calls ts)
+    → Tells end ts (Err (error_of end stop))
 refused_tells end ts stops.Memory h = tt
 refused_tells end ts (stops.Refused rest label) h =
     ((rest.now, label), whole_refusal number calls calls_are_predictive calls_are_well_labelled ts (rest.now, label) h, refl)
@@ -46,9 +47,11 @@ refused_tells end ts (stops.Refused rest label) h =
 some_verdict : (end : ℕ) (ts : List (Token Terminal)) → ((a : List CallDecl) × AreCalls ts a) ⊎ ((at : ℕ) × AreRefused end ts at)
 some_verdict end ts = go (read_whole number calls ts) refl
   where
-    go : (r : Result (List CallDecl) (Fault Terminal (Unit {0}))) → read_whole number calls ts ≡ r → ((a : List CallDecl) × AreCalls ts a) ⊎ ((at : ℕ) × AreRefused end ts at)
+    go : (r : Result (List CallDecl) (Fault Terminal (Unit {0}))) → read_whole number calls ts ≡ r
+        → ((a : List CallDecl) × AreCalls ts a) ⊎ ((at : ℕ) × AreRefused end ts at)
     go (Ok a) e = inl (a, read_are_calls ts a e)
-    go (Err fault) e = inr (place end fault.0, (fault, whole_refusal number calls calls_are_predictive calls_are_well_labelled ts fault e, refl))
+    go (Err fault) e =
+        inr (place end fault.0, (fault, whole_refusal number calls calls_are_predictive calls_are_well_labelled ts fault e, refl))
 
 -- ---- over a part
 
@@ -60,7 +63,8 @@ module _ (text : List ℕ) (from : ℕ) where
   pub one_list_of : OneList → (a b : List CallDecl) → StandsFor text from a → StandsFor text from b → a ≡ b
   one_list_of one a b h k = one_list (with_terminals h.0) a b h.2 (subst (λ ts. AreCalls (with_terminals ts) b) (one k.0 h.0 k.1 h.1) k.2)
 
-  pub verdict_of : (ts : List lexed.Token) → HasTokensFrom text from ts → ((a : List CallDecl) × StandsFor text from a) ⊎ ((at : ℕ) × RefusedAt text from at)
+  pub verdict_of : (ts : List lexed.Token) → HasTokensFrom text from ts
+      → ((a : List CallDecl) × StandsFor text from a) ⊎ ((at : ℕ) × RefusedAt text from at)
   verdict_of ts h = go (some_verdict (length text) (with_terminals ts))
     where
       go : ((a : List CallDecl) × AreCalls (with_terminals ts) a) ⊎ ((at : ℕ) × AreRefused (length text) (with_terminals ts) at)
@@ -70,16 +74,19 @@ module _ (text : List ℕ) (from : ℕ) where
 
   pub one_refusal_of : OneList → (at there : ℕ) → RefusedAt text from at → RefusedAt text from there → at ≡ there
   one_refusal_of one at there a b =
-      one_place (length text) (with_terminals a.0) at there a.2 (subst (λ ts. AreRefused (length text) (with_terminals ts) there) (one b.0 a.0 b.1 a.1) b.2)
+      one_place (length text) (with_terminals a.0) at there a.2
+      (subst (λ ts. AreRefused (length text) (with_terminals ts) there) (one b.0 a.0 b.1 a.1) b.2)
 
   pub not_both : OneList → (a : List CallDecl) (at : ℕ) → StandsFor text from a → RefusedAt text from at → ⊥
   not_both one a at h r =
-      not_refused (length text) (with_terminals h.0) a at h.2 (subst (λ ts. AreRefused (length text) (with_terminals ts) at) (one r.0 h.0 r.1 h.1) r.2)
+      not_refused (length text) (with_terminals h.0) a at h.2
+      (subst (λ ts. AreRefused (length text) (with_terminals ts) at) (one r.0 h.0 r.1 h.1) r.2)
 
 -- ---- what is answered for a part
 
 module _ (text : List ℕ) (from : ℕ) (found : List lexed.Token) (has : HasTokensFrom text from found)
-    (one : (other : List lexed.Token) → HasTokensFrom text from other → found ≡ other) (none : (fault : LexErr) → HasRefusalFrom text from fault → ⊥) where
+    (one : (other : List lexed.Token) → HasTokensFrom text from other → found ≡ other)
+    (none : (fault : LexErr) → HasRefusalFrom text from fault → ⊥) where
   abbrev Told : Result (Vec CallDecl Global) ParseErr → Type 0
   Told r = Tells (length text) (with_terminals found) r
 

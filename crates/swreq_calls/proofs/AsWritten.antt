@@ -31,7 +31,8 @@ either_onward : {A : Type 0} (g h i : Line A) → Onward g h → Onward (alterna
 either_onward g h i k ts v (inl m) = inl (k ts v m)
 either_onward g h i k ts v (inr m) = inr m
 
-parts_onward : {A : Type 0} (g h : Line A) → Onward g h → (vs : List A) (ts : Tokens) → Parts (Matches number g) ts vs → Parts (Matches number h) ts vs
+parts_onward : {A : Type 0} (g h : Line A) → Onward g h → (vs : List A) (ts : Tokens) → Parts (Matches number g) ts vs
+    → Parts (Matches number h) ts vs
 parts_onward g h k [] ts e = e
 parts_onward g h k (v ∷ vs) ts (first, rest, s, m, ms) = (first, rest, s, k first v m, parts_onward g h k vs rest ms)
 
@@ -44,9 +45,11 @@ mapped_same : {A B : Type 0} (f : A → B) {g h : Line A} → SameTexts g h → 
 mapped_same f {g} {h} a = record { onward = mapped_onward f g h a.onward; back = mapped_onward f h g a.back }
 
 sequence_same : {A B : Type 0} {g h : Line A} {i j : Line B} → SameTexts g h → SameTexts i j → SameTexts (sequence g i) (sequence h j)
-sequence_same {g = g} {h = h} {i = i} {j = j} a b = record { onward = sequence_onward g h i j a.onward b.onward; back = sequence_onward h g j i a.back b.back }
+sequence_same {g = g} {h = h} {i = i} {j = j} a b =
+    record { onward = sequence_onward g h i j a.onward b.onward; back = sequence_onward h g j i a.back b.back }
 
-repetition_same : {A : Type 0} (limit : Limit (Unit {0})) {g h : Line A} → SameTexts g h → SameTexts (repetition limit g) (repetition limit h)
+repetition_same : {A : Type 0} (limit : Limit (Unit {0})) {g h : Line A} → SameTexts g h
+    → SameTexts (repetition limit g) (repetition limit h)
 repetition_same limit {g} {h} a = record { onward = repetition_onward limit g h a.onward; back = repetition_onward limit h g a.back }
 
 after_same : {A B : Type 0} (a : Line A) {g h : Line B} → SameTexts g h → SameTexts (after a g) (after a h)
@@ -56,7 +59,8 @@ before_same : {A B : Type 0} {g h : Line A} (s : Line B) → SameTexts g h → S
 before_same s e = mapped_same (λ p. p.0) (sequence_same e (same s))
 
 or_else_same : {A : Type 0} (default : A) {g h : Line A} → SameTexts g h → SameTexts (or_else default g) (or_else default h)
-or_else_same default {g} {h} e = record { onward = either_onward g h (empty default) e.onward; back = either_onward h g (empty default) e.back }
+or_else_same default {g} {h} e =
+    record { onward = either_onward g h (empty default) e.onward; back = either_onward h g (empty default) e.back }
 
 separated_same : {A : Type 0} {g h : Line A} → SameTexts g h → SameTexts (separated g) (separated h)
 separated_same e = mapped_same (λ p. p.0 ∷ p.1) (sequence_same e (repetition_same unlimited (after_same (mark Comma) e)))
@@ -70,7 +74,8 @@ factored {A} {B} a g h = record { onward = to; back = from }
     to ts v (w, (first, rest, s, m, inl n), e) = inr (w, (first, rest, s, m, n), e)
     to ts v (w, (first, rest, s, m, inr n), e) = inl (w, (first, rest, s, m, n), e)
 
-    from : (ts : Tokens) (v : B) → Matches number (alternative (after a h) (after a g)) ts v → Matches number (after a (alternative g h)) ts v
+    from : (ts : Tokens) (v : B) → Matches number (alternative (after a h) (after a g)) ts v
+        → Matches number (after a (alternative g h)) ts v
     from ts v (inl (w, (first, rest, s, m, n), e)) = (w, (first, rest, s, m, inr n), e)
     from ts v (inr (w, (first, rest, s, m, n), e)) = (w, (first, rest, s, m, inl n), e)
 

@@ -27,7 +27,8 @@ qtype = mapped type_decl (sequence name (repetition (at_most 1000 tt) qstep))
 -- call = sname ":" sname "(" (qtype ("," qtype)*)? ")"
 abbrev pub call : Line CallDecl
 call = mapped call_decl
-    (sequence sname (after (mark Colon) (sequence sname (after (mark OpenParenthesis) (before (or_else [] (separated qtype)) (mark CloseParenthesis))))))
+    (sequence sname
+    (after (mark Colon) (sequence sname (after (mark OpenParenthesis) (before (or_else [] (separated qtype)) (mark CloseParenthesis))))))
 
 -- calls = (call ";"?)*
 abbrev pub calls : Line (List CallDecl)

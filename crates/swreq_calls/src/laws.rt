@@ -16,7 +16,8 @@ use swreq_lex::laws::one_reading_from;
 /// At most one list of calls stands for a part of a text.
 pub fn one_list_of_calls(text: &[u8], from: u32)
     requires { from ≤ length text.now }
-    ensures { (a b : List CallDecl) → StandsFor text.now from a → StandsFor text.now from b → a ≡ b }
+    ensures { (a b : List CallDecl) → StandsFor text.now from a
+        → StandsFor text.now from b → a ≡ b }
 {
     one_reading_from(text, from);
 }
@@ -25,9 +26,12 @@ pub fn one_list_of_calls(text: &[u8], from: u32)
 pub fn one_verdict(text: &[u8], from: u32)
     requires { from ≤ length text.now }
     ensures some { (ts : List lexed.Token) → HasTokensFrom text.now from ts
-        → ((a : List CallDecl) × StandsFor text.now from a) ⊎ ((at : ℕ) × RefusedAt text.now from at) }
-    ensures one { (at place : ℕ) → RefusedAt text.now from at → RefusedAt text.now from place → at ≡ place }
-    ensures never_both { (a : List CallDecl) (at : ℕ) → StandsFor text.now from a → ¬ (RefusedAt text.now from at) }
+        → ((a : List CallDecl) × StandsFor text.now from a)
+        ⊎ ((at : ℕ) × RefusedAt text.now from at) }
+    ensures one { (at place : ℕ) → RefusedAt text.now from at
+        → RefusedAt text.now from place → at ≡ place }
+    ensures never_both { (a : List CallDecl) (at : ℕ) → StandsFor text.now from a
+        → ¬ (RefusedAt text.now from at) }
 {
     one_reading_from(text, from);
 }
@@ -36,7 +40,8 @@ pub fn one_verdict(text: &[u8], from: u32)
 /// stands in a call.
 pub fn marks_are_spelled()
     ensures marks { map spelling marks ≡ map if_in_calls (take (length marks) spellings) }
-    ensures later { map if_in_calls (drop (length marks) spellings) ≡ map (λ _. None) (drop (length marks) spellings) }
+    ensures later { map if_in_calls (drop (length marks) spellings)
+        ≡ map (λ _. None) (drop (length marks) spellings) }
 {}
 
 /// The calls have the texts and values that they have by the lines of their grammar as they are written.

@@ -55,7 +55,8 @@ module _ (m : Symbols) (f : TermFacts) (ps : List ParamId) (list : List TermRequ
   module _ (reads : (t : Term) (x : Symbol) → Dec (CanRead m f L t x)) where
     -- of the member symbols of a name that are read after r, the least
     least_symbol : (r : Term) (a : NameId) (j : ℕ) → CanRead m f L r (MemberSymbol j) → name_of m j ≡ a
-        → (k : ℕ) × CanRead m f L r (MemberSymbol k) × (name_of m k ≡ a) × ((i : ℕ) → i < k → CanRead m f L r (MemberSymbol i) → name_of m i ≡ a → ⊥)
+        → (k : ℕ) × CanRead m f L r (MemberSymbol k) × (name_of m k ≡ a)
+        × ((i : ℕ) → i < k → CanRead m f L r (MemberSymbol i) → name_of m i ≡ a → ⊥)
     least_symbol r a j c e = elim (least_below (λ i. CanRead m f L r (MemberSymbol i) × (name_of m i ≡ a))
         (λ i. both_decided (reads r (MemberSymbol i)) (names_decided (name_of m i) a)) (suc j)) [
           | inl (k, h, q, l) ↦ (k, q.0, q.1, λ i g x y. l i g (x, y))
@@ -63,7 +64,8 @@ module _ (m : Symbols) (f : TermFacts) (ps : List ParamId) (list : List TermRequ
         ]
 
     -- with the first associated type of its name
-    with_first : (r z : Term) (p : ProtoId) (a : NameId) (d : AssocId) → Declares f p a d → Derivable f L (Requires (Conforms r p)) → IsReduced f L r → IsFirstFor f L r a d
+    with_first : (r z : Term) (p : ProtoId) (a : NameId) (d : AssocId) → Declares f p a d → Derivable f L (Requires (Conforms r p))
+        → IsReduced f L r → IsFirstFor f L r a d
         → IsCanonical f L (Equals z (Member r (Bound d))) → Settled (Equals z (Member r (Bound d)))
     with_first r z p a d h c b i can =
         let w = text.symbols p a d h in
@@ -75,7 +77,8 @@ module _ (m : Symbols) (f : TermFacts) (ps : List ParamId) (list : List TermRequ
         (λ j g x y. none j g x (y ∙ e)) u hu lu named cuts (not_itself can.1.2 can.1.1)
 
     -- with another one: it follows from the conformances, and where the first one is not reduced from its same-type requirement
-    with_another : (r z : Term) (p : ProtoId) (a : NameId) (d g : AssocId) → Declares f p a d → Derivable f L (Requires (Conforms r p)) → IsReduced f L r → IsFirstFor f L r a g
+    with_another : (r z : Term) (p : ProtoId) (a : NameId) (d g : AssocId) → Declares f p a d → Derivable f L (Requires (Conforms r p))
+        → IsReduced f L r → IsFirstFor f L r a g
         → (g ≡ d → ⊥) → IsCanonical f L (Equals z (Member r (Bound d)))
         → Follows f ps (IsOfEarlierType f ps list (Member r (Bound d))) (Requires (Equals z (Member r (Bound d))))
     with_another r z p a d g h c b i differ can =
@@ -85,14 +88,17 @@ module _ (m : Symbols) (f : TermFacts) (ps : List ParamId) (list : List TermRequ
         let before : TermBefore (Member r (Bound g)) (Member r (Bound d)) = inr (refl, inr (refl, lt)) in
         let S : TermRequirement → Type 0 = IsOfEarlierType f ps list (Member r (Bound d)) in
         let conforms : (o : ProtoId) → Derivable f L (Requires (Conforms r o)) → Follows f ps S (Requires (Conforms r o))
-        = λ o y. shorter_is_earlier f ps list (Member r (Bound d)) (member_count r + 1) (omega arith) (conformance m f ps list (member_count r + 1) r o b y (omega arith)) in
+        = λ o y. shorter_is_earlier f ps list (Member r (Bound d)) (member_count r + 1) (omega arith)
+        (conformance m f ps list (member_count r + 1) r o b y (omega arith)) in
         let to : Follows f ps S (Requires (Equals (Member r (Bound d)) (Member r (Bound g))))
         = by_two f ps S (conforms p c) (conforms i.proto i.conforms) (λ rs x y. trans (assoc_bind x h) (symm (assoc_bind y i.declares))) in
-        let equal : Derivable f L (Requires (Equals (Member r (Bound d)) (Member r (Bound g)))) = trans (assoc_bind c h) (symm (assoc_bind i.conforms i.declares)) in
+        let equal : Derivable f L (Requires (Equals (Member r (Bound d)) (Member r (Bound g)))) =
+        trans (assoc_bind c h) (symm (assoc_bind i.conforms i.declares)) in
         let (y, yo) = reduce m f ps list text least firsts (Member r (Bound g)) (assoc_decl i.conforms i.declares) in
         let yz : y ≡ z = one_reduced m f ps list text (Member r (Bound g)) (Member r (Bound d)) y z yo can.1.2 (symm equal) in
         let last : Follows f ps S (Requires (Equals (Member r (Bound g)) y))
-        = principal_follows f ps list S (Member r (Bound g)) y (λ x j. (j.0, transitive (principal x) (Member r (Bound g)) (Member r (Bound d)) j.1 before)) (λ j. (j, before)) yo b
+        = principal_follows f ps list S (Member r (Bound g)) y
+        (λ x j. (j.0, transitive (principal x) (Member r (Bound g)) (Member r (Bound d)) j.1 before)) (λ j. (j, before)) yo b
         (by_one f ps S (conforms i.proto i.conforms) (λ rs x. assoc_decl x i.declares)) in
         by_two f ps S to (subst (λ x. Follows f ps S (Requires (Equals (Member r (Bound g)) x))) yz last) (λ rs x y. symm (trans x y))
 
@@ -124,7 +130,8 @@ module _ (m : Symbols) (f : TermFacts) (ps : List ParamId) (list : List TermRequ
         ]
     same_type_settled z (Member r (Name a)) can = absurd can.1.0
 
-    pub settled : (r : TermRequirement) → IsCanonical f L r → IsCandidate m f L r ⊎ Follows f ps (IsOfEarlierType f ps list (principal r)) (Requires r)
+    pub settled : (r : TermRequirement) → IsCanonical f L r
+        → IsCandidate m f L r ⊎ Follows f ps (IsOfEarlierType f ps list (principal r)) (Requires r)
     settled (Conforms t p) c = conformance_settled m f ps list text named cuts least firsts t p c.1 c.0
     settled (IsAnyObject t) c = layout_settled m f ps list text named cuts least firsts t c.1 c.0
     settled (Equals z v) c = same_type_settled z v c

@@ -46,17 +46,21 @@ module _ (m : Symbols) (f : TermFacts) (s : Source) (fit : AreSymbolsOf m f) whe
 
   -- each of two words is cut as the other is, with congruent blocks
   abbrev BothWays : Place → Word → Word → Type 0
-  BothWays o u v = ((k : Cut m f s o u) → HasCut m f s o v (current k) (blocks k)) × ((k : Cut m f s o v) → HasCut m f s o u (current k) (blocks k))
+  BothWays o u v =
+      ((k : Cut m f s o u) → HasCut m f s o v (current k) (blocks k)) × ((k : Cut m f s o v) → HasCut m f s o u (current k) (blocks k))
 
   -- ---- the equations of a protocol
 
   -- `[P]` is read after a type that conforms to P, or opens a block
   at_proto : (p : ProtoId) (u v : Word)
-      → ((b : Source) (t : Term) → Derivable f b (IsValid t) → Derivable f b (Requires (Conforms t p)) → Changes m f s b (ProtoSymbol p.rank) t u (ProtoSymbol p.rank) t v)
-      → (o : Place) → IsValidPlace o → (k : Cut m f s o (ProtoSymbol p.rank ∷ u)) → HasCut m f s o (ProtoSymbol p.rank ∷ v) (current k) (blocks k)
+      → ((b : Source) (t : Term) → Derivable f b (IsValid t) → Derivable f b (Requires (Conforms t p))
+      → Changes m f s b (ProtoSymbol p.rank) t u (ProtoSymbol p.rank) t v)
+      → (o : Place) → IsValidPlace o → (k : Cut m f s o (ProtoSymbol p.rank ∷ u))
+      → HasCut m f s o (ProtoSymbol p.rank ∷ v) (current k) (blocks k)
   unfolding IsValidPlace
   at_proto p u v changes (Inside b t) valid (on c r) = let (k, h, q) = changes b t valid c r in (on c k, h, q)
-  at_proto p u v changes o valid (opened n c r) = let (k, h, q) = changes (SelfOf p) self (generic refl) (self_conforms m f p fit) r in (opened n c k, done, (h, q))
+  at_proto p u v changes o valid (opened n c r) =
+      let (k, h, q) = changes (SelfOf p) self (generic refl) (self_conforms m f p fit) r in (opened n c k, done, (h, q))
   at_proto p u v changes o valid (alone n c r) = absurd (c refl)
 
   -- what is valid from [τ_0_0 : P] is read after a type that conforms to P, as an equal type
@@ -69,7 +73,8 @@ module _ (m : Symbols) (f : TermFacts) (s : Source) (fit : AreSymbolsOf m f) whe
 
   -- `[P]·u·z = [P]·u`, where z is a protocol or the layout
   of_symbol : (p : ProtoId) (u : Term) (z : Symbol) → ((t : Term) → after m t z ≡ t)
-      → ((b : Source) (t : Term) → Derivable f b (IsValid t) → Derivable f b (Requires (Conforms t p)) → AreStepsRead m f s b t u × CanRead m f b (unbound m t u) z)
+      → ((b : Source) (t : Term) → Derivable f b (IsValid t) → Derivable f b (Requires (Conforms t p))
+      → AreStepsRead m f s b t u × CanRead m f b (unbound m t u) z)
       → ((y : Word) → Link E (ProtoSymbol p.rank ∷ steps m u (z ∷ y)) (ProtoSymbol p.rank ∷ steps m u y))
       → (y : Word) (o : Place) → IsValidPlace o → BothWays o (spell m (SelfOf p) u (z ∷ []) ++ y) (spell m (SelfOf p) u [] ++ y)
   of_symbol p u z stays reads link y o v =
@@ -80,7 +85,8 @@ module _ (m : Symbols) (f : TermFacts) (s : Source) (fit : AreSymbolsOf m f) whe
             appears m f s b (ProtoSymbol p.rank) z t u y h (stays (unbound m t u)) r (λ x. at_once (turn (link x)))) o v,
       )
 
-  of_requirement : (p : ProtoId) (r : TermRequirement) → Contains (f.of_protocol p) r → HasValidSides f (SelfOf p) r → (y : Word) (o : Place) → IsValidPlace o
+  of_requirement : (p : ProtoId) (r : TermRequirement) → Contains (f.of_protocol p) r → HasValidSides f (SelfOf p) r
+      → (y : Word) (o : Place) → IsValidPlace o
       → BothWays o (left_side m (SelfOf p) r ++ y) (right_side m (SelfOf p) r ++ y)
   of_requirement p (Conforms u q) h w y o valid =
       of_symbol p u (ProtoSymbol q.rank) (λ t. refl)
@@ -93,13 +99,16 @@ module _ (m : Symbols) (f : TermFacts) (s : Source) (fit : AreSymbolsOf m f) whe
   of_requirement p (Equals u v) h (i, j) y o valid =
       let link : (x : Word) → Link E (ProtoSymbol p.rank ∷ steps m u x) (ProtoSymbol p.rank ∷ steps m v x)
       = λ x. same_link (SelfOf p) u v x (of_protocol p (Equals u v) (h, (i, j))) in
-      let equal : (b : Source) (t : Term) → Derivable f b (IsValid t) → Derivable f b (Requires (Conforms t p)) → Derivable f b (Requires (Equals (unbound m t u) (unbound m t v)))
+      let equal : (b : Source) (t : Term) → Derivable f b (IsValid t) → Derivable f b (Requires (Conforms t p))
+      → Derivable f b (Requires (Equals (unbound m t u) (unbound m t v)))
       = λ b t w c. trans (symm (read_behind p b t w c u i)) (trans (assoc_same c h (λ _. i) (λ _. j)) (read_behind p b t w c v j)) in
       subst₂ (BothWays o) (sym (spell-append m (SelfOf p) u [] y)) (sym (spell-append m (SelfOf p) v [] y)) (
         at_proto p (steps m u y) (steps m v y) (λ b t w c.
-            equal_steps m f s b (ProtoSymbol p.rank) (ProtoSymbol p.rank) t t u v y (steps_behind p b t w c u i) (steps_behind p b t w c v j) (equal b t w c) (λ x. at_once (link x))) o valid,
+            equal_steps m f s b (ProtoSymbol p.rank) (ProtoSymbol p.rank) t t u v y (steps_behind p b t w c u i)
+            (steps_behind p b t w c v j) (equal b t w c) (λ x. at_once (link x))) o valid,
         at_proto p (steps m v y) (steps m u y) (λ b t w c.
-            equal_steps m f s b (ProtoSymbol p.rank) (ProtoSymbol p.rank) t t v u y (steps_behind p b t w c v j) (steps_behind p b t w c u i) (symm (equal b t w c)) (λ x. at_once (turn (link x)))) o valid,
+            equal_steps m f s b (ProtoSymbol p.rank) (ProtoSymbol p.rank) t t v u y (steps_behind p b t w c v j)
+            (steps_behind p b t w c u i) (symm (equal b t w c)) (λ x. at_once (turn (link x)))) o valid,
       )
 
   -- ---- the basic equations
@@ -109,9 +118,11 @@ module _ (m : Symbols) (f : TermFacts) (s : Source) (fit : AreSymbolsOf m f) whe
       → (o : Place) → IsValidPlace o → BothWays o (ProtoSymbol p.rank ∷ ProtoSymbol p.rank ∷ y) (ProtoSymbol p.rank ∷ y)
   doubled p y link o v = (
     at_proto p (ProtoSymbol p.rank ∷ y) y (λ b t w c.
-        vanishes m f s b (ProtoSymbol p.rank) (ProtoSymbol p.rank) t self y (no_steps_read m f s b t self refl) refl c (λ z. at_once (link z))) o v,
+        vanishes m f s b (ProtoSymbol p.rank) (ProtoSymbol p.rank) t self y (no_steps_read m f s b t self refl) refl c
+        (λ z. at_once (link z))) o v,
     at_proto p y (ProtoSymbol p.rank ∷ y) (λ b t w c.
-        appears m f s b (ProtoSymbol p.rank) (ProtoSymbol p.rank) t self y (no_steps_read m f s b t self refl) refl c (λ z. at_once (turn (link z)))) o v,
+        appears m f s b (ProtoSymbol p.rank) (ProtoSymbol p.rank) t self y (no_steps_read m f s b t self refl) refl c
+        (λ z. at_once (turn (link z)))) o v,
   )
 
   -- `[P]·A = [P:A]`
@@ -165,7 +176,8 @@ module _ (m : Symbols) (f : TermFacts) (s : Source) (fit : AreSymbolsOf m f) whe
   -- ---- links, where the equations of the source's own members leave the blocks
 
   abbrev OwnLeaveBlocks : Type 0
-  OwnLeaveBlocks = (r : TermRequirement) → Gives (UsableIn f s) s r → (y : Word) (o : Place) → BothWays o (left_side m s r ++ y) (right_side m s r ++ y)
+  OwnLeaveBlocks =
+      (r : TermRequirement) → Gives (UsableIn f s) s r → (y : Word) (o : Place) → BothWays o (left_side m s r ++ y) (right_side m s r ++ y)
 
   module _ (named : AreMembersNamed m f) (own_leave : OwnLeaveBlocks) where
     at_equation : {l r : Word} → E l r → (y : Word) (o : Place) → IsValidPlace o → BothWays o (l ++ y) (r ++ y)
@@ -181,7 +193,8 @@ module _ (m : Symbols) (f : TermFacts) (s : Source) (fit : AreSymbolsOf m f) whe
     at_link (there x l) (Inside b t) v (on c r) =
         let (k, h, q) = at_link l (Inside b (after m t x)) (valid_after m f b t x v c) r in (on c k, chain_before (x ∷ []) h, q)
     at_link (there x l) o v (opened n c r) =
-        let (k, h, q) = at_link l (Inside (over m s x) (first m x)) (valid_first m f (over m s x) x c) r in (opened n c k, done, (chain_before (x ∷ []) h, q))
+        let (k, h, q) = at_link l (Inside (over m s x) (first m x)) (valid_first m f (over m s x) x c) r in
+        (opened n c k, done, (chain_before (x ∷ []) h, q))
     at_link (there x l) o v (alone n c r) = let (k, h, q) = at_link l Outside tt r in (alone n c k, done, (done, q))
 
 -- ---- over a list
@@ -206,7 +219,8 @@ module _ (m : Symbols) (f : TermFacts) (ps : List ParamId) (list : List TermRequ
   -- a generic parameter of the list opens a block
   at_param : (g h : ParamId) (u v : Word) → Contains ps g → Contains ps h
       → Changes m f L L (ParamSymbol g.depth g.index) (Generic g) u (ParamSymbol h.depth h.index) (Generic h) v
-      → (o : Place) → (k : Cut m f L o (ParamSymbol g.depth g.index ∷ u)) → HasCut m f L o (ParamSymbol h.depth h.index ∷ v) (current k) (blocks k)
+      → (o : Place) → (k : Cut m f L o (ParamSymbol g.depth g.index ∷ u))
+      → HasCut m f L o (ParamSymbol h.depth h.index ∷ v) (current k) (blocks k)
   at_param g h u v i j changes (Inside b t) (on c r) = absurd c
   at_param g h u v i j changes o (opened n c r) = let (k, e, q) = changes r in (opened (not_inside o h) j k, done, (e, q))
   at_param g h u v i j changes o (alone n c r) = absurd (c i)
@@ -216,7 +230,8 @@ module _ (m : Symbols) (f : TermFacts) (ps : List ParamId) (list : List TermRequ
 
   -- `u·z = u`, where z is a protocol or the layout
   own_symbol : (u : Term) (z : Symbol) → ((t : Term) → after m t z ≡ t) → Derivable f L (IsValid u) → CanRead m f L (read m f fit L u) z
-      → ((y : Word) → Link Owned (spell m L u (z ∷ y)) (spell m L u y)) → (y : Word) (o : Place) → BothWays m f L fit o (spell m L u (z ∷ []) ++ y) (spell m L u [] ++ y)
+      → ((y : Word) → Link Owned (spell m L u (z ∷ y)) (spell m L u y)) → (y : Word) (o : Place)
+      → BothWays m f L fit o (spell m L u (z ∷ []) ++ y) (spell m L u [] ++ y)
   own_symbol u z stays w c link y o =
       subst₂ (BothWays m f L fit o) (sym (spell-append m L u (z ∷ []) y)) (sym (spell-append m L u [] y)) (
         at_param (head u) (head u) (steps m u (z ∷ y)) (steps m u y) (root_param u w) (root_param u w)
@@ -238,9 +253,11 @@ module _ (m : Symbols) (f : TermFacts) (ps : List ParamId) (list : List TermRequ
       = trans (symm (own m f fit L u i).0) (trans (same h (λ _. i) (λ _. j)) (own m f fit L v j).0) in
       subst₂ (BothWays m f L fit o) (sym (spell-append m L u [] y)) (sym (spell-append m L v [] y)) (
         at_param (head u) (head v) (steps m u y) (steps m v y) (root_param u i) (root_param v j)
-            (equal_steps m f L L (param u) (param v) (root u) (root v) u v y (own_steps u i) (own_steps v j) equal (λ x. at_once (link x))) o,
+            (equal_steps m f L L (param u) (param v) (root u) (root v) u v y (own_steps u i) (own_steps v j) equal
+            (λ x. at_once (link x))) o,
         at_param (head v) (head u) (steps m v y) (steps m u y) (root_param v j) (root_param u i)
-            (equal_steps m f L L (param v) (param u) (root v) (root u) v u y (own_steps v j) (own_steps u i) (symm equal) (λ x. at_once (turn (link x)))) o,
+            (equal_steps m f L L (param v) (param u) (root v) (root u) v u y (own_steps v j) (own_steps u i) (symm equal)
+            (λ x. at_once (turn (link x)))) o,
       )
 
   -- Along a chain the number of blocks stays, and each block is congruent to the one at its place.
@@ -253,7 +270,8 @@ module _ (m : Symbols) (f : TermFacts) (ps : List ParamId) (list : List TermRequ
       let (j, q) = blocks_law named c i in
       (j, all_joined (blocks k) (blocks i) (blocks j) p q)
     where
-      all_joined : (us vs ws : List Word) → AllZip (AreCongruent m f L) us vs → AllZip (AreCongruent m f L) vs ws → AllZip (AreCongruent m f L) us ws
+      all_joined : (us vs ws : List Word) → AllZip (AreCongruent m f L) us vs → AllZip (AreCongruent m f L) vs ws
+          → AllZip (AreCongruent m f L) us ws
       all_joined [] [] [] p q = tt
       all_joined [] [] (w ∷ ws) p q = absurd q
       all_joined [] (v ∷ vs) ws p q = absurd p

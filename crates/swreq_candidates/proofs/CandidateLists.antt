@@ -100,7 +100,8 @@ module _ (m : Symbols) (f : TermFacts) (ps : List ParamId) (list : List TermRequ
 
   type_decided : (w : Word) → IsLeast C w → Dec (HasValidType w)
   type_decided w l = elim (reading_decided w) [
-    | yes h ↦ (let (t, i, e) = has_type m f ps list ended.symbols ended.of_text ended.in_text ended.ranked (firsts_here m f ps list ended) w h l in
+    | yes h ↦ (let (t, i, e) =
+        has_type m f ps list ended.symbols ended.of_text ended.in_text ended.ranked (firsts_here m f ps list ended) w h l in
         yes (t, i, (sides_of e).1))
     | no n ↦ no (λ h. let (t, i, v) = h in n (typed_read m f ps list (over_text m f ps list ended) t w v i).0)
   ]
@@ -110,10 +111,12 @@ module _ (m : Symbols) (f : TermFacts) (ps : List ParamId) (list : List TermRequ
   Speaks l = (v : Term) × Derivable f L (IsValid v) × SpeaksOf m f L v l
 
   -- the last symbol is neither a generic parameter nor of a name
-  no_speech : (u : Word) (x : Symbol) → ((g : ParamId) → x ≡ ParamSymbol g.depth g.index → ⊥) → ((a : NameId) → IsNamed m x a → ⊥) → Speaks (u ++ (x ∷ [])) → ⊥
+  no_speech : (u : Word) (x : Symbol) → ((g : ParamId) → x ≡ ParamSymbol g.depth g.index → ⊥) → ((a : NameId) → IsNamed m x a → ⊥)
+      → Speaks (u ++ (x ∷ [])) → ⊥
   no_speech u x no_param no_name (Generic g, v, e) = no_param g (same_from_push u [] x (ParamSymbol g.depth g.index) e).1
   no_speech u x no_param no_name (Member t (Name a), v, e) = e
-  no_speech u x no_param no_name (Member t (Bound d), v, (w, y, a, e, h, o, i)) = no_name a (subst (λ z. IsNamed m z a) (sym (same_from_push u w x y e).1) o)
+  no_speech u x no_param no_name (Member t (Bound d), v, (w, y, a, e, h, o, i)) =
+      no_name a (subst (λ z. IsNamed m z a) (sym (same_from_push u w x y e).1) o)
 
   -- a generic parameter
   param_spoken : (u : Word) (d i : ℕ) → Speaks (u ++ (ParamSymbol d i ∷ [])) → (u ≡ []) × Contains ps (record { depth = d; index = i })
@@ -153,7 +156,8 @@ module _ (m : Symbols) (f : TermFacts) (ps : List ParamId) (list : List TermRequ
     | no n ↦ no (λ h. let (t, i, v, k) = named_spoken u x a o h in n (t, i, v))
     | yes (t, h, v) ↦ elim (has_name m f L ended.symbols ended.of_text ended.in_text ended.of_list t a) [
       | no n ↦ no (λ s. let (z, i, w, k) = named_spoken u x a o s in n (subst (λ y. HasName f L y a) (one_type m f L z t u i h) k))
-      | yes k ↦ (let (d, i) = firsts_here m f ps list ended t a k in yes (Member t (Bound d), assoc_decl i.conforms i.declares, (u, x, a, refl, h, o, i)))
+      | yes k ↦ (let (d, i) = firsts_here m f ps list ended t a k in
+          yes (Member t (Bound d), assoc_decl i.conforms i.declares, (u, x, a, refl, h, o, i)))
     ]
   ]
 
@@ -192,10 +196,14 @@ module _ (m : Symbols) (f : TermFacts) (ps : List ParamId) (list : List TermRequ
     | yes e ↦ yes (record { rank = p }, ap (λ w. w ++ (ProtoSymbol p ∷ [])) e)
     | no n ↦ no (λ h. n (same_from_push u r (ProtoSymbol p) (ProtoSymbol h.0.rank) h.1).0)
   ]
-  proto_by_symbol u r (MemberSymbol k) = no (λ h. no_proto (MemberSymbol k) (λ q e. cc) (same_from_push u r (MemberSymbol k) (ProtoSymbol h.0.rank) h.1).1)
-  proto_by_symbol u r (ParamSymbol d i) = no (λ h. no_proto (ParamSymbol d i) (λ q e. cc) (same_from_push u r (ParamSymbol d i) (ProtoSymbol h.0.rank) h.1).1)
-  proto_by_symbol u r (NameSymbol a) = no (λ h. no_proto (NameSymbol a) (λ q e. cc) (same_from_push u r (NameSymbol a) (ProtoSymbol h.0.rank) h.1).1)
-  proto_by_symbol u r LayoutSymbol = no (λ h. no_proto LayoutSymbol (λ q e. cc) (same_from_push u r LayoutSymbol (ProtoSymbol h.0.rank) h.1).1)
+  proto_by_symbol u r (MemberSymbol k) =
+      no (λ h. no_proto (MemberSymbol k) (λ q e. cc) (same_from_push u r (MemberSymbol k) (ProtoSymbol h.0.rank) h.1).1)
+  proto_by_symbol u r (ParamSymbol d i) =
+      no (λ h. no_proto (ParamSymbol d i) (λ q e. cc) (same_from_push u r (ParamSymbol d i) (ProtoSymbol h.0.rank) h.1).1)
+  proto_by_symbol u r (NameSymbol a) =
+      no (λ h. no_proto (NameSymbol a) (λ q e. cc) (same_from_push u r (NameSymbol a) (ProtoSymbol h.0.rank) h.1).1)
+  proto_by_symbol u r LayoutSymbol =
+      no (λ h. no_proto LayoutSymbol (λ q e. cc) (same_from_push u r LayoutSymbol (ProtoSymbol h.0.rank) h.1).1)
 
   proto_decided : (l r : Word) → Dec (EndsInProto l r)
   proto_decided l r = elim (by_last l) [
@@ -209,7 +217,8 @@ module _ (m : Symbols) (f : TermFacts) (ps : List ParamId) (list : List TermRequ
   right_typed l r (Equals u v) (vu, vv, differ, h, s) = (u, h, vu)
 
   none_read_off : (l r : Word) → (EndsInProto l r → ⊥) → (l ≡ r ++ (LayoutSymbol ∷ []) → ⊥)
-      → ((u v : Term) → (u ≡ v → ⊥) → IsTypeOf m f L r u → Derivable f L (IsValid v) → SpeaksOf m f L v l → ⊥) → (q : TermRequirement) → IsReadOff m f L l r q → ⊥
+      → ((u v : Term) → (u ≡ v → ⊥) → IsTypeOf m f L r u → Derivable f L (IsValid v) → SpeaksOf m f L v l → ⊥) → (q : TermRequirement)
+      → IsReadOff m f L l r q → ⊥
   none_read_off l r no_p no_l no_s (Conforms t p) (v, h, e) = no_p (p, e)
   none_read_off l r no_p no_l no_s (IsAnyObject t) (v, h, e) = no_l e
   none_read_off l r no_p no_l no_s (Equals u v) (vu, vv, differ, h, s) = no_s u v differ h vv s
@@ -270,12 +279,14 @@ module _ (m : Symbols) (f : TermFacts) (ps : List ParamId) (list : List TermRequ
         )
       ]
 
-  pub some_candidates : (rules : List Rule) → IsReducedSystem C rules → (candidates : List TermRequirement) × IsCandidateList m f L candidates
+  pub some_candidates : (rules : List Rule) → IsReducedSystem C rules
+      → (candidates : List TermRequirement) × IsCandidateList m f L candidates
   some_candidates rules system =
       let (qs, all) = collected rules (λ rule h. let (k, e) = contains_get rules rule h in system.each k rule e) in
       let here : (q : TermRequirement) → Contains qs q ↔ IsCandidate m f L q
       = λ q. (
-        (λ h. let (rule, i, o) = (all q).0 h in let (k, e) = contains_get rules rule i in (off_rules m f L rules system q).1 (k, rule, e, o)),
+        (λ h.
+            let (rule, i, o) = (all q).0 h in let (k, e) = contains_get rules rule i in (off_rules m f L rules system q).1 (k, rule, e, o)),
         λ h. let (k, rule, e, o) = (off_rules m f L rules system q).0 h in (all q).1 (rule, get_contains rules k rule e, o),
       ) in
       let (out, sorted, same) = some_sorted f L qs (λ q h. canonical_here m f ps list ended q ((here q).0 h)) in

@@ -88,7 +88,8 @@ module _ (m : Symbols) (f : TermFacts) (ps : List ParamId) (list : List TermRequ
   known_over LayoutSymbol h = (refl, refl)
 
   -- a symbol that doesn't go on with the block
-  cut_before : (x : Symbol) (u : Word) → IsSymbolOfText m x → (o : Place) → (GoesOn m f o x → ⊥) → ((z : Place) → IsKnownPlace z → Cut m f L z u) → Cut m f L o (x ∷ u)
+  cut_before : (x : Symbol) (u : Word) → IsSymbolOfText m x → (o : Place) → (GoesOn m f o x → ⊥)
+      → ((z : Place) → IsKnownPlace z → Cut m f L z u) → Cut m f L o (x ∷ u)
   unfolding IsKnownPlace
   cut_before x u i o n rest = elim (opens x) [
     | yes c ↦ opened n c (rest (Inside (over m L x) (first m x)) (known_over x i))
@@ -110,7 +111,8 @@ module _ (m : Symbols) (f : TermFacts) (ps : List ParamId) (list : List TermRequ
 
   -- ---- candidates
 
-  settled_here : (r : TermRequirement) → IsCanonical f L r → IsCandidate m f L r ⊎ Follows f ps (IsOfEarlierType f ps list (principal r)) (Requires r)
+  settled_here : (r : TermRequirement) → IsCanonical f L r
+      → IsCandidate m f L r ⊎ Follows f ps (IsOfEarlierType f ps list (principal r)) (Requires r)
   settled_here = settled m f ps list over_text ended.named cuts ended.of_list firsts_here reads_here
 
   pub generator_here : (r : TermRequirement) → IsGenerator f ps list r → IsCandidate m f L r
@@ -149,9 +151,12 @@ pub one_minimised : (m : Symbols) (f : TermFacts) (ps : List ParamId)
     → IsCompleted m f ps list → IsCandidateList m f (Written ps list) candidates → Takes f ps [] candidates taken
     → IsCompleted m f ps others → IsCandidateList m f (Written ps others) candidates_too → Takes f ps [] candidates_too taken_too
     → IsMinimised f ps list minimised → IsMinimised f ps others minimised_too → AreEquivalent f ps list others ↔ (minimised ≡ minimised_too)
-one_minimised m f ps list candidates taken minimised others candidates_too taken_too minimised_too ended all takes ended_too all_too takes_too h k = (
-  (λ same. same_minimised f ps list others minimised minimised_too same h k),
-  λ e. same_by_minimised f ps list others minimised (reduced_here m f ps list ended) (told_here m f ps list ended candidates taken all takes)
-      (reduced_here m f ps others ended_too) (told_here m f ps others ended_too candidates_too taken_too all_too takes_too) h
-      (subst (λ x. IsMinimised f ps others x) (sym e) k),
-)
+one_minimised m f ps list candidates taken minimised others candidates_too taken_too minimised_too ended all takes ended_too
+    all_too takes_too h k = (
+      (λ same. same_minimised f ps list others minimised minimised_too same h k),
+      λ e.
+          same_by_minimised f ps list others minimised (reduced_here m f ps list ended)
+          (told_here m f ps list ended candidates taken all takes)
+          (reduced_here m f ps others ended_too) (told_here m f ps others ended_too candidates_too taken_too all_too takes_too) h
+          (subst (λ x. IsMinimised f ps others x) (sym e) k),
+    )

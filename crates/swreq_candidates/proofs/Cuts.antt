@@ -50,13 +50,16 @@ chain_joined E [] (v ∷ vs) p = absurd p
 chain_joined E (u ∷ us) [] p = absurd p
 chain_joined E (u ∷ us) (v ∷ vs) (c, p) = joined (chain_after (joined_words us) c) (chain_before v (chain_joined E us vs p))
 
-module _ (m : Symbols) (f : TermFacts) (ps : List ParamId) (list : List TermRequirement) (fit : AreSymbolsOf m f) (named : AreMembersNamed m f) where
+module _ (m : Symbols) (f : TermFacts) (ps : List ParamId) (list : List TermRequirement) (fit : AreSymbolsOf m f)
+    (named : AreMembersNamed m f) where
   abbrev C : Word → Word → Type 0
   C = AreCongruent m f (Written ps list)
 
   pub congruent_by_blocks : (u v : Word) (k : Cut m f (Written ps list) Outside u) (l : Cut m f (Written ps list) Outside v)
       → C u v ↔ AllZip C (blocks k) (blocks l)
   congruent_by_blocks u v k l = (
-    (λ c. let z = blocks_law m f ps list fit named c k in subst (λ us. AllZip C (blocks k) us) (same_blocks m f (Written ps list) v z.0 l) z.1),
-    λ p. subst₂ C (whole_word m f (Written ps list) u k) (whole_word m f (Written ps list) v l) (chain_joined (UsableEquation m f (Written ps list)) (blocks k) (blocks l) p),
+    (λ c. let z = blocks_law m f ps list fit named c k in
+        subst (λ us. AllZip C (blocks k) us) (same_blocks m f (Written ps list) v z.0 l) z.1),
+    λ p. subst₂ C (whole_word m f (Written ps list) u k) (whole_word m f (Written ps list) v l)
+        (chain_joined (UsableEquation m f (Written ps list)) (blocks k) (blocks l) p),
   )

@@ -61,7 +61,8 @@ module _ (m : Symbols) (f : TermFacts) (p : ProtoId) (h : IsOfText m p) where
 
 -- ---- derivations from one source
 
-module _ (m : Symbols) (f : TermFacts) (s : Source) (fit : AreSymbolsOf m f) (ranges : AreOfText m f) (n : IsInText m s) (least : HasLeastWords (UsableEquation m f s)) where
+module _ (m : Symbols) (f : TermFacts) (s : Source) (fit : AreSymbolsOf m f) (ranges : AreOfText m f) (n : IsInText m s)
+    (least : HasLeastWords (UsableEquation m f s)) where
   congruent : (u v : Word) → Dec (Linking (UsableEquation m f s) u v)
   congruent = congruent_decided (UsableEquation m f s) least
 

@@ -42,7 +42,8 @@ module _ (E : Word → Word → Type 0) where
   -- the proper factors of y·u·x are least where y·u and u·x are
   pub factors_by_ends : (x y : Symbol) (u : Word) → Least (y ∷ u) → Least (u ++ (x ∷ [])) → EachFactor ((y ∷ u) ++ (x ∷ [])) Least
   factors_by_ends x y u front rest =
-      each_by_ends Least (λ before w after l. factor_least E (before ++ (w ++ after)) before w after l refl) ((y ∷ u) ++ (x ∷ [])) (omega arith) rest
+      each_by_ends Least (λ before w after l. factor_least E (before ++ (w ++ after)) before w after l refl)
+      ((y ∷ u) ++ (x ∷ [])) (omega arith) rest
       (subst Least (sym ends) front)
     where
       n : length ((y ∷ u) ++ (x ∷ [])) - 1 ≡ length (y ∷ u)
@@ -88,7 +89,8 @@ less_than_one x (y ∷ []) h = elim (less_cases (y ∷ []) (x ∷ []) h) [
   | inl l ↦ absurd (omega arith)
   | inr (n, l) ↦ elim (less_at y x [] [] l) [ inl k ↦ inr (y, refl, k) | inr (e, k) ↦ cc ]
 ]
-less_than_one x (y ∷ z ∷ v) h = elim (less_cases (y ∷ z ∷ v) (x ∷ []) h) [ inl l ↦ absurd (omega arith) | inr (n, l) ↦ absurd (omega arith) ]
+less_than_one x (y ∷ z ∷ v) h =
+    elim (less_cases (y ∷ z ∷ v) (x ∷ []) h) [ inl l ↦ absurd (omega arith) | inr (n, l) ↦ absurd (omega arith) ]
 
 module _ (m : Symbols) (f : TermFacts) (ps : List ParamId) (list : List TermRequirement) where
   abbrev L : Source
@@ -128,7 +130,8 @@ module _ (m : Symbols) (f : TermFacts) (ps : List ParamId) (list : List TermRequ
   no_less_layout (NameSymbol a) h e = cc
   no_less_layout LayoutSymbol h e = cc
 
-  single_least : (x : Symbol) → ((y : Symbol) → symbol_cmp y x ≡ Less → group m x ∷ [] ≡ group m y ∷ [] → ⊥) → IsLeast (AreCongruent m f L) (x ∷ [])
+  single_least : (x : Symbol) → ((y : Symbol) → symbol_cmp y x ≡ Less → group m x ∷ [] ≡ group m y ∷ [] → ⊥)
+      → IsLeast (AreCongruent m f L) (x ∷ [])
   single_least x none = least_by_none (AreCongruent m f L) (x ∷ []) (λ v c h. elim (less_than_one x v h) [
     | inl e ↦ full (subst (λ w. group m x ∷ [] ≡ first_group m w) e (chain_group c))
     | inr (y, e, l) ↦ none y l (subst (λ w. group m x ∷ [] ≡ first_group m w) e (chain_group c))

@@ -39,7 +39,8 @@ use Rattle.swreq_correspondence.proofs.Context.{chain_after, chain_before, link_
 
 -- ---- steps by rules
 
-module _ (m : Symbols) (f : TermFacts) (ps : List ParamId) (rest : List TermRequirement) (rules : List Rule) (each : AreRulesOfRest m f ps rest rules) where
+module _ (m : Symbols) (f : TermFacts) (ps : List ParamId) (rest : List TermRequirement) (rules : List Rule)
+    (each : AreRulesOfRest m f ps rest rules) where
   abbrev E : Word → Word → Type 0
   E = RestEquation m f ps rest
 
@@ -85,7 +86,8 @@ module _ (m : Symbols) (f : TermFacts) (ps : List ParamId) (rest : List TermRequ
     of_protocols (of_source r h) = absurd h
 
     of_rest : (r : TermRequirement) → Contains rest r → C (left_side m R r) (right_side m R r)
-    of_rest r h = subst₂ C (append-nil (left_side m R r)) (append-nil (right_side m R r)) (at_once (forth [] (of_source r (h, plain_sides r (plain r h)))))
+    of_rest r h = subst₂ C (append-nil (left_side m R r)) (append-nil (right_side m R r))
+        (at_once (forth [] (of_source r (h, plain_sides r (plain r h)))))
 
     of_equation : {u v : Word} → RestEquation m f ps rest u v → C u v
     of_equation (inl c) = linking_to (λ a b e. of_protocols e) c
@@ -100,14 +102,16 @@ module _ (m : Symbols) (f : TermFacts) (ps : List ParamId) (rest : List TermRequ
     of_chain done = done
     of_chain (more l c) = joined (of_link l) (of_chain c)
 
-    pub derives : AreSymbolsOf m f → AreOfText m f → IsInText m R → (r : TermRequirement) → HasValidSides f R r → HasEvidence m f ps rest r → Derivable f R (Requires r)
+    pub derives : AreSymbolsOf m f → AreOfText m f → IsInText m R → (r : TermRequirement) → HasValidSides f R r → HasEvidence m f ps rest r
+        → Derivable f R (Requires r)
     derives fit ranges n (Conforms t p) v c = (conforming_words m f fit R ranges n t p v).1 (of_chain c)
     derives fit ranges n (IsAnyObject t) v c = (layout_words m f fit R ranges n t v).1 (of_chain c)
     derives fit ranges n (Equals t u) (v, w) c = (equal_words m f fit R ranges n t u v w).1 (of_chain c)
 
 -- ---- in the order of dropping
 
-module _ (f : TermFacts) (ps : List ParamId) (list generators : List TermRequirement) (told : AreGeneratorsTold f ps list) (all : IsGeneratorList f ps list generators) where
+module _ (f : TermFacts) (ps : List ParamId) (list generators : List TermRequirement) (told : AreGeneratorsTold f ps list)
+    (all : IsGeneratorList f ps list generators) where
   covers : (r : TermRequirement) → IsCanonical f (Written ps list) r → Contains generators r ⊎ FollowsFromEarlier f ps list r
   covers r c = elim (told r c) [ inl h ↦ inl ((all.members r).1 h) | inr h ↦ inr h ]
 
@@ -127,7 +131,8 @@ module _ (f : TermFacts) (ps : List ParamId) (list generators : List TermRequire
   sorted_end [] rest s = s
   sorted_end (x ∷ front) rest s = sorted_end front rest s.1
 
-  in_front : (front after : List TermRequirement) (r q : TermRequirement) → IsStrictlySorted (front ++ (r ∷ after)) → Contains (front ++ (r ∷ after)) q → RequirementBefore q r
+  in_front : (front after : List TermRequirement) (r q : TermRequirement) → IsStrictlySorted (front ++ (r ∷ after))
+      → Contains (front ++ (r ∷ after)) q → RequirementBefore q r
       → Contains front q
   in_front front after r q s h b = elim (Contains-append_cases front (r ∷ after) q h) [
     | inl x ↦ x
@@ -157,4 +162,5 @@ module _ (f : TermFacts) (ps : List ParamId) (list generators : List TermRequire
 
         sides : HasValidSides f (Written ps (front ++ left)) r
         sides = sides_from (front ++ left) r (canonical r own)
-            (λ q h b. Contains-append_left front left q (in_front front after r q (subst IsStrictlySorted e all.sorted) (subst (λ z. Contains z q) e h) b))
+            (λ q h b. Contains-append_left front left q
+            (in_front front after r q (subst IsStrictlySorted e all.sorted) (subst (λ z. Contains z q) e h) b))

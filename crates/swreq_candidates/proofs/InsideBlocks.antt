@@ -33,13 +33,15 @@ module _ (m : Symbols) (f : TermFacts) (s : Source) where
   HasCut o w u us = (k : Cut m f s o w) × C u (current k) × AllZip C us (blocks k)
 
   -- after an equal type the cut is the same
-  pub behind_equal : (b : Source) (t u : Term) (w : Word) → Derivable f b (Requires (Equals t u)) → (k : Cut m f s (Inside b t) w) → HasCut (Inside b u) w (current k) (blocks k)
+  pub behind_equal : (b : Source) (t u : Term) (w : Word) → Derivable f b (Requires (Equals t u)) → (k : Cut m f s (Inside b t) w)
+      → HasCut (Inside b u) w (current k) (blocks k)
   behind_equal b t u [] e at_end = (at_end, done, tt)
   behind_equal b t u (x ∷ w) e (on c r) =
       let (d, g) = read_same m f b t u x e c in
       let (k, h, p) = behind_equal b (after m t x) (after m u x) w g r in
       (on d k, chain_before (x ∷ []) h, p)
-  behind_equal b t u (x ∷ w) e (opened n c r) = (opened (λ h. n (read_same m f b u t x (symm e) h).0) c r, done, (done, all_same (blocks r)))
+  behind_equal b t u (x ∷ w) e (opened n c r) =
+      (opened (λ h. n (read_same m f b u t x (symm e) h).0) c r, done, (done, all_same (blocks r)))
   behind_equal b t u (x ∷ w) e (alone n c r) = (alone (λ h. n (read_same m f b u t x (symm e) h).0) c r, done, (done, all_same (blocks r)))
 
   -- ---- the steps of a type parameter, read after another
@@ -90,7 +92,8 @@ module _ (m : Symbols) (f : TermFacts) (s : Source) where
   -- Where the block is read as t up to v, after the symbol x, v may be changed to w, after y where it is read as u: the block stays
   -- congruent, and so do those after it.
   abbrev pub Changes : Source → Symbol → Term → Word → Symbol → Term → Word → Type 0
-  Changes b x t v y u w = (k : Cut m f s (Inside b t) v) → (l : Cut m f s (Inside b u) w) × C (x ∷ current k) (y ∷ current l) × AllZip C (blocks k) (blocks l)
+  Changes b x t v y u w =
+      (k : Cut m f s (Inside b t) v) → (l : Cut m f s (Inside b u) w) × C (x ∷ current k) (y ∷ current l) × AllZip C (blocks k) (blocks l)
 
   -- a change after steps that are read
   behind_steps : (b : Source) (x y : Symbol) (t u p q : Term) (v w : Word) → AreStepsRead b t p → AreStepsRead b u q
@@ -103,7 +106,8 @@ module _ (m : Symbols) (f : TermFacts) (s : Source) where
       let (z, g, j) = with_steps b u q w i l in
       (z, subst₂ (λ c d. C (x ∷ c) (y ∷ d)) (sym e) (sym g) c, subst₂ (λ a b. AllZip C a b) (sym d) (sym j) a)
 
-  placed : (b : Source) (w : Word) {t u : Term} → t ≡ u → (k : Cut m f s (Inside b t) w) → (l : Cut m f s (Inside b u) w) × (current l ≡ current k) × (blocks l ≡ blocks k)
+  placed : (b : Source) (w : Word) {t u : Term} → t ≡ u → (k : Cut m f s (Inside b t) w)
+      → (l : Cut m f s (Inside b u) w) × (current l ≡ current k) × (blocks l ≡ blocks k)
   placed b w e k = subst (λ z. (l : Cut m f s (Inside b z) w) × (current l ≡ current k) × (blocks l ≡ blocks k)) e (k, refl, refl)
 
   -- a symbol z, after which the type is read as before, goes or comes
@@ -112,13 +116,19 @@ module _ (m : Symbols) (f : TermFacts) (s : Source) where
     pub vanishes : ((r : Word) → C (x ∷ steps m p (z ∷ r)) (x ∷ steps m p r)) → Changes b x t (steps m p (z ∷ w)) x t (steps m p w)
     vanishes link = behind_steps b x x t t p p (z ∷ w) w h h (λ k.
         let (r, e, d) = goes_on b (unbound m t p) z w c k in
-        let (l, g, j) = placed b w stays r in
-        (l, subst₂ (λ u v. C (x ∷ steps m p u) (x ∷ steps m p v)) (sym e) (sym g) (link (current r)), subst₂ (λ a b. AllZip C a b) (sym d) (sym j) (all_same (blocks r))))
+        let (l, g, j) = placed b w stays r in (
+          l,
+          subst₂ (λ u v. C (x ∷ steps m p u) (x ∷ steps m p v)) (sym e) (sym g) (link (current r)),
+          subst₂ (λ a b. AllZip C a b) (sym d) (sym j) (all_same (blocks r)),
+        ))
 
     pub appears : ((r : Word) → C (x ∷ steps m p r) (x ∷ steps m p (z ∷ r))) → Changes b x t (steps m p w) x t (steps m p (z ∷ w))
     appears link = behind_steps b x x t t p p w (z ∷ w) h h (λ k.
-        let (l, g, j) = placed b w (sym stays) k in
-        (on c l, subst (λ u. C (x ∷ steps m p (current k)) (x ∷ steps m p (z ∷ u))) (sym g) (link (current k)), subst (λ a. AllZip C (blocks k) a) (sym j) (all_same (blocks k))))
+        let (l, g, j) = placed b w (sym stays) k in (
+          on c l,
+          subst (λ u. C (x ∷ steps m p (current k)) (x ∷ steps m p (z ∷ u))) (sym g) (link (current k)),
+          subst (λ a. AllZip C (blocks k) a) (sym j) (all_same (blocks k)),
+        ))
 
   -- steps of equal types
   pub equal_steps : (b : Source) (x y : Symbol) (t u p q : Term) (w : Word) → AreStepsRead b t p → AreStepsRead b u q

@@ -20,7 +20,8 @@ less_at x y u v h = elim (then_less (symbol_cmp x y) (slice_cmp symbol_cmp u v) 
   | inr (e, l) ↦ inr (symbol_exact x y e, l)
 ]
 
-pub symbols_in_parts : (u v w z : Word) → length u ≡ length v → SymbolsLess (u ++ w) (v ++ z) → SymbolsLess u v ⊎ ((u ≡ v) × SymbolsLess w z)
+pub symbols_in_parts : (u v w z : Word) → length u ≡ length v → SymbolsLess (u ++ w) (v ++ z)
+    → SymbolsLess u v ⊎ ((u ≡ v) × SymbolsLess w z)
 symbols_in_parts [] [] w z n h = inr (refl, h)
 symbols_in_parts [] (y ∷ v) w z n h = absurd (omega arith)
 symbols_in_parts (x ∷ u) [] w z n h = absurd (omega arith)

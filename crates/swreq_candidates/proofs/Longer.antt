@@ -17,7 +17,8 @@ least_by_none Class u none v c = elim (trichotomy u v) [
 ]
 
 -- the factors of a least word are least
-pub factor_least : (E : Word → Word → Type 0) (u before w after : Word) → IsLeast (Linking E) u → u ≡ before ++ (w ++ after) → IsLeast (Linking E) w
+pub factor_least : (E : Word → Word → Type 0) (u before w after : Word) → IsLeast (Linking E) u
+    → u ≡ before ++ (w ++ after) → IsLeast (Linking E) w
 factor_least E u before w after l e = least_by_none (Linking E) w (λ v c h.
     none_less (Linking E) (before ++ (w ++ after)) (before ++ (v ++ after)) (subst (IsLeast (Linking E)) e l)
     (chain_before before (chain_after after c)) (less_in_context before v w after h))

@@ -28,7 +28,8 @@ not_empty (on c r) = not_empty r
 not_empty (opened {x = x} n c r) = All-cons IsSome (x ∷ current r) (blocks r) (omega arith) (not_empty r)
 not_empty (alone {x = x} n c r) = All-cons IsSome (x ∷ []) (blocks r) (omega arith) (not_empty r)
 
-module _ (m : Symbols) (f : TermFacts) (ps : List ParamId) (list : List TermRequirement) (fit : AreSymbolsOf m f) (named : AreMembersNamed m f) where
+module _ (m : Symbols) (f : TermFacts) (ps : List ParamId) (list : List TermRequirement) (fit : AreSymbolsOf m f)
+    (named : AreMembersNamed m f) where
   abbrev L : Source
   L = Written ps list
 
@@ -61,7 +62,8 @@ module _ (m : Symbols) (f : TermFacts) (ps : List ParamId) (list : List TermRequ
   least_blocks u k l = parts_least u [] (blocks k) l (sym (whole_word m f L u k))
 
   -- each part of a minimal word is least that stands after others
-  later_least : (u before : Word) (bs : List Word) → EachFactor u (IsLeast C) → 0 < length before → u ≡ before ++ joined_words bs → All (IsLeast C) bs
+  later_least : (u before : Word) (bs : List Word) → EachFactor u (IsLeast C) → 0 < length before
+      → u ≡ before ++ joined_words bs → All (IsLeast C) bs
   later_least u before [] h n e = All-nil (IsLeast C)
   later_least u before (b ∷ bs) h n e =
       let i = ap length e in

@@ -52,7 +52,8 @@ module _ (m : Symbols) (f : TermFacts) (ps : List ParamId) (list : List TermRequ
   -- After x, the member symbols of w lead to the type t: each stands for the bound member with the first associated type of its name.
   unfoldable pub Leads : Term → Word → Term → Type 0
   Leads x [] t = x ≡ t
-  Leads x (MemberSymbol k ∷ w) t = (d : AssocId) × CanRead m f L x (MemberSymbol k) × IsFirstFor f L x (name_of m k) d × Leads (Member x (Bound d)) w t
+  Leads x (MemberSymbol k ∷ w) t =
+      (d : AssocId) × CanRead m f L x (MemberSymbol k) × IsFirstFor f L x (name_of m k) d × Leads (Member x (Bound d)) w t
   Leads x (_ ∷ w) t = ⊥
 
   -- ---- the type at a place
@@ -61,7 +62,8 @@ module _ (m : Symbols) (f : TermFacts) (ps : List ParamId) (list : List TermRequ
   front_of (Generic g) rest u h = (ParamSymbol g.depth g.index ∷ [], h)
   front_of (Member t (Name a)) rest u h = absurd h
   front_of (Member t (Bound d)) rest u (k, c, i, h) =
-      let (front, e) = front_of t (MemberSymbol k ∷ rest) u h in (front ++ (MemberSymbol k ∷ []), e ∙ sym (append_assoc front (MemberSymbol k ∷ []) rest))
+      let (front, e) = front_of t (MemberSymbol k ∷ rest) u h in
+      (front ++ (MemberSymbol k ∷ []), e ∙ sym (append_assoc front (MemberSymbol k ∷ []) rest))
 
   same_end : (a b c d : Word) → a ++ b ≡ c ++ d → length b ≡ length d → b ≡ d
   same_end a b c d e n = let h = ap length e in (same_cut a b c d e (omega (arith, length-append a b, length-append c d))).1
@@ -70,13 +72,15 @@ module _ (m : Symbols) (f : TermFacts) (ps : List ParamId) (list : List TermRequ
   abbrev pub HasTypeAt : Term → Word → Word → Type 0
   HasTypeAt z u rest = (x : Term) × BeginsAs m f L x rest u × Leads x rest z
 
-  stop : (t z : Term) (rest u before s : Word) → BeginsAs m f L t rest u → Leads t rest z → u ≡ before ++ s → length rest ≡ length s → HasTypeAt z u s
+  stop : (t z : Term) (rest u before s : Word) → BeginsAs m f L t rest u → Leads t rest z → u ≡ before ++ s
+      → length rest ≡ length s → HasTypeAt z u s
   stop t z rest u before s h l e n =
       let (front, q) = front_of t rest u h in
       let i : rest ≡ s = same_end front rest before s (sym q ∙ e) n in
       (t, subst (λ c. BeginsAs m f L t c u) i h, subst (λ c. Leads t c z) i l)
 
-  pub type_at : (t z : Term) (rest u before s : Word) → BeginsAs m f L t rest u → Leads t rest z → u ≡ before ++ s → 0 < length before → length rest ≤ length s
+  pub type_at : (t z : Term) (rest u before s : Word) → BeginsAs m f L t rest u → Leads t rest z → u ≡ before ++ s → 0 < length before
+      → length rest ≤ length s
       → HasTypeAt z u s
   unfolding Leads
   type_at (Generic g) z rest u before s h l e some n = elim (ℕ_discrete (length rest) (length s)) [
@@ -119,14 +123,16 @@ module _ (m : Symbols) (f : TermFacts) (ps : List ParamId) (list : List TermRequ
   abbrev pub Shorter : ℕ → TermStatement → Type 0
   Shorter n st = Follows f ps (IsShorter f ps list n) st
 
-  pub conformance : (n : ℕ) (t : Term) (p : ProtoId) → IsReduced f L t → Derivable f L (Requires (Conforms t p)) → member_count t < n → Shorter n (Requires (Conforms t p))
+  pub conformance : (n : ℕ) (t : Term) (p : ProtoId) → IsReduced f L t → Derivable f L (Requires (Conforms t p)) → member_count t < n
+      → Shorter n (Requires (Conforms t p))
   conformance n t p r c h = shorter_conformance f ps list n t p r c h (valid_by_shorter f ps list n t r (omega arith))
 
   -- where t equals x, what w is read as after t equals z
   pub reads_as : (n : ℕ) (x z t : Term) (w : Word) → Leads x w z → IsReduced f L z → member_count z ≤ n → Shorter n (Requires (Equals t x))
       → Shorter n (Requires (Equals (read_on m t w) z))
   unfolding Leads
-  reads_as n x z t [] l r g h = by_one f ps (IsShorter f ps list n) h (λ rs e. subst (λ y. Derivable f (Written ps rs) (Requires (Equals t y))) l e)
+  reads_as n x z t [] l r g h =
+      by_one f ps (IsShorter f ps list n) h (λ rs e. subst (λ y. Derivable f (Written ps rs) (Requires (Equals t y))) l e)
   reads_as n x z t (MemberSymbol k ∷ w) (d, c, i, l) r g h =
       let b : IsReduced f L x = part_reduced x z (MemberSymbol k ∷ w) (d, c, i, l) r in
       let o : member_count z ≡ (member_count x + 1) + length w = leads_longer (Member x (Bound d)) z w l in
@@ -144,7 +150,8 @@ module _ (m : Symbols) (f : TermFacts) (ps : List ParamId) (list : List TermRequ
   HasBase z k w = (x : Term) × Shorter (member_count z) (Requires (Conforms x (proto_of m k)))
       × Shorter (member_count z) (Requires (Equals (for_self x (read_on m self (MemberSymbol k ∷ w))) z))
 
-  base_of : (z : Term) (u before w : Word) (k : ℕ) → IsReduced f L z → IsTypeOf m f L u z → u ≡ before ++ (MemberSymbol k ∷ w) → 0 < length before → HasBase z k w
+  base_of : (z : Term) (u before w : Word) (k : ℕ) → IsReduced f L z → IsTypeOf m f L u z → u ≡ before ++ (MemberSymbol k ∷ w)
+      → 0 < length before → HasBase z k w
   unfolding Leads HasBase
   base_of z u before w k r h e some =
       let (x, b, l) = type_of_part z u before (MemberSymbol k ∷ w) h e some in
@@ -160,20 +167,26 @@ module _ (m : Symbols) (f : TermFacts) (ps : List ParamId) (list : List TermRequ
       )
 
   -- Where the end and then `[P]` are read over `[τ_0_0 : Q]`, [z : P] follows; and the same for the layout.
-  pub conformance_follows : (z : Term) (p : ProtoId) (u before w : Word) (k : ℕ) → IsReduced f L z → IsTypeOf m f L u z → u ≡ before ++ (MemberSymbol k ∷ w) → 0 < length before
-      → CanReadAll m f (SelfOf (proto_of m k)) self ((MemberSymbol k ∷ w) ++ (ProtoSymbol p.rank ∷ [])) → Shorter (member_count z) (Requires (Conforms z p))
+  pub conformance_follows : (z : Term) (p : ProtoId) (u before w : Word) (k : ℕ) → IsReduced f L z → IsTypeOf m f L u z
+      → u ≡ before ++ (MemberSymbol k ∷ w) → 0 < length before
+      → CanReadAll m f (SelfOf (proto_of m k)) self ((MemberSymbol k ∷ w) ++ (ProtoSymbol p.rank ∷ []))
+      → Shorter (member_count z) (Requires (Conforms z p))
   unfolding HasBase
   conformance_follows z p u before w k r h e some c =
       let (x, y, g) = base_of z u before w k r h e some in
       let (_, s) = last_read m f (SelfOf (proto_of m k)) self (MemberSymbol k ∷ w) (ProtoSymbol p.rank) c in
       by_two f ps (IsShorter f ps list (member_count z)) y g
-      (λ rs i j. same_conf (stands_for_self f (Written ps rs) x (proto_of m k) (Requires (Conforms (read_on m self (MemberSymbol k ∷ w)) p)) i s) (symm j))
+      (λ rs i j. same_conf (stands_for_self f (Written ps rs) x (proto_of m k)
+      (Requires (Conforms (read_on m self (MemberSymbol k ∷ w)) p)) i s) (symm j))
 
-  pub layout_follows : (z : Term) (u before w : Word) (k : ℕ) → IsReduced f L z → IsTypeOf m f L u z → u ≡ before ++ (MemberSymbol k ∷ w) → 0 < length before
-      → CanReadAll m f (SelfOf (proto_of m k)) self ((MemberSymbol k ∷ w) ++ (LayoutSymbol ∷ [])) → Shorter (member_count z) (Requires (IsAnyObject z))
+  pub layout_follows : (z : Term) (u before w : Word) (k : ℕ) → IsReduced f L z → IsTypeOf m f L u z
+      → u ≡ before ++ (MemberSymbol k ∷ w) → 0 < length before
+      → CanReadAll m f (SelfOf (proto_of m k)) self ((MemberSymbol k ∷ w) ++ (LayoutSymbol ∷ []))
+      → Shorter (member_count z) (Requires (IsAnyObject z))
   unfolding HasBase
   layout_follows z u before w k r h e some c =
       let (x, y, g) = base_of z u before w k r h e some in
       let (_, s) = last_read m f (SelfOf (proto_of m k)) self (MemberSymbol k ∷ w) LayoutSymbol c in
       by_two f ps (IsShorter f ps list (member_count z)) y g
-      (λ rs i j. same_layout (stands_for_self f (Written ps rs) x (proto_of m k) (Requires (IsAnyObject (read_on m self (MemberSymbol k ∷ w)))) i s) (symm j))
+      (λ rs i j. same_layout (stands_for_self f (Written ps rs) x (proto_of m k)
+      (Requires (IsAnyObject (read_on m self (MemberSymbol k ∷ w)))) i s) (symm j))

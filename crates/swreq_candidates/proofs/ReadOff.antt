@@ -59,19 +59,23 @@ module _ (m : Symbols) (f : TermFacts) (ps : List ParamId) (list : List TermRequ
   C = AreCongruent m f L
 
   typed_reduced : (t : Term) (u : Word) → Derivable f L (IsValid t) → IsTypeOf m f L u t → IsLeast C u → IsReduced f L t
-  typed_reduced t u v h l = type_is_reduced m f ps list text.symbols text.of_text text.in_text text.ranked t t u v (turn_all (stands_for m f ps list text t u h)) l h
+  typed_reduced t u v h l = type_is_reduced m f ps list text.symbols text.of_text text.in_text text.ranked t t u v
+      (turn_all (stands_for m f ps list text t u h)) l h
 
-  read_equal : (t : Term) (w : Word) → Derivable f L (IsValid t) → C (spell m L t []) w → HasReading m f L w × Derivable f L (Requires (Equals t (reading m w)))
+  read_equal : (t : Term) (w : Word) → Derivable f L (IsValid t) → C (spell m L t []) w
+      → HasReading m f L w × Derivable f L (Requires (Equals t (reading m w)))
   read_equal t w v c =
       let (h, e) = word_is_read m f text.symbols L t v in
       let (k, g) = chain_leads m f text.symbols L c h in
       (k, trans e g)
 
-  pub typed_read : (t : Term) (w : Word) → Derivable f L (IsValid t) → IsTypeOf m f L w t → HasReading m f L w × Derivable f L (Requires (Equals t (reading m w)))
+  pub typed_read : (t : Term) (w : Word) → Derivable f L (IsValid t) → IsTypeOf m f L w t
+      → HasReading m f L w × Derivable f L (Requires (Equals t (reading m w)))
   typed_read t w v h = read_equal t w v (turn_all (stands_for m f ps list text t w h))
 
   -- the left side is read as a type that equals the one of which it speaks
-  spoken_equal : (v u : Term) (l r : Word) → Derivable f L (IsValid v) → Derivable f L (IsValid u) → IsReducedRule C l r → IsTypeOf m f L r u → SpeaksOf m f L v l
+  spoken_equal : (v u : Term) (l r : Word) → Derivable f L (IsValid v) → Derivable f L (IsValid u) → IsReducedRule C l r
+      → IsTypeOf m f L r u → SpeaksOf m f L v l
       → Derivable f L (Requires (Equals v u)) × CanBePrincipal f L v
   spoken_equal (Generic g) u l r vv vu (left, c, lr) h e =
       let (_, q) = read_equal (Generic g) r vv (subst (λ w. C w r) e c) in
@@ -88,8 +92,10 @@ module _ (m : Symbols) (f : TermFacts) (ps : List ParamId) (list : List TermRequ
       let (_, y) = named_member m f L (reading m w) x a na cx in
       let le : reading m l ≡ Member (reading m w) (Name a) = ap (reading m) e ∙ (z ∙ y) in
       let s1 : Derivable f L (Requires (Equals (Member t (Bound d)) (Member t (Name a)))) = assoc_bind i.conforms i.declares in
-      let s2 : Derivable f L (Requires (Equals (Member t (Name a)) (Member (reading m w) (Name a)))) = same_name (same_conf i.conforms (symm q)) q i.declares in
-      let s3 : Derivable f L (Requires (Equals (Member (reading m w) (Name a)) u)) = subst (λ b. Derivable f L (Requires (Equals b u))) le (symm (trans p g)) in
+      let s2 : Derivable f L (Requires (Equals (Member t (Name a)) (Member (reading m w) (Name a)))) =
+      same_name (same_conf i.conforms (symm q)) q i.declares in
+      let s3 : Derivable f L (Requires (Equals (Member (reading m w) (Name a)) u)) =
+      subst (λ b. Derivable f L (Requires (Equals b u))) le (symm (trans p g)) in
       (trans s1 (trans s2 s3), typed_reduced t w vt hw lw)
 
   pub candidate_is_canonical : (r : TermRequirement) → IsCandidate m f L r → IsCanonical f L r
@@ -112,7 +118,8 @@ module _ (m : Symbols) (f : TermFacts) (ps : List ParamId) (list : List TermRequ
       (symm q, (o, not_reduced reduced (λ e. differ (sym e)), reduced))
 
   pub candidates_are_enough : (candidates : List TermRequirement) → IsCandidateList m f L candidates
-      → ((r : TermRequirement) → IsCanonical f L r → IsCandidate m f L r ⊎ Follows f ps (IsOfEarlierType f ps list (principal r)) (Requires r))
+      → ((r : TermRequirement) → IsCanonical f L r
+      → IsCandidate m f L r ⊎ Follows f ps (IsOfEarlierType f ps list (principal r)) (Requires r))
       → AreEnough f ps list candidates
   candidates_are_enough candidates all settled = record {
     sorted = all.sorted;
@@ -152,30 +159,40 @@ module _ (m : Symbols) (f : TermFacts) (s : Source) where
 
   pub one_spoken : (v w : Term) (l : Word) → SpeaksOf m f s v l → SpeaksOf m f s w l → v ≡ w
   one_spoken (Generic g) (Generic h) l i k = ap Generic (one_param (same_heads (sym i ∙ k)))
-  one_spoken (Generic g) (Member t (Bound e)) l h (u, x, a, q, r, o, i) = absurd (not_single t u x (ParamSymbol g.depth g.index) r (sym q ∙ h))
+  one_spoken (Generic g) (Member t (Bound e)) l h (u, x, a, q, r, o, i) =
+      absurd (not_single t u x (ParamSymbol g.depth g.index) r (sym q ∙ h))
   one_spoken (Generic g) (Member t (Name a)) l h k = absurd k
-  one_spoken (Member t (Bound e)) (Generic g) l (u, x, a, q, r, o, i) h = absurd (not_single t u x (ParamSymbol g.depth g.index) r (sym q ∙ h))
+  one_spoken (Member t (Bound e)) (Generic g) l (u, x, a, q, r, o, i) h =
+      absurd (not_single t u x (ParamSymbol g.depth g.index) r (sym q ∙ h))
   one_spoken (Member t (Name a)) w l h k = absurd h
   one_spoken (Member t (Bound d)) (Member z (Name a)) l h k = absurd k
   one_spoken (Member t (Bound d)) (Member z (Bound e)) l (u, x, a, q, r, o, i) (v, y, b, q', r', o', i') =
       let (uv, xy) = same_from_push u v x y (sym q ∙ q') in
       let tz : t ≡ z = one_type m f s t z u r (subst (λ w. IsTypeOf m f s w z) (sym uv) r') in
       let ab : a ≡ b = one_name m x a b o (subst (λ y. IsNamed m y b) (sym xy) o') in
-      ap₂ Member tz (ap Bound (one_first m f s t a d e i (subst (λ c. IsFirstFor f s t c e) (sym ab) (subst (λ w. IsFirstFor f s w b e) (sym tz) i'))))
+      ap₂ Member tz
+      (ap Bound (one_first m f s t a d e i (subst (λ c. IsFirstFor f s t c e) (sym ab) (subst (λ w. IsFirstFor f s w b e) (sym tz) i'))))
 
-  not_spoken : (v : Term) (l r : Word) (x : Symbol) (t : Term) → IsTypeOf m f s r t → l ≡ r ++ (x ∷ []) → ((a : NameId) → IsNamed m x a → ⊥) → SpeaksOf m f s v l → ⊥
+  not_spoken : (v : Term) (l r : Word) (x : Symbol) (t : Term) → IsTypeOf m f s r t → l ≡ r ++ (x ∷ []) → ((a : NameId) → IsNamed m x a → ⊥)
+      → SpeaksOf m f s v l → ⊥
   not_spoken (Generic g) l r x t h e none k = not_single t r x (ParamSymbol g.depth g.index) h (sym e ∙ k)
   not_spoken (Member z (Name a)) l r x t h e none k = k
-  not_spoken (Member z (Bound d)) l r x t h e none (u, y, a, q, hu, o, i) = none a (subst (λ w. IsNamed m w a) (sym (same_from_push r u x y (sym e ∙ q)).1) o)
+  not_spoken (Member z (Bound d)) l r x t h e none (u, y, a, q, hu, o, i) =
+      none a (subst (λ w. IsNamed m w a) (sym (same_from_push r u x y (sym e ∙ q)).1) o)
 
   pub one_read_off : (l r : Word) (q o : TermRequirement) → IsReadOff m f s l r q → IsReadOff m f s l r o → q ≡ o
   one_read_off l r (Conforms t p) (Conforms u g) (v, h, e) (w, k, i) =
       ap₂ Conforms (one_type m f s t u r h k) (one_proto (same_from_push r r (ProtoSymbol p.rank) (ProtoSymbol g.rank) (sym e ∙ i)).1)
-  one_read_off l r (Conforms t p) (IsAnyObject u) (v, h, e) (w, k, i) = absurd (no_layout (same_from_push r r (ProtoSymbol p.rank) LayoutSymbol (sym e ∙ i)).1)
-  one_read_off l r (IsAnyObject t) (Conforms u p) (v, h, e) (w, k, i) = absurd (no_layout (same_from_push r r (ProtoSymbol p.rank) LayoutSymbol (sym i ∙ e)).1)
+  one_read_off l r (Conforms t p) (IsAnyObject u) (v, h, e) (w, k, i) =
+      absurd (no_layout (same_from_push r r (ProtoSymbol p.rank) LayoutSymbol (sym e ∙ i)).1)
+  one_read_off l r (IsAnyObject t) (Conforms u p) (v, h, e) (w, k, i) =
+      absurd (no_layout (same_from_push r r (ProtoSymbol p.rank) LayoutSymbol (sym i ∙ e)).1)
   one_read_off l r (IsAnyObject t) (IsAnyObject u) (v, h, e) (w, k, i) = ap IsAnyObject (one_type m f s t u r h k)
-  one_read_off l r (Conforms t p) (Equals u z) (v, h, e) (w, w', differ, k, i) = absurd (not_spoken z l r (ProtoSymbol p.rank) t h e (λ a y. y) i)
+  one_read_off l r (Conforms t p) (Equals u z) (v, h, e) (w, w', differ, k, i) =
+      absurd (not_spoken z l r (ProtoSymbol p.rank) t h e (λ a y. y) i)
   one_read_off l r (IsAnyObject t) (Equals u z) (v, h, e) (w, w', differ, k, i) = absurd (not_spoken z l r LayoutSymbol t h e (λ a y. y) i)
-  one_read_off l r (Equals u z) (Conforms t p) (w, w', differ, k, i) (v, h, e) = absurd (not_spoken z l r (ProtoSymbol p.rank) t h e (λ a y. y) i)
+  one_read_off l r (Equals u z) (Conforms t p) (w, w', differ, k, i) (v, h, e) =
+      absurd (not_spoken z l r (ProtoSymbol p.rank) t h e (λ a y. y) i)
   one_read_off l r (Equals u z) (IsAnyObject t) (w, w', differ, k, i) (v, h, e) = absurd (not_spoken z l r LayoutSymbol t h e (λ a y. y) i)
-  one_read_off l r (Equals u z) (Equals t y) (w, w', differ, k, i) (v, v', also, h, e) = ap₂ Equals (one_type m f s u t r k h) (one_spoken z y l i e)
+  one_read_off l r (Equals u z) (Equals t y) (w, w', differ, k, i) (v, v', also, h, e) =
+      ap₂ Equals (one_type m f s u t r k h) (one_spoken z y l i e)

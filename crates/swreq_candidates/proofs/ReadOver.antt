@@ -58,7 +58,8 @@ module _ (m : Symbols) (f : TermFacts) (ps : List ParamId) (list : List TermRequ
 
   -- ---- chains
 
-  equation_over : (q : ProtoId) {l r : Word} → E L l r → (y : Word) → (HasNoParam (l ++ y) → E (SelfOf q) l r) × (HasNoParam (r ++ y) → E (SelfOf q) l r)
+  equation_over : (q : ProtoId) {l r : Word} → E L l r → (y : Word)
+      → (HasNoParam (l ++ y) → E (SelfOf q) l r) × (HasNoParam (r ++ y) → E (SelfOf q) l r)
   unfolding HasNoParam
   equation_over q (twice p h) y = ((λ _. twice p h), λ _. twice p h)
   equation_over q (member k h) y = ((λ _. member k h), λ _. member k h)
@@ -86,9 +87,13 @@ module _ (m : Symbols) (f : TermFacts) (ps : List ParamId) (list : List TermRequ
 
     pub read_behind : (t : Term) (w : Word) → CanReadAll m f (SelfOf q) t w → CanReadAll m f L (for_self x t) w
     read_behind t [] h = tt
-    read_behind t (ProtoSymbol p ∷ w) (h, r) = (stands_for_self f L x q (Requires (Conforms t (record { rank = p }))) c h, read_behind t w r)
-    read_behind t (MemberSymbol k ∷ w) ((i, h, o), r) =
-        ((i, stands_for_self f L x q (Requires (Conforms t (proto_of m k))) c h, name_behind t (name_of m k) o), read_behind (Member t (Name (name_of m k))) w r)
+    read_behind t (ProtoSymbol p ∷ w) (h, r) =
+        (stands_for_self f L x q (Requires (Conforms t (record { rank = p }))) c h, read_behind t w r)
+    read_behind t (MemberSymbol k ∷ w) ((i, h, o), r) = (
+      (i, stands_for_self f L x q (Requires (Conforms t (proto_of m k))) c h, name_behind t (name_of m k) o),
+      read_behind (Member t (Name (name_of m k))) w r,
+    )
     read_behind t (ParamSymbol d i ∷ w) (h, r) = absurd h
-    read_behind t (NameSymbol a ∷ w) (h, r) = (name_behind t (record { rank = a }) h, read_behind (Member t (Name (record { rank = a }))) w r)
+    read_behind t (NameSymbol a ∷ w) (h, r) =
+        (name_behind t (record { rank = a }) h, read_behind (Member t (Name (record { rank = a }))) w r)
     read_behind t (LayoutSymbol ∷ w) (h, r) = (stands_for_self f L x q (Requires (IsAnyObject t)) c h, read_behind t w r)

@@ -65,7 +65,8 @@ no_more_members m t (NameSymbol a ∷ w) = let h = no_more_members m (Member t (
 no_more_members m t (LayoutSymbol ∷ w) = let h = no_more_members m t w in omega arith
 
 -- a word that goes on begins as it did
-pub begins_on : (m : Symbols) (f : TermFacts) (s : Source) (t : Term) (rest y u : Word) → BeginsAs m f s t rest u → BeginsAs m f s t (rest ++ y) (u ++ y)
+pub begins_on : (m : Symbols) (f : TermFacts) (s : Source) (t : Term) (rest y u : Word) → BeginsAs m f s t rest u
+    → BeginsAs m f s t (rest ++ y) (u ++ y)
 begins_on m f s (Generic g) rest y u h = ap (λ w. w ++ y) h
 begins_on m f s (Member t (Bound d)) rest y u (k, c, i, h) = (k, c, i, begins_on m f s t (MemberSymbol k ∷ rest) y u h)
 begins_on m f s (Member t (Name a)) rest y u h = absurd h
@@ -80,11 +81,14 @@ module _ (m : Symbols) (f : TermFacts) (ps : List ParamId) (list : List TermRequ
   -- the word of what is read
   read_spelled : (t : Term) (w : Word) → CanReadAll m f L t w → (z : Word) → C (spell m L t (w ++ z)) (spell m L (read_on m t w) z)
   read_spelled t [] c z = done
-  read_spelled t (ProtoSymbol q ∷ w) c z = joined (conf_chain m f ps list text.symbols text.of_text text.in_text text.ranked t (record { rank = q }) c.0 (w ++ z)) (read_spelled t w c.1 z)
-  read_spelled t (MemberSymbol k ∷ w) c z = joined (as_name m f ps list text.symbols text.of_text text.in_text text.ranked t k c.0 (w ++ z)) (read_spelled (Member t (Name (name_of m k))) w c.1 z)
+  read_spelled t (ProtoSymbol q ∷ w) c z = joined (conf_chain m f ps list text.symbols text.of_text text.in_text text.ranked t
+      (record { rank = q }) c.0 (w ++ z)) (read_spelled t w c.1 z)
+  read_spelled t (MemberSymbol k ∷ w) c z = joined (as_name m f ps list text.symbols text.of_text text.in_text text.ranked t k c.0 (w ++ z))
+      (read_spelled (Member t (Name (name_of m k))) w c.1 z)
   read_spelled t (ParamSymbol d i ∷ w) c z = absurd c.0
   read_spelled t (NameSymbol a ∷ w) c z = read_spelled (Member t (Name (record { rank = a }))) w c.1 z
-  read_spelled t (LayoutSymbol ∷ w) c z = joined ((chained_usable m text.symbols text.of_text text.in_text c.0).1 (w ++ z)) (read_spelled t w c.1 z)
+  read_spelled t (LayoutSymbol ∷ w) c z =
+      joined ((chained_usable m text.symbols text.of_text text.in_text c.0).1 (w ++ z)) (read_spelled t w c.1 z)
 
   module _ (least : HasLeastWords (UsableEquation m f L)) (firsts : HasFirsts f L) where
     reduced_type : HasReducedTypes f L
@@ -92,7 +96,8 @@ module _ (m : Symbols) (f : TermFacts) (ps : List ParamId) (list : List TermRequ
 
     -- Let r be a reduced type and u its least word, k the least member symbol of some name that is read after r, v the bound member of r
     -- with the first associated type of that name, and z the reduced type of v.
-    module _ (r z : Term) (d : AssocId) (k : ℕ) (i : IsFirstFor f L r (name_of m k) d) (c : CanRead m f L r (MemberSymbol k)) (b : IsReduced f L r)
+    module _ (r z : Term) (d : AssocId) (k : ℕ) (i : IsFirstFor f L r (name_of m k) d)
+        (c : CanRead m f L r (MemberSymbol k)) (b : IsReduced f L r)
         (q : IsReducedTypeOf f L (Member r (Bound d)) z)
         (none : (j : ℕ) → j < k → CanRead m f L r (MemberSymbol j) → name_of m j ≡ name_of m k → ⊥)
         (u : Word) (hu : IsTypeOf m f L u r) (lu : IsLeast C u) where
@@ -116,13 +121,15 @@ module _ (m : Symbols) (f : TermFacts) (ps : List ParamId) (list : List TermRequ
 
       -- ---- what equals v equals z by earlier requirements
 
-      shorter_case : (t : Term) → Derivable f L (IsValid t) → member_count t < size → Derivable f L (Requires (Equals v t)) → Earlier (Requires (Equals t z))
+      shorter_case : (t : Term) → Derivable f L (IsValid t) → member_count t < size → Derivable f L (Requires (Equals v t))
+          → Earlier (Requires (Equals t z))
       shorter_case t o l e =
           let (w, p, g) = shorter_reduces f ps list reduced_type size t o l in
           subst (λ y. Earlier (Requires (Equals t y))) (one_reduced m f ps list text t v w z p q (symm e)) (earlier g)
 
       -- a member by name, where the bound member of the base's reduced type comes before v
-      name_case : (t : Term) (a : NameId) → Derivable f L (IsValid t) → HasName f L t a → member_count t < size → Derivable f L (Requires (Equals v (Member t (Name a))))
+      name_case : (t : Term) (a : NameId) → Derivable f L (IsValid t) → HasName f L t a → member_count t < size
+          → Derivable f L (Requires (Equals v (Member t (Name a))))
           → ((w : Term) (e : AssocId) → IsReducedTypeOf f L t w → IsFirstFor f L w a e → TermBefore (Member w (Bound e)) v)
           → Earlier (Requires (Equals (Member t (Name a)) z))
       name_case t a o h l s claim =
@@ -130,18 +137,21 @@ module _ (m : Symbols) (f : TermFacts) (ps : List ParamId) (list : List TermRequ
           let le : member_count w ≤ member_count t = no_longer f ps list t w p in
           let (e, ie) = firsts w a (h.0, h.1, same_conf h.2 (symm p.equal), h.3) in
           let bw : IsReduced f L w = result_reduced p in
-          let cw : Earlier (Requires (Conforms w ie.proto)) = earlier (conformance m f ps list size w ie.proto bw ie.conforms (omega arith)) in
+          let cw : Earlier (Requires (Conforms w ie.proto)) =
+          earlier (conformance m f ps list size w ie.proto bw ie.conforms (omega arith)) in
           let (y, yo) = reduced_type (Member w (Bound e)) (assoc_decl ie.conforms ie.declares) in
           let before : TermBefore (Member w (Bound e)) v = claim w e p ie in
           let to : Derivable f L (Requires (Equals (Member t (Name a)) (Member w (Bound e))))
           = trans (same_name ie.conforms p.equal ie.declares) (symm (assoc_bind ie.conforms ie.declares)) in
           let same_z : y ≡ z = one_reduced m f ps list text (Member w (Bound e)) v y z yo q (symm (trans s to)) in
           let last : Earlier (Requires (Equals (Member w (Bound e)) y))
-          = principal_follows f ps list IsEarlierType (Member w (Bound e)) y (λ x j. (j.0, transitive (principal x) (Member w (Bound e)) v j.1 before)) (λ j. (j, before))
+          = principal_follows f ps list IsEarlierType (Member w (Bound e)) y
+          (λ x j. (j.0, transitive (principal x) (Member w (Bound e)) v j.1 before)) (λ j. (j, before))
           yo bw (by_one f ps IsEarlierType cw (λ rs x. assoc_decl x ie.declares)) in
           let first : Earlier (Requires (Equals (Member t (Name a)) (Member w (Bound e))))
           = by_two f ps IsEarlierType cw (earlier g) (λ rs x y. trans (same_name x y ie.declares) (symm (assoc_bind x ie.declares))) in
-          by_two f ps IsEarlierType first (subst (λ x. Earlier (Requires (Equals (Member w (Bound e)) x))) same_z last) (λ rs x y. trans x y)
+          by_two f ps IsEarlierType first
+          (subst (λ x. Earlier (Requires (Equals (Member w (Bound e)) x))) same_z last) (λ rs x y. trans x y)
 
       -- Where a word is less than the rest of u, what it is read as, after the part of u before that, reduces to a type before r.
       less_word : (x : Term) (e s : Word) → BeginsAs m f L x e u → length s ≡ length e → SymbolsLess s e → CanReadAll m f L x s
@@ -159,7 +169,8 @@ module _ (m : Symbols) (f : TermFacts) (ps : List ParamId) (list : List TermRequ
                 (joined (stands_for m f ps list text r u hu) (turn_all (subst (λ y. C (pre ++ s) (spell m L y [])) j c1))) l)
             | inr (inr j) ↦ (let (y, hy, ly) = least_word m f ps list text least firsts w (result_reduced o) in
                 absurd (none_less C y (pre ++ s) ly (joined (stands_for m f ps list text w y hy) (turn_all c1))
-                (less_trans (pre ++ s) u y l (type_order m f ps list text.symbols text.of_text text.in_text text.ranked r w u y hu hy lu ly j))))
+                (less_trans (pre ++ s) u y l
+                (type_order m f ps list text.symbols text.of_text text.in_text text.ranked r w u y hu hy lu ly j))))
           ]
 
       -- a lesser member symbol that is read after r has an earlier name
@@ -167,25 +178,32 @@ module _ (m : Symbols) (f : TermFacts) (ps : List ParamId) (list : List TermRequ
           → (w : Term) (e : AssocId) → IsReducedTypeOf f L t w → IsFirstFor f L w (name_of m j) e → TermBefore (Member w (Bound e)) v
       less_symbol t j l cj s w e o ie =
           let wr : w ≡ r = one_reduced m f ps list text t r w r o b s in
-          let neq : (name_of m j).rank ≡ (name_of m k).rank → ⊥ = λ h. none j l (read_same m f L t r (MemberSymbol j) s cj).0 (same_name_id h) in
+          let neq : (name_of m j).rank ≡ (name_of m k).rank → ⊥ =
+          λ h. none j l (read_same m f L t r (MemberSymbol j) s cj).0 (same_name_id h) in
           let le : (name_of m j).rank ≤ (name_of m k).rank = text.ranked.symbols j k l c.0 in
           let not_after : d.rank < e.rank → ⊥ = λ h.
-          let y : (name_of m k).rank ≤ (name_of m j).rank = text.ranked.assocs i.proto (name_of m k) d ie.proto (name_of m j) e i.declares ie.declares h in neq (omega arith) in
+          let y : (name_of m k).rank ≤ (name_of m j).rank =
+          text.ranked.assocs i.proto (name_of m k) d ie.proto (name_of m j) e i.declares ie.declares h in neq (omega arith) in
           let not_same : e.rank ≡ d.rank → ⊥ = λ h. neq (ap (λ (y : NameId). y.rank)
-          (text.ranked.one_name ie.proto (name_of m j) i.proto (name_of m k) d (subst (λ y. Declares f ie.proto (name_of m j) y) (one_assoc h) ie.declares) i.declares)) in
+          (text.ranked.one_name ie.proto (name_of m j) i.proto (name_of m k) d
+          (subst (λ y. Declares f ie.proto (name_of m j) y) (one_assoc h) ie.declares) i.declares)) in
           let before : e.rank < d.rank = omega arith in
           subst (λ y. TermBefore (Member y (Bound e)) v) (sym wr) (inr (refl, inr (refl, before)))
 
       -- the last symbol of a word, after what reduces to a type before r, and after what equals r
-      behind_earlier : (t : Term) (x : Symbol) → Derivable f L (IsValid t) → member_count t < size → CanRead m f L t x → Derivable f L (Requires (Equals v (after m t x)))
+      behind_earlier : (t : Term) (x : Symbol) → Derivable f L (IsValid t) → member_count t < size → CanRead m f L t x
+          → Derivable f L (Requires (Equals v (after m t x)))
           → ((w : Term) → IsReducedTypeOf f L t w → TermBefore w r) → Earlier (Requires (Equals (after m t x) z))
       behind_earlier t (ProtoSymbol p) o l h s claim = shorter_case t o l s
       behind_earlier t LayoutSymbol o l h s claim = shorter_case t o l s
       behind_earlier t (ParamSymbol p j) o l h s claim = absurd h
-      behind_earlier t (NameSymbol a) o l h s claim = name_case t (record { rank = a }) o h l s (λ w e p ie. member_before w r (Bound e) (Bound d) (claim w p))
-      behind_earlier t (MemberSymbol j) o l h s claim = name_case t (name_of m j) o h.2 l s (λ w e p ie. member_before w r (Bound e) (Bound d) (claim w p))
+      behind_earlier t (NameSymbol a) o l h s claim =
+          name_case t (record { rank = a }) o h l s (λ w e p ie. member_before w r (Bound e) (Bound d) (claim w p))
+      behind_earlier t (MemberSymbol j) o l h s claim =
+          name_case t (name_of m j) o h.2 l s (λ w e p ie. member_before w r (Bound e) (Bound d) (claim w p))
 
-      behind_equal : (t : Term) (x : Symbol) → Derivable f L (IsValid t) → member_count t < size → CanRead m f L t x → Derivable f L (Requires (Equals v (after m t x)))
+      behind_equal : (t : Term) (x : Symbol) → Derivable f L (IsValid t) → member_count t < size → CanRead m f L t x
+          → Derivable f L (Requires (Equals v (after m t x)))
           → Derivable f L (Requires (Equals t r)) → symbol_cmp x (MemberSymbol k) ≡ Less → Earlier (Requires (Equals (after m t x) z))
       behind_equal t (ProtoSymbol p) o l h s e y = shorter_case t o l s
       behind_equal t LayoutSymbol o l h s e y = shorter_case t o l s
@@ -199,7 +217,8 @@ module _ (m : Symbols) (f : TermFacts) (ps : List ParamId) (list : List TermRequ
           → Derivable f L (Requires (Equals v (read_on m x (s ++ (y ∷ []))))) → Derivable f L (Requires (Equals (read_on m x e) r))
           → Earlier (Requires (Equals (read_on m x (s ++ (y ∷ []))) z))
       less_case x e s y hx lead vx rd less g1 g2 = elim (less_cases (s ++ (y ∷ [])) (e ++ (MemberSymbol k ∷ [])) less) [
-        | inl h ↦ (let a : member_count (read_on m x (s ++ (y ∷ []))) ≤ member_count x + length (s ++ (y ∷ [])) = no_more_members m x (s ++ (y ∷ [])) in
+        | inl h ↦ (let a : member_count (read_on m x (s ++ (y ∷ []))) ≤ member_count x + length (s ++ (y ∷ [])) =
+            no_more_members m x (s ++ (y ∷ [])) in
             shorter_case (read_on m x (s ++ (y ∷ []))) (sides_of g1).1 (omega (arith, o, length-append e (MemberSymbol k ∷ []))) g1)
         | inr (len, h) ↦ same_length (omega (arith, len, length-append e (MemberSymbol k ∷ []), length-append s (y ∷ []))) h
       ]
@@ -207,27 +226,32 @@ module _ (m : Symbols) (f : TermFacts) (ps : List ParamId) (list : List TermRequ
           o : member_count r ≡ member_count x + length e
           o = leads_longer m f ps list x r e lead
 
-          same_length : length s ≡ length e → SymbolsLess (s ++ (y ∷ [])) (e ++ (MemberSymbol k ∷ [])) → Earlier (Requires (Equals (read_on m x (s ++ (y ∷ []))) z))
+          same_length : length s ≡ length e → SymbolsLess (s ++ (y ∷ [])) (e ++ (MemberSymbol k ∷ []))
+              → Earlier (Requires (Equals (read_on m x (s ++ (y ∷ []))) z))
           same_length len h =
               let (rs, ry) = last_read m f L x s y rd in
               let vt : Derivable f L (IsValid (read_on m x s)) = valid_reading m f L x s vx rs in
               let a : member_count (read_on m x s) ≤ member_count x + length s = no_more_members m x s in
               let p : member_count r ≡ member_count x + length e = o in
               let eq : read_on m x (s ++ (y ∷ [])) ≡ after m (read_on m x s) y = read_on-push m x s y in
-              let g3 : Derivable f L (Requires (Equals v (after m (read_on m x s) y))) = subst (λ t. Derivable f L (Requires (Equals v t))) eq g1 in
+              let g3 : Derivable f L (Requires (Equals v (after m (read_on m x s) y))) =
+              subst (λ t. Derivable f L (Requires (Equals v t))) eq g1 in
               subst (λ t. Earlier (Requires (Equals t z))) (sym eq)
               (elim (symbols_in_parts s e (y ∷ []) (MemberSymbol k ∷ []) len h) [
                 | inl j ↦ behind_earlier (read_on m x s) y vt (omega arith) ry g3 (less_word x e s hx len j rs)
                 | inr (es, j) ↦ elim (less_at y (MemberSymbol k) [] [] j) [
-                  | inl w ↦ behind_equal (read_on m x s) y vt (omega arith) ry g3 (subst (λ t. Derivable f L (Requires (Equals (read_on m x t) r))) (sym es) g2) w
+                  | inl w ↦ behind_equal (read_on m x s) y vt (omega arith) ry g3
+                      (subst (λ t. Derivable f L (Requires (Equals (read_on m x t) r))) (sym es) g2) w
                   | inr w ↦ (let none_left = w.1 in cc)
                 ]
               ])
 
       module _ (named : AreMembersNamed m f) (cuts : (w : Word) → IsWordOfText m w → Cut m f L Outside w) where
         -- The end e of u and then k are minimal, and begin with a member symbol j that is read after x.
-        end_follows : (x : Term) (e : Word) (j : ℕ) (w : Word) → BeginsAs m f L x e u → Leads m f ps list x e r → e ++ (MemberSymbol k ∷ []) ≡ MemberSymbol j ∷ w
-            → CanRead m f L x (MemberSymbol j) → IsReduced f L x → IsMinimal C (e ++ (MemberSymbol k ∷ [])) → Earlier (Requires (Equals z v))
+        end_follows : (x : Term) (e : Word) (j : ℕ) (w : Word) → BeginsAs m f L x e u → Leads m f ps list x e r
+            → e ++ (MemberSymbol k ∷ []) ≡ MemberSymbol j ∷ w
+            → CanRead m f L x (MemberSymbol j) → IsReduced f L x → IsMinimal C (e ++ (MemberSymbol k ∷ []))
+            → Earlier (Requires (Equals z v))
         end_follows x e j w hx lead eq cj bx minimal =
             let o : member_count r ≡ member_count x + length e = leads_longer m f ps list x r e lead in
             let whole : Word = e ++ (MemberSymbol k ∷ []) in
@@ -238,7 +262,8 @@ module _ (m : Symbols) (f : TermFacts) (ps : List ParamId) (list : List TermRequ
             = subst (λ y. HasReading m f (SelfOf P) y) (sym eq) (minimal_read m f ps list text named cuts j w
             (subst (λ y. IsWordOfText m y) eq of_text) (subst (λ y. IsMinimal C y) eq minimal)) in
             let (s, c0, ls) = least whole in
-            let less : WordLess s whole = elim (ls whole (turn_all c0)) [ inl h ↦ absurd (minimal.not_least (subst (IsLeast C) (sym h) ls)) | inr h ↦ h ] in
+            let less : WordLess s whole =
+            elim (ls whole (turn_all c0)) [ inl h ↦ absurd (minimal.not_least (subst (IsLeast C) (sym h) ls)) | inr h ↦ h ] in
             let (rs, g) = chain_leads m f text.symbols (SelfOf P) (chain_over m f ps list text.symbols P c0 rd) rd in
             let (_, _, a1) = to_self m f P text.symbols whole rd in
             let (_, rs1, a2) = to_self m f P text.symbols s rs in
@@ -246,7 +271,8 @@ module _ (m : Symbols) (f : TermFacts) (ps : List ParamId) (list : List TermRequ
             = subst₂ (λ y y'. Derivable f (SelfOf P) (Requires (Equals y y'))) a1 a2 g in
             let rx : CanReadAll m f L x s = read_behind m f ps list text.symbols x P cj.1 self s rs1 in
             let al : Shorter (Requires (Equals (read_on m x e) r))
-            = reads_as m f ps list size x r x e lead b (omega arith) (by_one f ps (IsShorter f ps list size) (valid_by_shorter f ps list size x bx (omega arith)) (λ rs v. reflex v)) in
+            = reads_as m f ps list size x r x e lead b (omega arith)
+            (by_one f ps (IsShorter f ps list size) (valid_by_shorter f ps list size x bx (omega arith)) (λ rs v. reflex v)) in
             let read_whole : read_on m x whole ≡ Member (read_on m x e) (Name (name_of m k)) = read_on-push m x e (MemberSymbol k) in
             let s1 : Shorter (Requires (Equals v (read_on m x whole)))
             = subst (λ y. Shorter (Requires (Equals v y))) (sym read_whole)
@@ -254,7 +280,8 @@ module _ (m : Symbols) (f : TermFacts) (ps : List ParamId) (list : List TermRequ
             (λ rs h y. trans (assoc_bind h i.declares) (symm (same_name h y i.declares)))) in
             let s2 : Shorter (Requires (Equals (read_on m x whole) (read_on m x s)))
             = by_one f ps (IsShorter f ps list size) (conformance m f ps list size x P bx cj.1 (omega arith))
-            (λ rs h. subst₂ (λ y y'. Derivable f (Written ps rs) (Requires (Equals y y'))) (read_on-for_self m x self whole) (read_on-for_self m x self s)
+            (λ rs h. subst₂ (λ y y'. Derivable f (Written ps rs) (Requires (Equals y y'))) (read_on-for_self m x self whole)
+            (read_on-for_self m x self s)
             (stands_for_self f (Written ps rs) x P (Requires (Equals (read_on m self whole) (read_on m self s))) h gs)) in
             let s3 : Shorter (Requires (Equals v (read_on m x s))) = by_two f ps (IsShorter f ps list size) s1 s2 (λ rs h y. trans h y) in
             by_two f ps IsEarlierType (earlier s3) (by_end s rs less rx (holds s3) (holds al)) (λ rs h y. symm (trans h y))
@@ -263,11 +290,13 @@ module _ (m : Symbols) (f : TermFacts) (ps : List ParamId) (list : List TermRequ
             holds {st = st} h = follows_in_list f ps list (IsShorter f ps list size) st (λ x o. o.0) h
 
             by_end : (s : Word) → HasReading m f (SelfOf (proto_of m j)) s → WordLess s (e ++ (MemberSymbol k ∷ [])) → CanReadAll m f L x s
-                → Derivable f L (Requires (Equals v (read_on m x s))) → Derivable f L (Requires (Equals (read_on m x e) r)) → Earlier (Requires (Equals (read_on m x s) z))
+                → Derivable f L (Requires (Equals v (read_on m x s))) → Derivable f L (Requires (Equals (read_on m x e) r))
+                → Earlier (Requires (Equals (read_on m x s) z))
             by_end s rs less rx g1 g2 = elim (by_last s) [
               | inl h ↦ absurd (subst (λ y. HasReading m f (SelfOf (proto_of m j)) y) h rs)
               | inr (t, y, h) ↦ subst (λ w. Earlier (Requires (Equals (read_on m x w) z))) (sym h)
-                  (less_case x e t y hx lead (reduced_valid bx) (subst (λ w. CanReadAll m f L x w) h rx) (subst (λ w. WordLess w (e ++ (MemberSymbol k ∷ []))) h less)
+                  (less_case x e t y hx lead (reduced_valid bx) (subst (λ w. CanReadAll m f L x w) h rx)
+                  (subst (λ w. WordLess w (e ++ (MemberSymbol k ∷ []))) h less)
                   (subst (λ w. Derivable f L (Requires (Equals v (read_on m x w)))) h g1) g2)
             ]
 
@@ -285,7 +314,8 @@ module _ (m : Symbols) (f : TermFacts) (ps : List ParamId) (list : List TermRequ
             at_symbol : (x : Symbol) (e : Word) → IsMinimal C ((x ∷ e) ++ (MemberSymbol k ∷ [])) → HasTypeAt m f ps list r u (x ∷ e)
                 → IsSettled m f ps list text named cuts least firsts (Equals z v)
             at_symbol (MemberSymbol j) e l (t, ht, ld) =
-                inr (end_follows t (MemberSymbol j ∷ e) j (e ++ (MemberSymbol k ∷ [])) ht ld refl ld.1 (part_reduced m f ps list t r (MemberSymbol j ∷ e) ld b) l)
+                inr (end_follows t (MemberSymbol j ∷ e) j (e ++ (MemberSymbol k ∷ [])) ht ld refl ld.1
+                (part_reduced m f ps list t r (MemberSymbol j ∷ e) ld b) l)
             at_symbol (ProtoSymbol j) e l (t, ht, ld) = absurd ld
             at_symbol (ParamSymbol j y) e l (t, ht, ld) = absurd ld
             at_symbol (NameSymbol j) e l (t, ht, ld) = absurd ld
@@ -304,7 +334,13 @@ module _ (m : Symbols) (f : TermFacts) (ps : List ParamId) (list : List TermRequ
                         (joined (equal_spells m f ps list text v z q.equal []) (turn_all (stands_for m f ps list text z y hy))),
                     ly,
                   ),
-                  ((sides_of q.equal).1, (sides_of q.equal).0, (λ e. differ (sym e)), hy, (u, MemberSymbol k, name_of m k, refl, hu, (c.0, refl), i)),
+                  (
+                    (sides_of q.equal).1,
+                    (sides_of q.equal).0,
+                    (λ e. differ (sym e)),
+                    hy,
+                    (u, MemberSymbol k, name_of m k, refl, hu, (c.0, refl), i),
+                  ),
                 )
             by_front (g ∷ before) [] h l = inr (end_follows r [] k [] hu refl refl c b l)
             by_front (g ∷ before) (x ∷ e) h l = at_symbol x e l (type_of_part m f ps list r u (g ∷ before) (x ∷ e) hu h (omega arith))

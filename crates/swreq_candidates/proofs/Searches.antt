@@ -52,7 +52,8 @@ pub least_member : {X : Type 0} (Q : X → Type 0) → ((x : X) → Dec (Q x)) �
 least_member Q d size [] = inr (λ x h q. no_member x h)
 least_member {X} Q d size (y ∷ xs) = elim (d y) [
   | no n ↦ elim (least_member Q d size xs) [
-    | inl (x, h, q, l) ↦ inl (x, later_member y x xs h, q, λ z i p. elim (member_cases y z xs i) [ inl e ↦ absurd (n (subst Q e p)) | inr k ↦ l z k p ])
+    | inl (x, h, q, l) ↦
+        inl (x, later_member y x xs h, q, λ z i p. elim (member_cases y z xs i) [ inl e ↦ absurd (n (subst Q e p)) | inr k ↦ l z k p ])
     | inr none ↦ inr (λ x h q. elim (member_cases y x xs h) [ inl e ↦ n (subst Q e q) | inr k ↦ none x k q ])
   ]
   | yes q ↦ elim (least_member Q d size xs) [
@@ -89,5 +90,6 @@ least_member {X} Q d size (y ∷ xs) = elim (d y) [
 ]
 
 -- some member has the property, or none has it
-pub some_member : {X : Type 0} (Q : X → Type 0) → ((x : X) → Dec (Q x)) → (xs : List X) → ((x : X) × Contains xs x × Q x) ⊎ ((x : X) → Contains xs x → Q x → ⊥)
+pub some_member : {X : Type 0} (Q : X → Type 0) → ((x : X) → Dec (Q x)) → (xs : List X)
+    → ((x : X) × Contains xs x × Q x) ⊎ ((x : X) → Contains xs x → Q x → ⊥)
 some_member Q d xs = elim (least_member Q d (λ x. 0) xs) [ inl (x, h, q, l) ↦ inl (x, h, q) | inr none ↦ inr none ]

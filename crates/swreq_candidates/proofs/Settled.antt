@@ -78,7 +78,8 @@ module _ (m : Symbols) (f : TermFacts) (ps : List ParamId) (list : List TermRequ
   -- a word of a type that is not reduced is not least
   pub not_least : (v r : Term) (w : Word) → IsTypeOf m f L w v → IsReducedTypeOf f L v r → (v ≡ r → ⊥) → IsLeast C w → ⊥
   not_least v r w h q d l =
-      d (reduced_is_one f L v v r (type_is_reduced m f ps list text.symbols text.of_text text.in_text text.ranked v v w (sides_of q.equal).0 (turn_all (stands_for v w h)) l h) q)
+      d (reduced_is_one f L v v r (type_is_reduced m f ps list text.symbols text.of_text text.in_text text.ranked v v w (sides_of q.equal).0
+      (turn_all (stands_for v w h)) l h) q)
 
   pub member_of_text : (t : Term) (k : ℕ) → CanRead m f L t (MemberSymbol k) → IsSymbolOfText m (MemberSymbol k)
   member_of_text t k c = (c.0, (chained_usable m text.symbols text.of_text text.in_text c.1).0)
@@ -101,7 +102,8 @@ module _ (m : Symbols) (f : TermFacts) (ps : List ParamId) (list : List TermRequ
       | inr b ↦ no (λ h. none_less C w v h c b)
     ]
 
-    type_of : (t : Term) → Derivable f L (IsValid t) → (r : Term) × IsReducedTypeOf f L t r × ((v : Word) × IsTypeOf m f L v r × IsLeast C v)
+    type_of : (t : Term) → Derivable f L (IsValid t)
+        → (r : Term) × IsReducedTypeOf f L t r × ((v : Word) × IsTypeOf m f L v r × IsLeast C v)
     type_of t e =
         let (v, c, l) = least (spell m L t []) in
         let (r, h) = some_type m f ps list text.symbols text.of_text text.in_text text.ranked firsts t v e c l in
@@ -147,13 +149,15 @@ module _ (m : Symbols) (f : TermFacts) (ps : List ParamId) (list : List TermRequ
       HasMemberEnd x u = (before w : Word) × (k : ℕ) × (u ≡ before ++ (MemberSymbol k ∷ w)) × (0 < length before)
           × CanReadAll m f (SelfOf (proto_of m k)) self ((MemberSymbol k ∷ w) ++ (x ∷ []))
 
-      member_end : (x : Symbol) (r : Term) (u before e : Word) → IsSymbolOfText m x → IsLeast C (x ∷ []) → IsTypeOf m f L u r → u ≡ before ++ e → 0 < length before
+      member_end : (x : Symbol) (r : Term) (u before e : Word) → IsSymbolOfText m x → IsLeast C (x ∷ []) → IsTypeOf m f L u r
+          → u ≡ before ++ e → 0 < length before
           → IsMinimal C (e ++ (x ∷ [])) → HasMemberEnd x u
       unfolding Leads
       member_end x r u before [] o s h i some l = absurd (l.not_least s)
       member_end x r u before (y ∷ e) o s h i some l = at_symbol y i l (type_of_part m f ps list r u before (y ∷ e) h i some)
         where
-          at_symbol : (y : Symbol) → u ≡ before ++ (y ∷ e) → IsMinimal C ((y ∷ e) ++ (x ∷ [])) → HasTypeAt m f ps list r u (y ∷ e) → HasMemberEnd x u
+          at_symbol : (y : Symbol) → u ≡ before ++ (y ∷ e) → IsMinimal C ((y ∷ e) ++ (x ∷ []))
+              → HasTypeAt m f ps list r u (y ∷ e) → HasMemberEnd x u
           at_symbol (MemberSymbol k) i l (t, g, d) =
               let c : HasReading m f (SelfOf (proto_of m k)) (MemberSymbol k ∷ (e ++ (x ∷ [])))
               = minimal_read k (e ++ (x ∷ [])) (push_of_text m (MemberSymbol k ∷ e) x (leads_of_text t r (MemberSymbol k ∷ e) d) o) l in
@@ -164,7 +168,8 @@ module _ (m : Symbols) (f : TermFacts) (ps : List ParamId) (list : List TermRequ
           at_symbol LayoutSymbol i l (t, g, d) = absurd d
 
       -- where a symbol after the least word of a type vanishes
-      vanishes : (x : Symbol) (r : Term) (u : Word) → IsSymbolOfText m x → IsLeast C (x ∷ []) → IsTypeOf m f L u r → IsLeast C u → C (u ++ (x ∷ [])) u
+      vanishes : (x : Symbol) (r : Term) (u : Word) → IsSymbolOfText m x → IsLeast C (x ∷ []) → IsTypeOf m f L u r
+          → IsLeast C u → C (u ++ (x ∷ [])) u
           → IsMinimal C (u ++ (x ∷ [])) ⊎ HasMemberEnd x u
       vanishes x r u o s h l c = elim (minimal_end (UsableEquation m f L) (leasts least firsts) x u l) [
         | inl k ↦ absurd (none_less C (u ++ (x ∷ [])) u k c (by_length u (u ++ (x ∷ [])) (omega (arith, length-append u (x ∷ [])))))
@@ -175,21 +180,27 @@ module _ (m : Symbols) (f : TermFacts) (ps : List ParamId) (list : List TermRequ
           by_front [] e i k = inl (subst (λ w. IsMinimal C (w ++ (x ∷ []))) (sym i) k)
           by_front (y ∷ before) e i k = inr (member_end x r u (y ∷ before) e o s h i (omega arith) k)
 
-      pub conformance_settled : (r : Term) (p : ProtoId) → IsReduced f L r → Derivable f L (Requires (Conforms r p)) → IsSettled (Conforms r p)
+      pub conformance_settled : (r : Term) (p : ProtoId) → IsReduced f L r → Derivable f L (Requires (Conforms r p))
+          → IsSettled (Conforms r p)
       conformance_settled r p c d =
           let (u, h, l) = least_word least firsts r c in
           let q : C (u ++ (ProtoSymbol p.rank ∷ [])) u
-          = joined (stands r u h (ProtoSymbol p.rank ∷ [])) (joined (conf_chain m f ps list text.symbols text.of_text text.in_text text.ranked r p d []) (turn_all (stands_for r u h))) in
-          elim (vanishes (ProtoSymbol p.rank) r u (chained_usable m text.symbols text.of_text text.in_text d).0 (proto_least m f ps list p) h l q) [
+          = joined (stands r u h (ProtoSymbol p.rank ∷ []))
+          (joined (conf_chain m f ps list text.symbols text.of_text text.in_text text.ranked r p d []) (turn_all (stands_for r u h))) in
+          elim (vanishes (ProtoSymbol p.rank) r u (chained_usable m text.symbols text.of_text text.in_text d).0
+          (proto_least m f ps list p) h l q) [
             | inl k ↦ inl (u ++ (ProtoSymbol p.rank ∷ []), u, (k, q, l), (sides_of d, h, refl))
-            | inr (before, w, k, i, some, s) ↦ inr (shorter_is_earlier f ps list r (member_count r) (omega arith) (conformance_follows m f ps list r p u before w k c h i some s))
+            | inr (before, w, k, i, some, s) ↦ inr (shorter_is_earlier f ps list r (member_count r) (omega arith)
+                (conformance_follows m f ps list r p u before w k c h i some s))
           ]
 
       pub layout_settled : (r : Term) → IsReduced f L r → Derivable f L (Requires (IsAnyObject r)) → IsSettled (IsAnyObject r)
       layout_settled r c d =
           let (u, h, l) = least_word least firsts r c in
-          let q : C (u ++ (LayoutSymbol ∷ [])) u = joined (stands r u h (LayoutSymbol ∷ [])) (joined ((chained_usable m text.symbols text.of_text text.in_text d).1 []) (turn_all (stands_for r u h))) in
+          let q : C (u ++ (LayoutSymbol ∷ [])) u = joined (stands r u h (LayoutSymbol ∷ []))
+          (joined ((chained_usable m text.symbols text.of_text text.in_text d).1 []) (turn_all (stands_for r u h))) in
           elim (vanishes LayoutSymbol r u tt (layout_least m f ps list) h l q) [
             | inl k ↦ inl (u ++ (LayoutSymbol ∷ []), u, (k, q, l), (sides_of d, h, refl))
-            | inr (before, w, k, i, some, s) ↦ inr (shorter_is_earlier f ps list r (member_count r) (omega arith) (layout_follows m f ps list r u before w k c h i some s))
+            | inr (before, w, k, i, some, s) ↦
+                inr (shorter_is_earlier f ps list r (member_count r) (omega arith) (layout_follows m f ps list r u before w k c h i some s))
           ]

@@ -34,10 +34,12 @@ module _ (f : TermFacts) (ps : List ParamId) (list : List TermRequirement) where
     | yes i ↦ by_one f ps S h (λ rs e. subst (λ x. Derivable f (Written ps rs) (Requires (Equals w x))) i (reflex e))
     | no i ↦ (let c : IsCanonical f L (Equals r w) = (symm q.equal, (o, not_reduced q i, q)) in
         by_one f ps S (itself f ps S (Equals r w) (own c)
-        (wider_sides f ps (IsOfEarlierType f ps list w) S (Equals r w) earlier (sides_by_earlier f ps list (Equals r w) c))) (λ rs e. symm e))
+        (wider_sides f ps (IsOfEarlierType f ps list w) S (Equals r w) earlier (sides_by_earlier f ps list (Equals r w) c)))
+        (λ rs e. symm e))
   ]
 
-  earlier_is_shorter : (n : ℕ) (w : Term) → member_count w < n → (q : TermRequirement) → IsOfEarlierType f ps list w q → IsShorter f ps list n q
+  earlier_is_shorter : (n : ℕ) (w : Term) → member_count w < n → (q : TermRequirement) → IsOfEarlierType f ps list w q
+      → IsShorter f ps list n q
   earlier_is_shorter n w h q (c, inl b) = (c, omega arith)
   earlier_is_shorter n w h q (c, inr b) = (c, let e = b.0 in omega arith)
 
@@ -49,12 +51,14 @@ module _ (f : TermFacts) (ps : List ParamId) (list : List TermRequirement) where
     abbrev pub Reduces : Term → Type 0
     Reduces t = (r : Term) × IsReducedTypeOf f L t r × Follows f ps S (Requires (Equals t r))
 
-    principal_reduces : (w : Term) → Derivable f L (IsValid w) → member_count w < n → CanBePrincipal f L w → Follows f ps S (IsValid w) → Reduces w
+    principal_reduces : (w : Term) → Derivable f L (IsValid w) → member_count w < n → CanBePrincipal f L w
+        → Follows f ps S (IsValid w) → Reduces w
     principal_reduces w v l o h =
         let (r, q) = reduce w v in (r, q, principal_follows S w r (earlier_is_shorter n w l) (λ c. (c, l)) q o h)
 
     -- the bound member of a reduced type
-    bound_reduces : (r : Term) (p : ProtoId) (a : NameId) (d : AssocId) → Declares f p a d → member_count r + 1 < n → Derivable f L (Requires (Conforms r p)) → IsReduced f L r
+    bound_reduces : (r : Term) (p : ProtoId) (a : NameId) (d : AssocId) → Declares f p a d → member_count r + 1 < n
+        → Derivable f L (Requires (Conforms r p)) → IsReduced f L r
         → Follows f ps S (Requires (Conforms r p)) × Reduces (Member r (Bound d))
     bound_reduces r p a d h l c b =
         let w = shorter_conformance f ps list n r p b c (omega arith) (valid_by_shorter f ps list n r b (omega arith)) in

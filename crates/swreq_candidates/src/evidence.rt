@@ -16,20 +16,27 @@ ghost use Rattle.swreq_candidates.specs.Evidence.{IsPlain, RestEquation, HasEvid
 /// Where every type of the rest is plain in it, evidence for a requirement whose type parameters are valid from the rest allows one to drop
 /// it. So it is for a generator where all generators before it are in the rest, as they are where one goes from the last to the first.
 pub fn evidence_is_enough()
-    ensures derives { (m : Symbols) (f : TermFacts) (params : List ParamId) (rest : List TermRequirement) (r : TermRequirement)
-        → AreSymbolsOf m f → AreOfText m f → IsInText m (Written params rest) → IsPlain f params rest
-        → HasValidSides f (Written params rest) r → HasEvidence m f params rest r → Derivable f (Written params rest) (Requires r) }
-    ensures drops { (m : Symbols) (f : TermFacts) (params : List ParamId) (list generators front after left : List TermRequirement)
+    ensures derives { (m : Symbols) (f : TermFacts) (params : List ParamId)
+        (rest : List TermRequirement) (r : TermRequirement)
+        → AreSymbolsOf m f → AreOfText m f
+        → IsInText m (Written params rest) → IsPlain f params rest
+        → HasValidSides f (Written params rest) r → HasEvidence m f params rest r
+        → Derivable f (Written params rest) (Requires r) }
+    ensures drops { (m : Symbols) (f : TermFacts) (params : List ParamId)
+        (list generators front after left : List TermRequirement)
         (r : TermRequirement)
         → AreSymbolsOf m f → AreOfText m f → IsInText m (Written params list)
         → AreGeneratorsTold f params list → IsGeneratorList f params list generators
-        → generators ≡ front ++ r ∷ after → ((q : TermRequirement) → Contains left q → Contains after q)
+        → generators ≡ front ++ r ∷ after
+        → ((q : TermRequirement) → Contains left q → Contains after q)
         → IsPlain f params (front ++ left) → HasEvidence m f params (front ++ left) r
         → Derivable f (Written params (front ++ left)) (Requires r) }
 {}
 
 /// Steps by rules of the protocols and of the rest, forth and back, are links of evidence.
 pub fn steps_are_evidence()
-    ensures { (m : Symbols) (f : TermFacts) (params : List ParamId) (rest : List TermRequirement) (rules : List Rule) (u v : Word)
-        → AreRulesOfRest m f params rest rules → Linked (Step rules) u v → Linking (RestEquation m f params rest) u v }
+    ensures { (m : Symbols) (f : TermFacts) (params : List ParamId) (rest : List TermRequirement)
+        (rules : List Rule) (u v : Word)
+        → AreRulesOfRest m f params rest rules → Linked (Step rules) u v
+        → Linking (RestEquation m f params rest) u v }
 {}

@@ -19,10 +19,12 @@ ghost use Rattle.swreq_candidates.specs.Worked.{read_word, broken_word, layouts_
 /// alone, and a protocol after it begins a block of its own. The conformance of T is a candidate.
 pub fn members_without_end()
     ensures named { AreMembersNamed endless_symbols endless }
-    ensures one { (k : Cut endless_symbols endless (of_one endless_f) Outside read_word) × (blocks k ≡ read_word ∷ []) }
+    ensures one { (k : Cut endless_symbols endless (of_one endless_f) Outside read_word)
+        × (blocks k ≡ read_word ∷ []) }
     ensures three { (k : Cut endless_symbols endless (of_one endless_f) Outside broken_word)
         × (blocks k ≡ (first_param ∷ []) ∷ (Name 0 ∷ []) ∷ (Proto 0 ∷ []) ∷ []) }
-    ensures conformance { IsCandidate endless_symbols endless (of_one endless_f) (Conforms τ_0_0 N) }
+    ensures conformance { IsCandidate endless_symbols endless
+        (of_one endless_f) (Conforms τ_0_0 N) }
 {}
 
 /// `protocol P: AnyObject { }` and `func f<T: P, U>() where U == T`: the layout of T is a candidate, and so is the equality with the
@@ -30,21 +32,24 @@ pub fn members_without_end()
 pub fn equal_parameters()
     ensures layout { IsCandidate layouts_symbols layouts (of_two layouts_f) (IsAnyObject τ_0_0) }
     ensures equality { IsCandidate layouts_symbols layouts (of_two layouts_f) (Equals τ_0_0 τ_0_1) }
-    ensures turned { IsCandidate layouts_symbols layouts (of_two layouts_f) (Equals τ_0_1 τ_0_0) → ⊥ }
+    ensures turned { IsCandidate layouts_symbols layouts (of_two layouts_f) (Equals τ_0_1 τ_0_0)
+        → ⊥ }
 {}
 
 /// `protocol P { associatedtype A }`, `protocol Q { associatedtype A }` and `func f<T: P & Q>()`: the rule `T.[Q:A] => T.[P:A]` says
 /// nothing, since the bound member of its left side has the least associated type, which is that of its right side.
 pub fn one_name_in_two_protocols()
     ensures nothing { (r : TermRequirement)
-        → IsReadOff shared_symbols shared (of_one shared_f) (first_param ∷ Member 1 ∷ []) (first_param ∷ Member 0 ∷ []) r → ⊥ }
+        → IsReadOff shared_symbols shared (of_one shared_f) (first_param ∷ Member 1 ∷ [])
+        (first_param ∷ Member 0 ∷ []) r → ⊥ }
 {}
 
 /// `protocol Base { }`, `protocol Derived: Base { }` and `func g<T: Derived>()`: evidence that the conformance of T to `Base` follows
 /// leads by way of `T.[Derived].[Base]`.
 pub fn conformance_by_inheritance()
     ensures plain { IsPlain inherited one inherited_g }
-    ensures evidence { HasEvidence inherited_symbols inherited one inherited_g (Conforms τ_0_0 Base) }
+    ensures evidence { HasEvidence inherited_symbols inherited one
+        inherited_g (Conforms τ_0_0 Base) }
 {}
 
 /// `protocol Q { }`, `protocol P { associatedtype A: Q }` and `func f<T: P, U: Q>() where T.A == U`: evidence that the conformance of U

@@ -39,12 +39,14 @@ module _ (f : TermFacts) (ps : List ParamId) (list : List TermRequirement) where
     before_up : (r : TermRequirement) {st : TermStatement} → Follows f ps (Before r) st → Follows f ps (UpTo r) st
     before_up r h = wider f ps (Before r) (UpTo r) (λ q i. (i.0, inr i.1)) h
 
-    by_earlier : (r : TermRequirement) → IsCanonical f L r → ((q : TermRequirement) → IsEarlier f L r q → Follows f ps (Before r) (Requires q))
+    by_earlier : (r : TermRequirement) → IsCanonical f L r
+        → ((q : TermRequirement) → IsEarlier f L r q → Follows f ps (Before r) (Requires q))
         → Follows f ps (UpTo r) (Requires r)
     by_earlier r c each = elim (covers r c) [
       | inr h ↦ before_up r (cut f ps (IsEarlier f L r) (Before r) each h)
       | inl h ↦ itself f ps (UpTo r) r (h, inl refl)
-          (cut_sides f ps (IsOfEarlierType f ps list (principal r)) (UpTo r) r (λ q i. before_up r (each q (i.0, inl i.1))) (sides_by_earlier f ps list r c))
+          (cut_sides f ps (IsOfEarlierType f ps list (principal r)) (UpTo r) r (λ q i. before_up r (each q (i.0, inl i.1)))
+          (sides_by_earlier f ps list r c))
     ]
 
     up_to : {r : TermRequirement} → IsAccessible RequirementBefore r → IsCanonical f L r → Follows f ps (UpTo r) (Requires r)
@@ -65,7 +67,8 @@ module _ (f : TermFacts) (ps : List ParamId) (list : List TermRequirement) where
       → Derivable f (Written ps rs) st → Derivable f L st
   derived_by_list rs canonical st e = derives_members f ps rs list (λ r h. (canonical r h).0) st e
 
-  pub follows_in_list : (S : TermRequirement → Type 0) (st : TermStatement) → ((r : TermRequirement) → S r → IsCanonical f L r) → Follows f ps S st → Derivable f L st
+  pub follows_in_list : (S : TermRequirement → Type 0) (st : TermStatement) → ((r : TermRequirement) → S r → IsCanonical f L r)
+      → Follows f ps S st → Derivable f L st
   follows_in_list S st canonical (rs, k, e) = derived_by_list rs (λ r h. canonical r (k r h)) st e
 
   -- ---- the generators
@@ -74,7 +77,8 @@ module _ (f : TermFacts) (ps : List ParamId) (list : List TermRequirement) where
   one_generator_list gs hs g h =
       one_list gs hs g.sorted h.sorted (λ r. ((λ i. (h.members r).1 ((g.members r).0 i)), λ i. (g.members r).1 ((h.members r).0 i)))
 
-  pub generators_derive : (gs : List TermRequirement) → HasReducedTypes f L → AreGeneratorsTold f ps list → IsGeneratorList f ps list gs → AreEquivalent f ps list gs
+  pub generators_derive : (gs : List TermRequirement) → HasReducedTypes f L → AreGeneratorsTold f ps list → IsGeneratorList f ps list gs
+      → AreEquivalent f ps list gs
   generators_derive gs reduce told g st = (
     (λ e. covers_all gs (λ r c. elim (told r c) [ inl h ↦ inl ((g.members r).1 h) | inr h ↦ inr h ]) reduce st e),
     λ e. derived_by_list gs (λ r h. ((g.members r).0 h).0) st e,

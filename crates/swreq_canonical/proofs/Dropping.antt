@@ -26,7 +26,8 @@ module _ (f : TermFacts) (ps : List ParamId) where
   abbrev D : List TermRequirement → TermStatement → Type 0
   D rs st = Derivable f (Written ps rs) st
 
-  pub were_there : {front rest out : List TermRequirement} → Leaves f ps front rest out → (q : TermRequirement) → Contains out q → Contains rest q
+  pub were_there : {front rest out : List TermRequirement} → Leaves f ps front rest out → (q : TermRequirement)
+      → Contains out q → Contains rest q
   were_there nothing q h = h
   were_there (dropped {rest = rest} {r = r} l d) q h = later_member r q rest (were_there l q h)
   were_there (kept {rest = rest} {out = out} {r = r} l n) q h = elim (member_cases r q out h) [
@@ -57,7 +58,8 @@ module _ (f : TermFacts) (ps : List ParamId) where
   )
 
   -- what is left, with what stands before it, derives what all derived
-  left_derives : {front rest out : List TermRequirement} → Leaves f ps front rest out → (st : TermStatement) → D (front ++ rest) st → D (front ++ out) st
+  left_derives : {front rest out : List TermRequirement} → Leaves f ps front rest out → (st : TermStatement)
+      → D (front ++ rest) st → D (front ++ out) st
   left_derives nothing st e = e
   left_derives (dropped {front = front} {rest = rest} {out = out} {r = r} l d) st e =
       (without_one front out r d st).0 (subst (λ z. D z st) (append_assoc front (r ∷ []) out)
@@ -70,11 +72,13 @@ module _ (f : TermFacts) (ps : List ParamId) where
   same_left l st = ((λ e. left_derives l st e), λ e. weaken (were_there l) e)
 
   -- none that is kept is derivable from the others
-  left_independent : {front rest out : List TermRequirement} → Leaves f ps front rest out → (a b : List TermRequirement) (r : TermRequirement) → out ≡ a ++ (r ∷ b)
+  left_independent : {front rest out : List TermRequirement} → Leaves f ps front rest out
+      → (a b : List TermRequirement) (r : TermRequirement) → out ≡ a ++ (r ∷ b)
       → D (front ++ (a ++ b)) (Requires r) → ⊥
   left_independent nothing [] b r e d = cc
   left_independent nothing (x ∷ a) b r e d = cc
-  left_independent (dropped {front = front} {r = x} l k) a b r e d = left_independent l a b r e (weaken (λ q h. more_members front (a ++ b) x q h) d)
+  left_independent (dropped {front = front} {r = x} l k) a b r e d =
+      left_independent l a b r e (weaken (λ q h. more_members front (a ++ b) x q h) d)
   left_independent (kept {front = front} {r = x} l n) [] b r e d =
       n (subst (λ z. D (front ++ z) (Requires x)) (sym (same_tails e)) (subst (λ z. D (front ++ b) (Requires z)) (sym (same_heads e)) d))
   left_independent (kept {front = front} {r = x} l n) (y ∷ a) b r e d =
@@ -93,7 +97,8 @@ module _ (f : TermFacts) (ps : List ParamId) where
 
   -- Where it is decided what lists of some requirements derive, one can drop from them.
   pub some_left : (all front rest : List TermRequirement) → ((r : TermRequirement) → Contains front r → Contains all r)
-      → ((r : TermRequirement) → Contains rest r → Contains all r) → AreDecided f ps all → (out : List TermRequirement) × Leaves f ps front rest out
+      → ((r : TermRequirement) → Contains rest r → Contains all r) → AreDecided f ps all
+      → (out : List TermRequirement) × Leaves f ps front rest out
   some_left all front [] a b decided = ([], nothing)
   some_left all front (r ∷ rest) a b decided =
       let (out, l) = some_left all (front ++ (r ∷ [])) rest

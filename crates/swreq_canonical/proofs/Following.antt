@@ -40,7 +40,8 @@ module _ (f : TermFacts) (ps : List ParamId) (S : TermRequirement → Type 0) wh
   valid_by_more rs qs (Equals t u) sub h = (weaken sub h.0, weaken sub h.1)
 
   -- what follows from one statement, or from two, that follow
-  pub by_one : {a b : TermStatement} → Follows f ps S a → ((rs : List TermRequirement) → Derivable f (Written ps rs) a → Derivable f (Written ps rs) b)
+  pub by_one : {a b : TermStatement} → Follows f ps S a
+      → ((rs : List TermRequirement) → Derivable f (Written ps rs) a → Derivable f (Written ps rs) b)
       → Follows f ps S b
   by_one (rs, c, e) rule = (rs, c, rule rs e)
 
@@ -100,7 +101,8 @@ module _ (f : TermFacts) (ps : List ParamId) (S T : TermRequirement → Type 0) 
   cut {st = st} each (rs, s, e) =
       let (qs, t, d) = all_follow f ps T rs (λ r h. each r (s r h)) in (qs, t, derives_members f ps rs qs d st e)
 
-  pub cut_sides : (r : TermRequirement) → ((q : TermRequirement) → S q → Follows f ps T (Requires q)) → HasFollowingSides f ps S r → HasFollowingSides f ps T r
+  pub cut_sides : (r : TermRequirement) → ((q : TermRequirement) → S q → Follows f ps T (Requires q)) → HasFollowingSides f ps S r
+      → HasFollowingSides f ps T r
   cut_sides (Conforms t p) each h = cut each h
   cut_sides (IsAnyObject t) each h = cut each h
   cut_sides (Equals t u) each (h, k) = (cut each h, cut each k)

@@ -124,7 +124,8 @@ module _ (f : TermFacts) (s : Source) where
 -- ---- strictly sorted lists
 
 -- with the same members they are one
-pub one_list : (xs ys : List TermRequirement) → IsStrictlySorted xs → IsStrictlySorted ys → ((r : TermRequirement) → Contains xs r ↔ Contains ys r) → xs ≡ ys
+pub one_list : (xs ys : List TermRequirement) → IsStrictlySorted xs → IsStrictlySorted ys
+    → ((r : TermRequirement) → Contains xs r ↔ Contains ys r) → xs ≡ ys
 one_list [] [] s o e = refl
 one_list [] (y ∷ ys) s o e = no_member y ((e y).1 (first_member y ys))
 one_list (x ∷ xs) [] s o e = no_member x ((e x).0 (first_member x xs))

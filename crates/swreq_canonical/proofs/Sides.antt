@@ -28,7 +28,8 @@ module _ (f : TermFacts) (ps : List ParamId) (list : List TermRequirement) where
   abbrev pub IsShorter : ℕ → TermRequirement → Type 0
   IsShorter n r = IsCanonical f L r × (member_count (principal r) < n)
 
-  pub shorter_conformance : (n : ℕ) (t : Term) (p : ProtoId) → IsReduced f L t → Derivable f L (Requires (Conforms t p)) → member_count t < n
+  pub shorter_conformance : (n : ℕ) (t : Term) (p : ProtoId) → IsReduced f L t
+      → Derivable f L (Requires (Conforms t p)) → member_count t < n
       → Follows f ps (IsShorter n) (IsValid t) → Follows f ps (IsShorter n) (Requires (Conforms t p))
   shorter_conformance n t p r c g v = itself f ps (IsShorter n) (Conforms t p) ((c, r), g) v
 
@@ -38,13 +39,15 @@ module _ (f : TermFacts) (ps : List ParamId) (list : List TermRequirement) where
   valid_by_shorter n (Member t (Bound d)) r h =
       let (p, a, c, o) = valid_bound (reduced_valid r) in
       let b = base_reduced t d r in
-      by_one f ps (IsShorter n) (shorter_conformance n t p b c (omega arith) (valid_by_shorter n t b (omega arith))) (λ rs e. assoc_decl e o)
+      by_one f ps (IsShorter n) (shorter_conformance n t p b c (omega arith) (valid_by_shorter n t b (omega arith)))
+      (λ rs e. assoc_decl e o)
 
   -- canonical, with a principal type before t
   abbrev pub IsOfEarlierType : Term → TermRequirement → Type 0
   IsOfEarlierType t r = IsCanonical f L r × TermBefore (principal r) t
 
-  pub shorter_is_earlier : (t : Term) (n : ℕ) {st : TermStatement} → n ≤ member_count t → Follows f ps (IsShorter n) st → Follows f ps (IsOfEarlierType t) st
+  pub shorter_is_earlier : (t : Term) (n : ℕ) {st : TermStatement} → n ≤ member_count t → Follows f ps (IsShorter n) st
+      → Follows f ps (IsOfEarlierType t) st
   shorter_is_earlier t n g h = wider f ps (IsShorter n) (IsOfEarlierType t) (λ r i. (i.0, inl (let x = i.1 in omega arith))) h
 
   reduced_by_earlier : (t r : Term) → IsReduced f L r → member_count r ≤ member_count t → Follows f ps (IsOfEarlierType t) (IsValid r)
@@ -68,6 +71,7 @@ module _ (f : TermFacts) (ps : List ParamId) (list : List TermRequirement) where
       let (p, a, c, h) = valid_bound (sides_of q.equal).0 in (
         reduced_by_earlier (Member t (Bound d)) u (result_reduced q) (no_longer (Member t (Bound d)) u q),
         shorter_is_earlier (Member t (Bound d)) n (omega arith)
-            (by_one f ps (IsShorter n) (shorter_conformance n t p b c (omega arith) (valid_by_shorter n t b (omega arith))) (λ rs e. assoc_decl e h)),
+            (by_one f ps (IsShorter n) (shorter_conformance n t p b c (omega arith) (valid_by_shorter n t b (omega arith)))
+            (λ rs e. assoc_decl e h)),
       )
   sides_by_earlier (Equals u (Member t (Name a))) (_, (b, x, q)) = absurd b

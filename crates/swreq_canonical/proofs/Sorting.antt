@@ -11,7 +11,8 @@ abbrev Sorted : TermRequirement → List TermRequirement → Type 0
 Sorted x xs = (out : List TermRequirement) × IsStrictlySorted out × ((r : TermRequirement) → Contains out r ↔ Contains (x ∷ xs) r)
 
 module _ (f : TermFacts) (s : Source) where
-  insert : (x : TermRequirement) (xs : List TermRequirement) → IsCanonical f s x → ((r : TermRequirement) → Contains xs r → IsCanonical f s r) → IsStrictlySorted xs → Sorted x xs
+  insert : (x : TermRequirement) (xs : List TermRequirement) → IsCanonical f s x
+      → ((r : TermRequirement) → Contains xs r → IsCanonical f s r) → IsStrictlySorted xs → Sorted x xs
   insert x [] c each sorted = (x ∷ [], ((λ q h. no_member q h), tt), λ r. ((λ h. h), λ h. h))
   insert x (y ∷ ys) c each sorted = elim (canonical_total f s x y c (each y (first_member y ys))) [
     | inl b ↦ (x ∷ y ∷ ys, (first b, sorted), λ r. ((λ h. h), λ h. h))
@@ -38,7 +39,11 @@ module _ (f : TermFacts) (s : Source) where
       behind : RequirementBefore y x → Sorted x ys → Sorted x (y ∷ ys)
       behind b (out, s, same) = (
         y ∷ out,
-        ((λ q h. elim (member_cases x q ys ((same q).0 h)) [ inl e ↦ subst (λ z. RequirementBefore y z) (sym e) b | inr i ↦ sorted.0 q i ]), s),
+        (
+          (λ q h.
+              elim (member_cases x q ys ((same q).0 h)) [ inl e ↦ subst (λ z. RequirementBefore y z) (sym e) b | inr i ↦ sorted.0 q i ]),
+          s,
+        ),
         λ r. (
           (λ h. elim (member_cases y r out h) [
             | inl e ↦ later_member x r (y ∷ ys) (subst (λ z. Contains (y ∷ ys) z) (sym e) (first_member y ys))

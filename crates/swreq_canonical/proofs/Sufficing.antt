@@ -33,7 +33,8 @@ module _ (f : TermFacts) (ps : List ParamId) (list : List TermRequirement) (redu
   Holds st = Follows f ps C st
 
   valid : (t : Term) → IsReduced f L t → Holds (IsValid t)
-  valid t r = wider f ps (IsShorter f ps list (member_count t)) C (λ q h. h.0) (valid_by_shorter f ps list (member_count t) t r (omega arith))
+  valid t r =
+      wider f ps (IsShorter f ps list (member_count t)) C (λ q h. h.0) (valid_by_shorter f ps list (member_count t) t r (omega arith))
 
   conformance : (t : Term) (p : ProtoId) → IsReduced f L t → Derivable f L (Requires (Conforms t p)) → Holds (Requires (Conforms t p))
   conformance t p r c = itself f ps C (Conforms t p) (c, r) (valid t r)
@@ -42,7 +43,8 @@ module _ (f : TermFacts) (ps : List ParamId) (list : List TermRequirement) (redu
   layout t r c = itself f ps C (IsAnyObject t) (c, r) (valid t r)
 
   -- what can be a principal type equals its reduced type
-  of_principal : (v r : Term) → IsReducedTypeOf f L v r → CanBePrincipal f L v → Holds (IsValid v) → Dec (v ≡ r) → Holds (Requires (Equals v r))
+  of_principal : (v r : Term) → IsReducedTypeOf f L v r → CanBePrincipal f L v → Holds (IsValid v) → Dec (v ≡ r)
+      → Holds (Requires (Equals v r))
   of_principal v r q o h (yes e) = by_one f ps C h (λ rs d. subst (λ x. Derivable f (Written ps rs) (Requires (Equals v x))) e (reflex d))
   of_principal v r q o h (no n) =
       by_one f ps C (itself f ps C (Equals r v) (symm q.equal, (o, not_reduced q n, q)) (valid r (result_reduced q), h)) (λ rs d. symm d)
@@ -60,7 +62,8 @@ module _ (f : TermFacts) (ps : List ParamId) (list : List TermRequirement) (redu
       (r, record { equal = trans e q.equal; least = λ u x y. q.least u (trans (symm e) x) y }, by_two f ps C h k (λ rs d i. trans d i))
 
   -- the bound member of the base's reduced type, and the conformance by which it is valid
-  bound_reduces : (t r : Term) (p : ProtoId) (a : NameId) (d : AssocId) → Declares f p a d → IsReducedTypeOf f L t r → Derivable f L (Requires (Conforms t p))
+  bound_reduces : (t r : Term) (p : ProtoId) (a : NameId) (d : AssocId) → Declares f p a d → IsReducedTypeOf f L t r
+      → Derivable f L (Requires (Conforms t p))
       → Reduces (Member r (Bound d)) × Holds (Requires (Conforms r p))
   bound_reduces t r p a d h q c =
       let b = result_reduced q in

@@ -18,13 +18,15 @@ use Rattle.swreq_canonical.proofs.Ordered.{strict_requirements, transitive_requi
 abbrev AreBefore : List TermRequirement → List TermRequirement → Type 0
 AreBefore xs ys = (x y : TermRequirement) → Contains xs x → Contains ys y → RequirementBefore x y
 
-push_before : (xs ys : List TermRequirement) (r : TermRequirement) → AreBefore xs (r ∷ ys) → IsStrictlySorted (r ∷ ys) → AreBefore (xs ++ (r ∷ [])) ys
+push_before : (xs ys : List TermRequirement) (r : TermRequirement) → AreBefore xs (r ∷ ys) → IsStrictlySorted (r ∷ ys)
+    → AreBefore (xs ++ (r ∷ [])) ys
 push_before xs ys r b s x y h i = elim (Contains-push_cases xs r x h) [
   | inl k ↦ b x y k (later_member r y ys i)
   | inr e ↦ subst (λ z. RequirementBefore z y) e (s.0 y i)
 ]
 
-push_sorted : (xs : List TermRequirement) (r : TermRequirement) → IsStrictlySorted xs → ((x : TermRequirement) → Contains xs x → RequirementBefore x r)
+push_sorted : (xs : List TermRequirement) (r : TermRequirement) → IsStrictlySorted xs
+    → ((x : TermRequirement) → Contains xs x → RequirementBefore x r)
     → IsStrictlySorted (xs ++ (r ∷ []))
 push_sorted [] r s b = ((λ q h. no_member q h), tt)
 push_sorted (x ∷ xs) r s b = (
@@ -38,15 +40,18 @@ module _ (f : TermFacts) (ps : List ParamId) where
   stay (skipped d e) r h = stay e r h
   stay (taken {before = before} {r = x} n e) r h = stay e r (Contains-append_left before (x ∷ []) r h)
 
-  from : {before rest out : List TermRequirement} → Takes f ps before rest out → (r : TermRequirement) → Contains out r → Contains before r ⊎ Contains rest r
+  from : {before rest out : List TermRequirement} → Takes f ps before rest out → (r : TermRequirement) → Contains out r
+      → Contains before r ⊎ Contains rest r
   from ended r h = inl h
   from (skipped {rest = rest} {r = x} d e) r h = elim (from e r h) [ inl i ↦ inl i | inr i ↦ inr (later_member x r rest i) ]
   from (taken {before = before} {rest = rest} {r = x} n e) r h = elim (from e r h) [
-    | inl i ↦ elim (Contains-push_cases before x r i) [ inl k ↦ inl k | inr k ↦ inr (subst (λ z. Contains (x ∷ rest) z) k (first_member x rest)) ]
+    | inl i ↦
+        elim (Contains-push_cases before x r i) [ inl k ↦ inl k | inr k ↦ inr (subst (λ z. Contains (x ∷ rest) z) k (first_member x rest)) ]
     | inr i ↦ inr (later_member x r rest i)
   ]
 
-  sorted_out : {before rest out : List TermRequirement} → Takes f ps before rest out → IsStrictlySorted rest → AreBefore before rest → IsStrictlySorted before
+  sorted_out : {before rest out : List TermRequirement} → Takes f ps before rest out → IsStrictlySorted rest → AreBefore before rest
+      → IsStrictlySorted before
       → IsStrictlySorted out
   sorted_out ended s b g = g
   sorted_out (skipped {rest = rest} {r = x} d e) s b g = sorted_out e s.1 (λ p q i j. b p q i (later_member x q rest j)) g
@@ -59,7 +64,8 @@ module _ (f : TermFacts) (ps : List ParamId) where
     pub are_out : (q : TermRequirement) → Contains so_far q → Contains out q
     pub are_before : (q : TermRequirement) → Contains so_far q → RequirementBefore q r
     pub are_all : (q : TermRequirement) → Contains out q → RequirementBefore q r → Contains so_far q
-    pub outcome : (Derivable f (Written ps so_far) (Requires r) × (Contains out r → ⊥)) ⊎ ((Derivable f (Written ps so_far) (Requires r) → ⊥) × Contains out r)
+    pub outcome : (Derivable f (Written ps so_far) (Requires r) × (Contains out r → ⊥))
+        ⊎ ((Derivable f (Written ps so_far) (Requires r) → ⊥) × Contains out r)
 
   -- of what is taken, only what was taken before comes before the next candidate
   none_later : (before rest out : List TermRequirement) (r : TermRequirement) → IsStrictlySorted (r ∷ rest)
@@ -73,7 +79,8 @@ module _ (f : TermFacts) (ps : List ParamId) where
     ]
   ]
 
-  turn : {before rest out : List TermRequirement} → Takes f ps before rest out → (r : TermRequirement) → IsStrictlySorted rest → AreBefore before rest → Contains rest r → Turn out r
+  turn : {before rest out : List TermRequirement} → Takes f ps before rest out → (r : TermRequirement) → IsStrictlySorted rest
+      → AreBefore before rest → Contains rest r → Turn out r
   turn ended r s b h = no_member r h
   turn (skipped {before = before} {rest = rest} {out = out} {r = x} d e) r s b h = elim (member_cases x r rest h) [
     | inl i ↦ subst (λ z. Turn out z) (sym i) (record {
@@ -102,7 +109,8 @@ module _ (f : TermFacts) (ps : List ParamId) where
     | inr i ↦ turn e r s.1 (push_before before rest x b s) i
   ]
 
-  module _ (list candidates out : List TermRequirement) (enough : AreEnough f ps list candidates) (takes : Takes f ps [] candidates out) where
+  module _ (list candidates out : List TermRequirement) (enough : AreEnough f ps list candidates)
+      (takes : Takes f ps [] candidates out) where
     abbrev L : Source
     L = Written ps list
 
@@ -149,12 +157,14 @@ module _ (f : TermFacts) (ps : List ParamId) where
 
   -- Where it is decided what lists of candidates derive, one can go through them.
   pub some_taken : (all before rest : List TermRequirement) → ((r : TermRequirement) → Contains before r → Contains all r)
-      → ((r : TermRequirement) → Contains rest r → Contains all r) → AreDecided f ps all → (out : List TermRequirement) × Takes f ps before rest out
+      → ((r : TermRequirement) → Contains rest r → Contains all r) → AreDecided f ps all
+      → (out : List TermRequirement) × Takes f ps before rest out
   some_taken all before [] b c decided = (before, ended)
   some_taken all before (r ∷ rest) b c decided = elim (decided before r b) [
     | yes d ↦ (let (out, e) = some_taken all before rest b (λ q h. c q (later_member r q rest h)) decided in (out, skipped d e))
     | no n ↦ (let (out, e) = some_taken all (before ++ (r ∷ [])) rest
-        (λ q h. elim (Contains-push_cases before r q h) [ inl i ↦ b q i | inr i ↦ subst (λ z. Contains all z) i (c r (first_member r rest)) ])
+        (λ q h.
+        elim (Contains-push_cases before r q h) [ inl i ↦ b q i | inr i ↦ subst (λ z. Contains all z) i (c r (first_member r rest)) ])
         (λ q h. c q (later_member r q rest h)) decided in
         (out, taken n e))
   ]
@@ -165,5 +175,6 @@ module _ (f : TermFacts) (ps : List ParamId) where
       let (out, e) = some_taken candidates [] candidates (λ r h. no_member r h) (λ r h. h) decided in
       (out, e, generator_list list candidates out enough e)
 
-  pub are_candidates : {candidates out : List TermRequirement} → Takes f ps [] candidates out → (r : TermRequirement) → Contains out r → Contains candidates r
+  pub are_candidates : {candidates out : List TermRequirement} → Takes f ps [] candidates out → (r : TermRequirement)
+      → Contains out r → Contains candidates r
   are_candidates t r h = elim (from t r h) [ inl i ↦ no_member r i | inr i ↦ i ]

@@ -26,7 +26,8 @@ pub fn conformance_by_inheritance()
 /// are not canonical. The layout is, but it is not a generator, since it follows from the conformance. The conformance and the equality are
 /// the generators, and both are left.
 pub fn equal_parameters()
-    ensures canonical { (r : TermRequirement) → Contains layouts_canonical r → IsCanonical layouts (of_two layouts_f) r }
+    ensures canonical { (r : TermRequirement) → Contains layouts_canonical r
+        → IsCanonical layouts (of_two layouts_f) r }
     ensures sorted { IsStrictlySorted layouts_canonical }
     ensures of_greater { IsCanonical layouts (of_two layouts_f) (Conforms τ_0_1 P) → ⊥ }
     ensures greater_on_left { IsCanonical layouts (of_two layouts_f) (Equals τ_0_1 τ_0_0) → ⊥ }
@@ -40,9 +41,12 @@ pub fn equal_parameters()
 /// `protocol P { associatedtype A }`, `protocol Q { associatedtype A }` and `func f<T: P & Q>()`: the equality of the two bound members is
 /// canonical, but it is not a generator, since it follows from the conformances. That of a bound and an unbound member is not canonical.
 pub fn one_name_in_two_protocols()
-    ensures bounds { IsCanonical shared (of_one shared_f) (Equals (bound τ_0_0 A_of_P) (bound τ_0_0 A_of_Q)) }
-    ensures unbound { IsCanonical shared (of_one shared_f) (Equals (bound τ_0_0 A_of_P) (τ_0_0 · A)) → ⊥ }
-    ensures no_generator { IsGenerator shared one shared_f (Equals (bound τ_0_0 A_of_P) (bound τ_0_0 A_of_Q)) → ⊥ }
+    ensures bounds { IsCanonical shared (of_one shared_f)
+        (Equals (bound τ_0_0 A_of_P) (bound τ_0_0 A_of_Q)) }
+    ensures unbound { IsCanonical shared (of_one shared_f) (Equals (bound τ_0_0 A_of_P) (τ_0_0 · A))
+        → ⊥ }
+    ensures no_generator { IsGenerator shared one shared_f
+        (Equals (bound τ_0_0 A_of_P) (bound τ_0_0 A_of_Q)) → ⊥ }
 {
     swreq_derive::worked::one_name_in_two_protocols();
 }

@@ -85,7 +85,8 @@ ones_count (suc d) n h =
     = λ j l. ap (λ b. nat_eq b 1) (ap (λ x. bit_at x j) (sym whole) ∙ bit_at_cat_low (n / 2 ^ d) d (n % 2 ^ d) j l) in
     let lower = count_same (λ j. nat_eq (bit_at n j) 1) (λ j. nat_eq (bit_at (n % 2 ^ d) j) 1) d same ∙ ones_count d (n % 2 ^ d) low in
     let upper = ones_low (n / 2 ^ d) top in
-    (λ i. lower i + upper i) ∙ plus_comm (ones (n % 2 ^ d)) (ones (n / 2 ^ d)) ∙ sym (ones_cat d (n / 2 ^ d) (n % 2 ^ d) low) ∙ ap ones whole
+    (λ i. lower i + upper i) ∙ plus_comm (ones (n % 2 ^ d)) (ones (n / 2 ^ d))
+    ∙ sym (ones_cat d (n / 2 ^ d) (n % 2 ^ d) low) ∙ ap ones whole
 
 -- ---- numbers of two sets
 
@@ -122,7 +123,8 @@ module _ (words other : List ℕ) where
       let word = bit_and (get_or words k 0) (get_or other k 0) in
       let size : 64 * (k + 1) ≡ 64 * k + 64 = omega arith in
       ap (count_below test) size ∙ count_parts test (64 * k) 64
-      ∙ ap (λ c. count_below test (64 * k) + c) (count_same (λ j. test (64 * k + j)) (λ j. nat_eq (bit_at word j) 1) 64 (λ j l. word_bits k j l) ∙ ones_count 64 word h)
+      ∙ ap (λ c. count_below test (64 * k) + c)
+      (count_same (λ j. test (64 * k + j)) (λ j. nat_eq (bit_at word j) 1) 64 (λ j l. word_bits k j l) ∙ ones_count 64 word h)
 
   pub count_step : (k w v count : ℕ) → k < length words → k < length other → w ≡ get_or words k w → v ≡ get_or other k v → w < 2 ^ 64
       → count ≡ count_below (λ j. has words j && has other j) (64 * k)
@@ -152,7 +154,8 @@ module _ (words other : List ℕ) where
   -- after the last word of either set
   pub count_all : (k : ℕ) → k ≡ min (length words) (length other)
       → count_below (λ j. has words j && has other j) (64 * k) ≡ count_below (λ j. has words j && has other j) (room other)
-  count_all k e = count_ends (λ j. has words j && has other j) (64 * k) (room other) (from (least (length words) (length other) k e)) none_right
+  count_all k e =
+      count_ends (λ j. has words j && has other j) (64 * k) (room other) (from (least (length words) (length other) k e)) none_right
     where
       from : (k ≡ length words) ⊎ (k ≡ length other) → (j : ℕ) → 64 * k ≤ j → (has words j && has other j) ≡ false
       from (inl e) j h = none_left j (subst (λ n. 64 * n ≤ j) e h)
@@ -168,18 +171,22 @@ module _ (words : List ℕ) where
       (λ i. nat_eq (bit_at (get_or words (at i) 0) (bit i)) 1)
 
   -- one word more
-  pub count_alone : (k : ℕ) → get_or words k 0 < 2 ^ 64 → count_below (has words) (64 * (k + 1)) ≡ count_below (has words) (64 * k) + ones (get_or words k 0)
+  pub count_alone : (k : ℕ) → get_or words k 0 < 2 ^ 64
+      → count_below (has words) (64 * (k + 1)) ≡ count_below (has words) (64 * k) + ones (get_or words k 0)
   count_alone k h =
       let size : 64 * (k + 1) ≡ 64 * k + 64 = omega arith in
       ap (count_below (has words)) size ∙ count_parts (has words) (64 * k) 64
       ∙ ap (λ c. count_below (has words) (64 * k) + c)
-      (count_same (λ j. has words (64 * k + j)) (λ j. nat_eq (bit_at (get_or words k 0) j) 1) 64 (alone_bits k) ∙ ones_count 64 (get_or words k 0) h)
+      (count_same (λ j. has words (64 * k + j)) (λ j. nat_eq (bit_at (get_or words k 0) j) 1) 64 (alone_bits k)
+      ∙ ones_count 64 (get_or words k 0) h)
 
   -- the words that are whole below a bound, as far as there are words
-  pub count_whole : (whole bound : ℕ) → whole ≡ min (length words) (bound / 64) → count_below (has words) (64 * whole) ≡ count_below (has words) (bound / 64 * 64)
+  pub count_whole : (whole bound : ℕ) → whole ≡ min (length words) (bound / 64)
+      → count_below (has words) (64 * whole) ≡ count_below (has words) (bound / 64 * 64)
   count_whole whole bound e = from (least words words (length words) (bound / 64) whole e)
     where
-      from : (whole ≡ length words) ⊎ (whole ≡ bound / 64) → count_below (has words) (64 * whole) ≡ count_below (has words) (bound / 64 * 64)
+      from : (whole ≡ length words) ⊎ (whole ≡ bound / 64)
+          → count_below (has words) (64 * whole) ≡ count_below (has words) (bound / 64 * 64)
       from (inl s) =
           count_ends (has words) (64 * whole) (bound / 64 * 64) (λ j h. none_past words j (subst (λ n. 64 * n ≤ j) s h))
           (λ j h. none_past words j (omega (arith, e, s, h)))

@@ -25,7 +25,13 @@ module _ (rules : List Rule) (f s : Rule) (i j at : ℕ) (fi : RuleAt rules i f)
   pair_of (inr o) apart = (
     f.right,
     o.before ++ (s.right ++ o.after),
-    record { first = f; second = s; first_at = fi; second_at = sj; kind = inr (apart, record { containment = o; left_is = refl; right_is = refl }) },
+    record {
+      first = f;
+      second = s;
+      first_at = fi;
+      second_at = sj;
+      kind = inr (apart, record { containment = o; left_is = refl; right_is = refl });
+    },
   )
 
 meets_of : (f s : Rule) (at : ℕ) (l r : List Symbol) → OverlapPair f s at l r ⊎ ContainmentPair f s at l r → Meets f.left s.left at
@@ -35,7 +41,8 @@ meets_of f s at l r (inr o) = inr o.containment
 place_is : (p : Place) (i j : ℕ) → p.i ≡ i → p.j ≡ j → p ≡ record { i = i; j = j; at = p.at }
 place_is p i j e f = λ x. record { i = e x; j = f x; at = p.at }
 
-module _ (stored : List Entry) (rules : List Rule) (index : IsIndexOf stored rules) (k : ℕ) (rule : Rule) (is : slice_get rules k ≡ Some rule)
+module _ (stored : List Entry) (rules : List Rule) (index : IsIndexOf stored rules) (k : ℕ) (rule : Rule)
+    (is : slice_get rules k ≡ Some rule)
     (places : List Place) where
   has_pair : (p : Place) → IsPlace stored rule.left (suc k) p
       → (max p.i p.j ≡ suc k) × HasPair rules p
@@ -45,7 +52,8 @@ module _ (stored : List Entry) (rules : List Rule) (index : IsIndexOf stored rul
       let left = ap (λ (x : Entry). x.left) w.2 in
       let number : o.entry.number ≡ suc h.0 = ap (λ (x : Entry). x.number) w.2 in
       let below = o.below in
-      let q = pair_of rules w.0 rule (suc h.0) (suc k) h.1 (h.0, refl, w.1) (k, refl, is) (subst (λ x. Meets x rule.left h.1) left o.meets) (omega (arith, below, number)) in
+      let q = pair_of rules w.0 rule (suc h.0) (suc k) h.1 (h.0, refl, w.1) (k, refl, is) (subst (λ x. Meets x rule.left h.1) left o.meets)
+      (omega (arith, below, number)) in
       let e : p ≡ record { i = suc h.0; j = suc k; at = h.1 } = o.place_is ∙ ap (λ n. record { i = n; j = suc k; at = h.1 }) number in
       subst (λ (x : Place). (max x.i x.j ≡ suc k) × HasPair rules x) (sym e) (omega (arith, below, number), q)
   has_pair p (inr (inl h)) =
@@ -54,7 +62,8 @@ module _ (stored : List Entry) (rules : List Rule) (index : IsIndexOf stored rul
       let left = ap (λ (x : Entry). x.left) w.2 in
       let number : o.entry.number ≡ suc h.0 = ap (λ (x : Entry). x.number) w.2 in
       let below = o.below in
-      let q = pair_of rules rule w.0 (suc k) (suc h.0) h.1 (k, refl, is) (h.0, refl, w.1) (subst (λ x. Meets rule.left x h.1) left o.meets) (omega (arith, below, number)) in
+      let q = pair_of rules rule w.0 (suc k) (suc h.0) h.1 (k, refl, is) (h.0, refl, w.1) (subst (λ x. Meets rule.left x h.1) left o.meets)
+      (omega (arith, below, number)) in
       let e : p ≡ record { i = suc k; j = suc h.0; at = h.1 } = o.place_is ∙ ap (λ n. record { i = suc k; j = n; at = h.1 }) number in
       subst (λ (x : Place). (max x.i x.j ≡ suc k) × HasPair rules x) (sym e) (omega (arith, below, number), q)
   has_pair p (inr (inr h)) =
@@ -79,7 +88,8 @@ module _ (stored : List Entry) (rules : List Rule) (index : IsIndexOf stored rul
 
   is_place : (p : Place) (l r : List Symbol) → IsPair rules p l r → max p.i p.j ≡ suc k → IsPlace stored rule.left (suc k) p
   is_place p l r q e =
-      let kinds : OverlapPair q.first q.second p.at l r ⊎ ContainmentPair q.first q.second p.at l r = elim q.kind [ inl o ↦ inl o | inr o ↦ inr o.1 ] in
+      let kinds : OverlapPair q.first q.second p.at l r ⊎ ContainmentPair q.first q.second p.at l r =
+      elim q.kind [ inl o ↦ inl o | inr o ↦ inr o.1 ] in
       let m = meets_of q.first q.second p.at l r kinds in
       let a = q.first_at in
       let b = q.second_at in
@@ -117,7 +127,8 @@ module _ (stored : List Entry) (rules : List Rule) (index : IsIndexOf stored rul
                     p.at,
                     record {
                       overlap = elim q.kind [
-                        | inl o ↦ subst (λ (z : Rule). Overlap z.left rule.left p.at) same (subst (λ (z : Rule). Overlap q.first.left z.left p.at) (is_rule p.j q.second b j) o.overlap)
+                        | inl o ↦ subst (λ (z : Rule). Overlap z.left rule.left p.at) same
+                            (subst (λ (z : Rule). Overlap q.first.left z.left p.at) (is_rule p.j q.second b j) o.overlap)
                         | inr o ↦ absurd (o.0 (i ∙ sym j))
                       ];
                       place_is = place_is p (suc k) (suc k) i j;
@@ -126,8 +137,10 @@ module _ (stored : List Entry) (rules : List Rule) (index : IsIndexOf stored rul
             ])
       ]
 
-  pub are_all : (greater : ℕ) → greater ≡ suc k → (left : List Symbol) → left ≡ rule.left → ArePlaces stored left greater places → AreAllPlaces rules greater places
-  are_all greater g left s a = subst (λ n. AreAllPlaces rules n places) (sym g) (all_of (subst (λ x. ArePlaces stored x (suc k) places) s (subst (λ n. ArePlaces stored left n places) g a)))
+  pub are_all : (greater : ℕ) → greater ≡ suc k → (left : List Symbol) → left ≡ rule.left → ArePlaces stored left greater places
+      → AreAllPlaces rules greater places
+  are_all greater g left s a = subst (λ n. AreAllPlaces rules n places) (sym g)
+      (all_of (subst (λ x. ArePlaces stored x (suc k) places) s (subst (λ n. ArePlaces stored left n places) g a)))
     where
       all_of : ArePlaces stored rule.left (suc k) places → AreAllPlaces rules (suc k) places
       all_of b = record {

@@ -39,11 +39,13 @@ events_grown : (old new : List Rule) (told told' told'' : Option (List Event)) �
     → Grown old new told' told'' → GrewBy told told'' (events (length old) new)
 events_grown old new told told' told'' s g =
     let e : drop (length old) new ≡ g.more = ap (drop (length old)) g.new_is ∙ drop-append_seam old g.more in
-    subst (λ x. GrewBy told told'' (Start (length old) ∷ map Born x)) (sym e) (grew_on told told' told'' (Start (length old) ∷ []) (map Born g.more) s g.told_is)
+    subst (λ x. GrewBy told told'' (Start (length old) ∷ map Born x)) (sym e)
+    (grew_on told told' told'' (Start (length old) ∷ []) (map Born g.more) s g.told_is)
 
 module _ (limits : Limits) (given : List (List Symbol × List Symbol)) (base : List Rule) (told told' told'' : Option (List Event))
     (start : GrewBy told told' (Start (length base) ∷ [])) where
-  pub memory_told : (t : List Rule) → IsWithin limits (length base) given t → Grown base t told' told'' → TellsEvents limits base given told told'' (Err Memory)
+  pub memory_told : (t : List Rule) → IsWithin limits (length base) given t → Grown base t told' told''
+      → TellsEvents limits base given told told'' (Err Memory)
   memory_told t w g = inr (t, over_grown base t told' told'' g, w, events_grown base t told told' told'' start g)
 
 ended_complete : (base : List Rule) (given : List (List Symbol × List Symbol)) (limits : Limits) (new : List Rule) → AreInRange limits
@@ -55,7 +57,8 @@ ended_complete base given limits new range c o e = record {
 }
 
 -- the same along the names that the code has for the base and its length
-module _ (limits : Limits) (given : List (List Symbol × List Symbol)) (base list : List Rule) (count : ℕ) (told told' told'' : Option (List Event))
+module _ (limits : Limits) (given : List (List Symbol × List Symbol)) (base list : List Rule) (count : ℕ)
+    (told told' told'' : Option (List Event))
     (new : List Rule) (same : list ≡ base) (counted : count ≡ length base) (start : GrewBy told told' (Start count ∷ [])) where
   begun : GrewBy told told' (Start (length base) ∷ [])
   begun = subst (λ n. GrewBy told told' (Start n ∷ [])) counted start
@@ -64,12 +67,16 @@ module _ (limits : Limits) (given : List (List Symbol × List Symbol)) (base lis
   grown t = subst (λ (x : List Rule). Grown x t told' told'') same
 
   pub ok_answer : EndsWithin limits count given new × Grown list new told' told''
-      → IsAnswer limits base given (Ok new) × TellsEvents limits base given told told'' (Ok new) × (AreInRange limits → IsComplete list → IsComplete new)
+      → IsAnswer limits base given (Ok new) × TellsEvents limits base given told told'' (Ok new)
+      × (AreInRange limits → IsComplete list → IsComplete new)
   ok_answer d =
       let e : EndsWithin limits (length base) given new = subst (λ n. EndsWithin limits n given new) counted d.0 in
       let g = grown new d.1 in
-      let o = over_grown base new told' told'' g in
-      ((o, e), events_grown base new told told' told'' begun g, λ range c. ended_complete base given limits new range (subst IsComplete same c) o e)
+      let o = over_grown base new told' told'' g in (
+        (o, e),
+        events_grown base new told told' told'' begun g,
+        λ range c. ended_complete base given limits new range (subst IsComplete same c) o e,
+      )
 
   pub limit_answer : (which : Which) → Passes limits count given new which × Grown list new told' told''
       → IsAnswer limits base given (Err (Limit which new)) × TellsEvents limits base given told told'' (Err (Limit which new))
@@ -78,19 +85,24 @@ module _ (limits : Limits) (given : List (List Symbol × List Symbol)) (base lis
       let g = grown new d.1 in
       ((over_grown base new told' told'' g, e), events_grown base new told told' told'' begun g)
 
-  pub memory_answer : (t : List Rule) × IsWithin limits count given t × Grown list t told' told'' → TellsEvents limits base given told told'' (Err Memory)
-  memory_answer d = memory_told limits given base told told' told'' begun d.0 (subst (λ n. IsWithin limits n given d.0) counted d.1) (grown d.0 d.2)
+  pub memory_answer : (t : List Rule) × IsWithin limits count given t × Grown list t told' told''
+      → TellsEvents limits base given told told'' (Err Memory)
+  memory_answer d =
+      memory_told limits given base told told' told'' begun d.0 (subst (λ n. IsWithin limits n given d.0) counted d.1) (grown d.0 d.2)
 
   pub passed_answer : (which : Which) → Passes limits count given new which × Grown list new told' told'' → (failed : Failed)
       → (failed ≡ Limit which new) ⊎ (failed ≡ Memory)
       → IsAnswer limits base given (Err failed) × TellsEvents limits base given told told'' (Err failed)
   passed_answer which d failed (inl e) =
-      subst (λ (x : Failed). IsAnswer limits base given (Err x) × TellsEvents limits base given told told'' (Err x)) (sym e) (limit_answer which d)
+      subst (λ (x : Failed). IsAnswer limits base given (Err x) × TellsEvents limits base given told told'' (Err x))
+      (sym e) (limit_answer which d)
   passed_answer which d failed (inr e) =
-      subst (λ (x : Failed). IsAnswer limits base given (Err x) × TellsEvents limits base given told told'' (Err x)) (sym e) (tt, memory_answer (new, d.0.within, d.1))
+      subst (λ (x : Failed). IsAnswer limits base given (Err x) × TellsEvents limits base given told told'' (Err x)) (sym e)
+      (tt, memory_answer (new, d.0.within, d.1))
 
 -- what reduction and the search for the reduced system give over complete rules
-pub reduces_least : (rules : List Rule) → IsComplete rules → (u v : List Symbol) → Reduces rules u v → Linked (Step rules) u v × IsLeast (Linked (Step rules)) v
+pub reduces_least : (rules : List Rule) → IsComplete rules → (u v : List Symbol) → Reduces rules u v
+    → Linked (Step rules) u v × IsLeast (Linked (Step rules)) v
 reduces_least rules c u v r =
     (linked_chain (all_steps rules r.steps), irreducible_least rules (locally rules c.meet) v r.irreducible)
 
@@ -98,8 +110,10 @@ pub found_reduced : (rules found : List Rule) → IsComplete rules → Found rul
 found_reduced rules found c f = is_reduced rules (locally rules c.meet) found f
 
 pub reduced_in : (rules list : List Rule) → list ≡ rules → IsComplete rules → (k : ℕ) (o : Option Rule)
-    → MatchOption o ((rule : Rule) → slice_get list k ≡ Some rule → EachFactor rule.left (IsIrreducible (Step list)) → ⊥) (IsReducedAt list k)
+    → MatchOption o
+    ((rule : Rule) → slice_get list k ≡ Some rule → EachFactor rule.left (IsIrreducible (Step list)) → ⊥) (IsReducedAt list k)
     → IsReducedOf (Linked (Step rules)) rules k o
 reduced_in rules list e c k o h =
     reduced_of rules (locally rules c.meet) k o
-    (subst (λ z. MatchOption o ((rule : Rule) → slice_get z k ≡ Some rule → EachFactor rule.left (IsIrreducible (Step z)) → ⊥) (IsReducedAt z k)) e h)
+    (subst (λ z.
+    MatchOption o ((rule : Rule) → slice_get z k ≡ Some rule → EachFactor rule.left (IsIrreducible (Step z)) → ⊥) (IsReducedAt z k)) e h)

@@ -21,7 +21,8 @@ pub index_of_none : (before : ℕ) → IsIndexAfter before [] []
 index_of_none before = record { as_many = refl; each = λ k rule e. cc }
 
 pub index_of_more : (before : ℕ) (stored more : List Entry) (rules : List Rule) (rule : Rule) → IsIndexAfter before stored rules
-    → more ≡ stored ++ (record { left = rule.left; number = suc (before + length rules) }) ∷ [] → IsIndexAfter before more (rules ++ rule ∷ [])
+    → more ≡ stored ++ (record { left = rule.left; number = suc (before + length rules) }) ∷ []
+    → IsIndexAfter before more (rules ++ rule ∷ [])
 index_of_more before stored more rules rule index e = subst (λ x. IsIndexAfter before x (rules ++ rule ∷ [])) (sym e) (record {
   as_many = simp length-append (let n = index.as_many in omega (arith, n));
   each = λ k r g. elim (get_cases rules rule k r g) [
@@ -89,19 +90,23 @@ module _ (rules : List Rule) (w : List Symbol) (at : ℕ) (earlier : NoneEarlier
   none_in_word le v s =
       let some = greater_some s.rule.right s.rule.left s.rule.down in
       let size = simp length-append at (ap length s.at.source) in
-      earlier s.at.before (s.rule.left ++ s.at.after) s.at.source (omega (arith, some, size, le)) s.is_rule.0 s.rule s.is_rule.2 (s.at.after, refl)
+      earlier s.at.before (s.rule.left ++ s.at.after) s.at.source
+      (omega (arith, some, size, le)) s.is_rule.0 s.rule s.is_rule.2 (s.at.after, refl)
 
 -- the rule of a first redex, as it is read
-pub rule_of_redex : (rules : List Rule) (w : List Symbol) (at n : ℕ) (r : Rule) → FirstRedex rules w at n → slice_get rules (n - 1) ≡ Some r → RuleAt rules n r
+pub rule_of_redex : (rules : List Rule) (w : List Symbol) (at n : ℕ) (r : Rule) → FirstRedex rules w at n
+    → slice_get rules (n - 1) ≡ Some r → RuleAt rules n r
 rule_of_redex rules w at n r p e = let some = number_some rules n p.chosen.rule p.chosen.is_rule in (n - 1, omega (arith, some), e)
 
 -- the rule that was put last, as it is read
-pub read_last : (old new all : List Rule) (rule r : Rule) (count : ℕ) → new ≡ old ++ rule ∷ [] → all ≡ new → count ≡ length old → r ≡ get_or all count r → r ≡ rule
+pub read_last : (old new all : List Rule) (rule r : Rule) (count : ℕ) → new ≡ old ++ rule ∷ [] → all ≡ new → count ≡ length old
+    → r ≡ get_or all count r → r ≡ rule
 read_last old new all rule r count e f c g =
     let m = simp length-append at (ap length e) in
     let n = ap length f in
     let h : slice_get all count ≡ Some r = slice_get_read all (length all) count r refl (omega (arith, m, n, c)) g in
-    let i : slice_get (old ++ rule ∷ []) (length old) ≡ Some r = subst (λ k. slice_get (old ++ rule ∷ []) k ≡ Some r) c (subst (λ (x : List Rule). slice_get x count ≡ Some r) (f ∙ e) h) in
+    let i : slice_get (old ++ rule ∷ []) (length old) ≡ Some r =
+    subst (λ k. slice_get (old ++ rule ∷ []) k ≡ Some r) c (subst (λ (x : List Rule). slice_get x count ≡ Some r) (f ∙ e) h) in
     let j = get_last old rule in
     cc
 
@@ -112,6 +117,7 @@ last_back (a ∷ old) [] x y e = absurd (let n = simp length-append at (ap lengt
 last_back (a ∷ old) (b ∷ new) x y e = let f = last_back old new x y (cc) in cc
 
 -- what is left where the last rule is taken away again
-pub taken_back : (o : Option Rule) (old now new : List Rule) (rule : Rule) → now ≡ old ++ rule ∷ [] → MatchOption o ((now ≡ []) × (new ≡ [])) (λ r. now ≡ new ++ r ∷ []) → new ≡ old
+pub taken_back : (o : Option Rule) (old now new : List Rule) (rule : Rule) → now ≡ old ++ rule ∷ []
+    → MatchOption o ((now ≡ []) × (new ≡ [])) (λ r. now ≡ new ++ r ∷ []) → new ≡ old
 taken_back None old now new rule e h = absurd (let n = simp length-append at (ap length (sym e ∙ h.0)) in omega (arith, n))
 taken_back (Some r) old now new rule e h = last_back old new rule r (sym e ∙ h)

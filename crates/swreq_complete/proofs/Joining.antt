@@ -36,7 +36,8 @@ module _ (base : ℕ) (equations given : List (List Symbol × List Symbol)) (tra
         | inl h ↦ (let r = get_of_map (λ (r : Rule). (r.left, r.right)) (take base trace) e.number (e.left, e.right) h in
             let l : r.0.left ≡ e.left = ap (λ p. p.0) r.2 in
             let o : r.0.right ≡ e.right = ap (λ p. p.1) r.2 in
-            let c = more_equations equations given r.0.left r.0.right (there r.0.left r.0.right (forth (by_rule (take base trace) e.number r.0 r.1) here)) in
+            let c = more_equations equations given r.0.left r.0.right
+            (there r.0.left r.0.right (forth (by_rule (take base trace) e.number r.0 r.1) here)) in
             subst (λ x. Congruent (equations ++ given) e.left x) o (subst (λ x. Congruent (equations ++ given) x r.0.right) l c))
         | inr h ↦ (let j = get_right equations given h.0 (e.left, e.right) h.2 in
             equation_congruent (equations ++ given) j.0 e.left e.right j.1)
@@ -46,12 +47,14 @@ module _ (base : ℕ) (equations given : List (List Symbol × List Symbol)) (tra
   one_back ended u v e =
       Linked-in-place e.at
       (elim (get_either equations given e.number (e.left, e.right) e.is_equation) [
-        | inl h ↦ linked_by (λ w. w) (λ a b s. forth (step_in_whole trace base a b s) here) (back e.left e.right (equation_congruent equations e.number e.left e.right h))
+        | inl h ↦ linked_by (λ w. w) (λ a b s. forth (step_in_whole trace base a b s) here)
+            (back e.left e.right (equation_congruent equations e.number e.left e.right h))
         | inr h ↦ complete base given trace ended e.left e.right (given_sound base given trace h.0 e.left e.right h.2)
       ])
 
 pub joins : (base : ℕ) (equations given : List (List Symbol × List Symbol)) (trace : List Rule) → EndedJoins base equations given trace
 joins base equations given trace ended same u v = (
-  (λ l. linked_by (λ w. w) (one_there base equations given trace (λ x y. (same x y).0) (λ x y. (same x y).1)) (sound base given trace ended.reached u v l)),
+  (λ l. linked_by (λ w. w) (one_there base equations given trace (λ x y. (same x y).0) (λ x y. (same x y).1))
+      (sound base given trace ended.reached u v l)),
   (λ c. linked_by (λ w. w) (one_back base equations given trace (λ x y. (same x y).0) (λ x y. (same x y).1) ended) c),
 )

@@ -19,13 +19,15 @@ use Rattle.swreq_complete.specs.Index.{IsIndexAfter, IsIndexOf}
 use Rattle.swreq_complete.specs.Reading.{TellNone}
 use Rattle.swreq_complete.proofs.Indexing.{of_rule, chosen_same, none_same}
 
-pub first_index : (before : ℕ) (stored : List Entry) (rules : List Rule) → before ≡ 0 → IsIndexAfter before stored rules → IsIndexOf stored rules
+pub first_index : (before : ℕ) (stored : List Entry) (rules : List Rule) → before ≡ 0 → IsIndexAfter before stored rules
+    → IsIndexOf stored rules
 first_index before stored rules e index = record {
   as_many = index.as_many;
   each = λ k rule f. index.each k rule f ∙ ap (λ n. Some (record { left = rule.left; number = suc n })) (omega (arith, e));
 }
 
-pub index_joined : (below own : List Entry) (lower upper : List Rule) (before : ℕ) → before ≡ length lower → IsIndexOf below lower → IsIndexAfter before own upper
+pub index_joined : (below own : List Entry) (lower upper : List Rule) (before : ℕ) → before ≡ length lower → IsIndexOf below lower
+    → IsIndexAfter before own upper
     → IsIndexOf (below ++ own) (lower ++ upper)
 index_joined below own lower upper before e a b = record {
   as_many = simp length-append (let n = a.as_many in let m = b.as_many in omega (arith, n, m));
@@ -34,7 +36,8 @@ index_joined below own lower upper before e a b = record {
     | inr h ↦ (let g = h.1 in let n = a.as_many in
         let place : k ≡ length below + h.0 = omega (arith, g, n) in
         let number : before + h.0 ≡ k = omega (arith, g, e) in
-        ap (slice_get (below ++ own)) place ∙ get_after below own h.0 ∙ b.each h.0 rule h.2 ∙ ap (λ i. Some (record { left = rule.left; number = suc i })) number)
+        ap (slice_get (below ++ own)) place ∙ get_after below own h.0 ∙ b.each h.0 rule h.2
+        ∙ ap (λ i. Some (record { left = rule.left; number = suc i })) number)
   ];
 }
 
@@ -45,7 +48,8 @@ module _ (below own : List Entry) (w : List Symbol) where
   none_of_both a b k entry e s = elim (get_either below own k entry e) [ inl h ↦ a k entry h s | inr h ↦ b h.0 entry h.2 s ]
 
   shortest_below : (n : ℕ) (p : Shortest below w n)
-      → ((k : ℕ) (other : Entry) → slice_get own k ≡ Some other → Begins other w → length p.entry.left ≤ length other.left) → Shortest (below ++ own) w n
+      → ((k : ℕ) (other : Entry) → slice_get own k ≡ Some other → Begins other w → length p.entry.left ≤ length other.left)
+      → Shortest (below ++ own) w n
   shortest_below n p least = record {
     side = p.side;
     entry = p.entry;
@@ -63,7 +67,8 @@ module _ (below own : List Entry) (w : List Symbol) where
   }
 
   shortest_own : (n : ℕ) (p : Shortest own w n)
-      → ((k : ℕ) (other : Entry) → slice_get below k ≡ Some other → Begins other w → length p.entry.left < length other.left) → Shortest (below ++ own) w n
+      → ((k : ℕ) (other : Entry) → slice_get below k ≡ Some other → Begins other w → length p.entry.left < length other.left)
+      → Shortest (below ++ own) w n
   shortest_own n p least = record {
     side = length below + p.side;
     entry = p.entry;
@@ -87,7 +92,8 @@ module _ (below own : List Entry) (w : List Symbol) where
     own_alone n none p = chosen_same (below ++ own) rules index w n (shortest_own n p (λ k other e b. absurd (none k other e b)))
 
     -- a stored side is that of the rule with its number
-    entry_rule : (k : ℕ) (entry : Entry) (n : ℕ) → slice_get (below ++ own) k ≡ Some entry → entry.number ≡ n → (r : Rule) × RuleAt rules n r × (entry.left ≡ r.left)
+    entry_rule : (k : ℕ) (entry : Entry) (n : ℕ) → slice_get (below ++ own) k ≡ Some entry → entry.number ≡ n
+        → (r : Rule) × RuleAt rules n r × (entry.left ≡ r.left)
     entry_rule k entry n e is =
         let o = of_rule (below ++ own) rules index k entry e in
         let number : n ≡ suc k = sym is ∙ ap (λ (x : Entry). x.number) o.2 in
@@ -124,17 +130,20 @@ module _ (below own : List Entry) (w : List Symbol) where
 
 -- ---- the longest left side
 
-pub longest_of_both : (lower upper : List Rule) (a b : ℕ) → searches.NoneLonger lower a → searches.NoneLonger upper b → searches.NoneLonger (lower ++ upper) (max b a)
+pub longest_of_both : (lower upper : List Rule) (a b : ℕ) → searches.NoneLonger lower a → searches.NoneLonger upper b
+    → searches.NoneLonger (lower ++ upper) (max b a)
 longest_of_both lower upper a b h g k rule e = elim (get_either lower upper k rule e) [
   | inl f ↦ (let l = h k rule f in omega (arith, l))
   | inr f ↦ (let l = g f.0 rule f.2 in omega (arith, l))
 ]
 
-pub longer_after : (before : ℕ) (stored : List Entry) (rules : List Rule) → IsIndexAfter before stored rules → (n : ℕ) → NoneLonger stored n → searches.NoneLonger rules n
+pub longer_after : (before : ℕ) (stored : List Entry) (rules : List Rule) → IsIndexAfter before stored rules → (n : ℕ) → NoneLonger stored n
+    → searches.NoneLonger rules n
 longer_after before stored rules index n h k rule e = h k (record { left = rule.left; number = suc (before + k) }) (index.each k rule e)
 
 -- what tells that none of either part begins
-pub both_tell : (below own : List Entry) (rules : List Rule) → IsIndexOf (below ++ own) rules → (w : List Symbol) (at first second next : ℕ) → first ≤ next → second ≤ next
+pub both_tell : (below own : List Entry) (rules : List Rule) → IsIndexOf (below ++ own) rules → (w : List Symbol) (at first second next : ℕ)
+    → first ≤ next → second ≤ next
     → sides.TellNone below w at first → sides.TellNone own w at second → TellNone rules w at next
 both_tell below own rules index w at first second next l m a b v e =
     neither below own (drop at v) rules index (a v (fewer w v first next l e)) (b v (fewer w v second next m e))
@@ -145,4 +154,5 @@ module _ (stored : List Entry) (rules : List Rule) (index : IsIndexOf stored rul
   pub alone_found : (found : Result ℕ ℕ) → MatchResult found (Shortest stored (drop at w)) (sides.TellNone stored w at)
       → MatchResult found (Chosen rules (drop at w)) (TellNone rules w at)
   alone_found found m =
-      MatchResult-weaker found m (chosen_same stored rules index (drop at w)) (λ count tell v e. none_same stored rules index (drop at v) (tell v e))
+      MatchResult-weaker found m (chosen_same stored rules index (drop at w))
+      (λ count tell v e. none_same stored rules index (drop at v) (tell v e))

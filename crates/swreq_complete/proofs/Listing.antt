@@ -31,7 +31,8 @@ rule_back : (first more : List Rule) (n : ℕ) (r : Rule) → n ≤ length first
 rule_back first more n r l a = (a.0, a.1, get_front first more a.0 r (let e = a.1 in omega (arith, e, l)) a.2)
 
 -- a pair of the first rules is one of them alone
-pair_back : (first more : List Rule) (p : Place) (l r : List Symbol) → max p.i p.j ≤ length first → IsPair (first ++ more) p l r → IsPair first p l r
+pair_back : (first more : List Rule) (p : Place) (l r : List Symbol) → max p.i p.j ≤ length first
+    → IsPair (first ++ more) p l r → IsPair first p l r
 pair_back first more p l r le q = record {
   first = q.first;
   second = q.second;
@@ -51,10 +52,11 @@ pair_on first more p l r q = record {
 }
 
 no_greater_than : (i j at u v w : ℕ) → Before (Pair i j at) (Pair u v w) → max i j ≤ max u v
-no_greater_than i j at u v w b = elim (then_less (nat_cmp (max i j) (max u v)) (ordering_then (nat_cmp i u) (ordering_then (nat_cmp j v) (nat_cmp at w))) b) [
-  | inl x ↦ (let y = nat_less (max i j) (max u v) x in omega (arith, y))
-  | inr x ↦ (let y = nat_equal (max i j) (max u v) x.0 in omega (arith, y))
-]
+no_greater_than i j at u v w b =
+    elim (then_less (nat_cmp (max i j) (max u v)) (ordering_then (nat_cmp i u) (ordering_then (nat_cmp j v) (nat_cmp at w))) b) [
+      | inl x ↦ (let y = nat_less (max i j) (max u v) x in omega (arith, y))
+      | inr x ↦ (let y = nat_equal (max i j) (max u v) x.0 in omega (arith, y))
+    ]
 
 up_to_closed : (greater : ℕ) (m k : Birth) → Before m k → UpTo greater k → UpTo greater m
 up_to_closed greater (Given a) k b h = tt
@@ -62,7 +64,8 @@ up_to_closed greater (Pair i j at) (Given c) b h = cc b
 up_to_closed greater (Pair i j at) (Pair u v w) b h = let z = no_greater_than i j at u v w b in omega (arith, z, h)
 
 -- memory ran out before a pair with this greater number is settled
-pub stops_here : (limits : Limits) (base : ℕ) (given : List (List Symbol × List Symbol)) (rules : List Rule) (greater : ℕ) (told : Option (List Event))
+pub stops_here : (limits : Limits) (base : ℕ) (given : List (List Symbol × List Symbol)) (rules : List Rule) (greater : ℕ)
+    (told : Option (List Event))
     → Progress base given rules (UpTo greater) → KeepsAll limits base rules → (s : Stop) → s ≡ Memory
     → HasStopped limits base given rules rules told told s
 stops_here limits base given rules greater told p kept (Limit which) e = cc
@@ -92,8 +95,10 @@ module _ (base : ℕ) (given : List (List Symbol × List Symbol)) (first : List 
   longer : (t more : List Rule) → t ≡ first ++ more → greater ≤ length t
   longer t more e = let n = simp length-append at (ap length e) in omega (arith, n, le)
 
-  pub listed_begun : (t more : List Rule) → t ≡ first ++ more → Progress base given t (UpTo greater) → Progress base given t (Listed greater places 0)
-  listed_begun t more e p = widen base given t (UpTo greater) (Listed greater places 0) p wider only (λ m. listed_bound 0 (length t) m (longer t more e))
+  pub listed_begun : (t more : List Rule) → t ≡ first ++ more → Progress base given t (UpTo greater)
+      → Progress base given t (Listed greater places 0)
+  listed_begun t more e p =
+      widen base given t (UpTo greater) (Listed greater places 0) p wider only (λ m. listed_bound 0 (length t) m (longer t more e))
     where
       wider : (m : Birth) → UpTo greater m → Listed greater places 0 m
       wider (Given n) h = tt
@@ -104,16 +109,19 @@ module _ (base : ℕ) (given : List (List Symbol × List Symbol)) (first : List 
       only (Pair i j at) l r s (inl h) = h
       only (Pair i j at) l r s (inr h) = absurd (let z = h.1 in omega (arith, z))
 
-  pub listed_done : (t more : List Rule) → t ≡ first ++ more → (count : ℕ) → length places ≤ count → Progress base given t (Listed greater places count)
+  pub listed_done : (t more : List Rule) → t ≡ first ++ more → (count : ℕ) → length places ≤ count
+      → Progress base given t (Listed greater places count)
       → Progress base given t (UpTo (greater + 1))
-  listed_done t more e count all p = widen base given t (Listed greater places count) (UpTo (greater + 1)) p wider (only (here_of t more e)) (bound (longer t more e))
+  listed_done t more e count all p =
+      widen base given t (Listed greater places count) (UpTo (greater + 1)) p wider (only (here_of t more e)) (bound (longer t more e))
     where
       wider : (m : Birth) → Listed greater places count m → UpTo (greater + 1) m
       wider (Given n) h = tt
       wider (Pair i j at) (inl h) = omega (arith, h)
       wider (Pair i j at) (inr h) = let g = (of.each h.0 (record { i = i; j = j; at = at }) h.2).0 in omega (arith, g)
 
-      only : AllHere t → (m : Birth) (l r : List Symbol) → HasSides base given t m l r → UpTo (greater + 1) m → Listed greater places count m
+      only : AllHere t → (m : Birth) (l r : List Symbol) → HasSides base given t m l r → UpTo (greater + 1) m
+          → Listed greater places count m
       only here (Given n) l r s h = tt
       only here (Pair i j at) l r s h = elim (cases_lt (max i j) greater) [
         | inl x ↦ inl x
@@ -145,7 +153,8 @@ module _ (base : ℕ) (given : List (List Symbol × List Symbol)) (first : List 
                   | inl d ↦ absurd (not_both (Pair i j at) (Pair u v w) b
                       (of.ordered y.0 q.0 (record { i = u; j = v; at = w }) (record { i = i; j = j; at = at }) d y.2 q.1))
                   | inr d ↦ absurd (let f = q.1 in
-                      let e : slice_get places q.0 ≡ Some (record { i = u; j = v; at = w }) = subst (λ n. slice_get places n ≡ Some (record { i = u; j = v; at = w })) (omega (arith, a, d)) y.2 in
+                      let e : slice_get places q.0 ≡ Some (record { i = u; j = v; at = w }) =
+                      subst (λ n. slice_get places n ≡ Some (record { i = u; j = v; at = w })) (omega (arith, a, d)) y.2 in
                       let same : record { i = i; j = j; at = at } ≡ record { i = u; j = v; at = w } = cc in
                       not_itself (Pair u v w) (subst (λ (z : Place). Before (Pair z.i z.j z.at) (Pair u v w)) same b))
                 ]
@@ -196,13 +205,16 @@ module _ (base : ℕ) (given : List (List Symbol × List Symbol)) (first : List 
         module _ (limits : Limits) (new : List Rule) (told told' : Option (List Event)) (kept : KeepsAll limits base t) where
           pub place_goes : DoneWithin limits (λ s. SettlesPlace t s p) t new told told'
               → HasCome limits base given (Listed greater places (n + 1)) t new told told'
-          place_goes = goes_on limits base given (Listed greater places n) (Listed greater places (n + 1)) (λ s. SettlesPlace t s p) t new told told'
+          place_goes =
+              goes_on limits base given (Listed greater places n) (Listed greater places (n + 1)) (λ s. SettlesPlace t s p) t new told told'
               progress kept (λ m k l r h. listed_closed n t (here_of t more grown) m k l r h)
               (λ s d m k l r h. listed_closed (n + 1) s (here_after s (place_adds t s p d)) m k l r h)
               (λ s d. place_adds t s p d) takes_on
 
-          pub place_stops : (s : Stop) → StoppedAt limits (λ s. SettlesPlace t s p) t new told told' s → HasStopped limits base given t new told told' s
-          place_stops = stops limits base given (Listed greater places n) (Listed greater places (n + 1)) (λ s. SettlesPlace t s p) t new told told'
+          pub place_stops : (s : Stop) → StoppedAt limits (λ s. SettlesPlace t s p) t new told told' s
+              → HasStopped limits base given t new told told' s
+          place_stops =
+              stops limits base given (Listed greater places n) (Listed greater places (n + 1)) (λ s. SettlesPlace t s p) t new told told'
               progress kept (λ m k l r h. listed_closed n t (here_of t more grown) m k l r h)
               (λ s d m k l r h. listed_closed (n + 1) s (here_after s (place_adds t s p d)) m k l r h)
               (λ s d. place_adds t s p d) takes_on

@@ -32,7 +32,8 @@ module _ (base : ℕ) (given : List (List Symbol × List Symbol)) (t : List Rule
       more (Pair a b to) h = absurd h
 
       only : (m : Birth) (l r : List Symbol) → HasSides base given t m l r → UpTo (base + 1) m → GivenBelow (length given) m
-      only (Given n) l r s h = (let e = s.1 in omega (arith, e), let e = s.1 in let w = slice_get_within given s.0 (l, r) s.2 in omega (arith, e, w))
+      only (Given n) l r s h =
+          (let e = s.1 in omega (arith, e), let e = s.1 in let w = slice_get_within given s.0 (l, r) s.2 in omega (arith, e, w))
       only (Pair a b to) l r s h = absurd (let e = s.0 in omega (arith, h, e))
 
       bound : (m : Birth) → UpTo (base + 1) m → greater_number m ≤ length t
@@ -47,7 +48,8 @@ module _ (base : ℕ) (given : List (List Symbol × List Symbol)) (t : List Rule
     where
       visited : (m : Birth) (l r : List Symbol) → HasSides base given t m l r → UpTo greater m
       visited (Given n) l r s = tt
-      visited (Pair a b to) l r s = let x = number_within t a s.1.first s.1.first_at in let y = number_within t b s.1.second s.1.second_at in omega (arith, x, y, lt)
+      visited (Pair a b to) l r s =
+          let x = number_within t a s.1.first s.1.first_at in let y = number_within t b s.1.second s.1.second_at in omega (arith, x, y, lt)
 
       every : (m : Birth) (l r : List Symbol) → HasSides base given t m l r → Settled base t m l r
       every m l r h = p.settled m l r h (visited m l r h)

@@ -20,7 +20,8 @@ read_none rules w counts e = rw e (record { tell = λ at count g. (cc); rising =
 pub tell_more : (rules : List Rule) (w : List Symbol) (at n m : ℕ) → n ≤ m → TellNone rules w at n → TellNone rules w at m
 tell_more rules w at n m le tell v e = tell v (fewer w v n m le e)
 
-pub read_more : (rules : List Rule) (w : List Symbol) (counts more : List ℕ) (next : ℕ) → AreRead rules w counts → TellNone rules w (length counts) next
+pub read_more : (rules : List Rule) (w : List Symbol) (counts more : List ℕ) (next : ℕ) → AreRead rules w counts
+    → TellNone rules w (length counts) next
     → ((k n : ℕ) → slice_get counts k ≡ Some n → n ≤ next) → more ≡ counts ++ next ∷ [] → AreRead rules w more
 read_more rules w counts more next read tell most e = rw e (record {
   tell = λ at count g. elim (get_cases counts next at count g) [
@@ -55,8 +56,10 @@ kept_counts old new kept at e within k n g =
     (whole, within k n (omega (arith, l)) whole)
 
 -- After a step what was told by symbols before its place stays told.
-pub read_after : (rules : List Rule) (u v : List Symbol) (at number : ℕ) (old new : List ℕ) → FirstRedex rules u at number → ReductionStep rules u v
-    → AreRead rules u old → ((k n : ℕ) → slice_get new k ≡ Some n → slice_get old k ≡ Some n) → ((k n : ℕ) → slice_get new k ≡ Some n → n ≤ at)
+pub read_after : (rules : List Rule) (u v : List Symbol) (at number : ℕ) (old new : List ℕ) → FirstRedex rules u at number
+    → ReductionStep rules u v
+    → AreRead rules u old → ((k n : ℕ) → slice_get new k ≡ Some n → slice_get old k ≡ Some n)
+    → ((k n : ℕ) → slice_get new k ≡ Some n → n ≤ at)
     → AreRead rules v new
 read_after rules u v at number old new redex step read kept within = record {
   tell = λ k n g w e. (let le = within k n g in

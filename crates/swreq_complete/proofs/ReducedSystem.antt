@@ -24,9 +24,11 @@ use Rattle.swreq_complete.proofs.Ended.{by_rule}
 use Rattle.swreq_orders.proofs.Elements.{in_front}
 
 -- no two rules of a fresh list have one left side
-pub fresh_apart : (rules : List Rule) → IsFresh rules → (j k : ℕ) (r s : Rule) → j < k → slice_get rules j ≡ Some r → slice_get rules k ≡ Some s
+pub fresh_apart : (rules : List Rule) → IsFresh rules → (j k : ℕ) (r s : Rule) → j < k → slice_get rules j ≡ Some r
+    → slice_get rules k ≡ Some s
     → r.left ≡ s.left → ⊥
-fresh_apart rules fresh j k r s l e f g = fresh k s f r.right (subst (λ x. Step (take k rules) x r.right) g (by_rule (take k rules) j r (in_front rules k j r l e)))
+fresh_apart rules fresh j k r s l e f g =
+    fresh k s f r.right (subst (λ x. Step (take k rules) x r.right) g (by_rule (take k rules) j r (in_front rules k j r l e)))
 
 module _ (rules : List Rule) (local : IsLocallyConfluent (Step rules)) where
   pub least_irreducible : (w : List Symbol) → IsLeast (Linked (Step rules)) w → IsIrreducible (Step rules) w
@@ -36,7 +38,8 @@ module _ (rules : List Rule) (local : IsLocallyConfluent (Step rules)) where
 
   pub irreducible_least : (w : List Symbol) → IsIrreducible (Step rules) w → IsLeast (Linked (Step rules)) w
   irreducible_least w i v c =
-      elim (chain_down (step_down rules) founded.words_founded less_trans (reached_by_class (step_down rules) founded.words_founded local done i c))
+      elim (chain_down (step_down rules) founded.words_founded less_trans
+      (reached_by_class (step_down rules) founded.words_founded local done i c))
       [ inl e ↦ inl (sym e) | inr l ↦ inr l ]
 
   -- a word that is not irreducible while its proper factors are is a left side
@@ -47,12 +50,14 @@ module _ (rules : List Rule) (local : IsLocallyConfluent (Step rules)) where
     | inl s ↦ (let t = a_step rules w s.0 s.1 in
         let whole = simp length-append at (ap length t.at.source) in
         elim (cases_lt (length t.rule.left) (length w)) [
-          | inl l ↦ absurd (factors t.at.before t.rule.left t.at.after t.at.source l t.rule.right (by_rule rules t.is_rule.0 t.rule t.is_rule.2))
+          | inl l ↦
+              absurd (factors t.at.before t.rule.left t.at.after t.at.source l t.rule.right (by_rule rules t.is_rule.0 t.rule t.is_rule.2))
           | inr l ↦ (
             t.is_rule.0,
             t.rule,
             t.is_rule.2,
-            (let b : t.at.before ≡ [] = nil_from_length t.at.before (omega (arith, whole, l)) in let a : t.at.after ≡ [] = nil_from_length t.at.after (omega (arith, whole, l)) in
+            (let b : t.at.before ≡ [] = nil_from_length t.at.before (omega (arith, whole, l)) in
+                let a : t.at.after ≡ [] = nil_from_length t.at.after (omega (arith, whole, l)) in
                 sym (t.at.source ∙ rw (b, a) (append-nil t.rule.left))),
           )
         ])
@@ -68,7 +73,8 @@ module _ (rules : List Rule) (local : IsLocallyConfluent (Step rules)) where
   pub factors_irreducible : (w : List Symbol) → IsMinimal (Linked (Step rules)) w → EachFactor w (IsIrreducible (Step rules))
   factors_irreducible w m b u a g l = least_irreducible u (m.factors b u a g l)
 
-  pub minimal_there : (w : List Symbol) → IsMinimal (Linked (Step rules)) w → (k : ℕ) × (rule : Rule) × (slice_get rules k ≡ Some rule) × (rule.left ≡ w)
+  pub minimal_there : (w : List Symbol) → IsMinimal (Linked (Step rules)) w
+      → (k : ℕ) × (rule : Rule) × (slice_get rules k ≡ Some rule) × (rule.left ≡ w)
   minimal_there w m = minimal_left w (λ i. m.not_least (irreducible_least w i)) (factors_irreducible w m)
 
   -- a rule that is reduced at its place is of the reduced system
@@ -93,7 +99,8 @@ pub has_births : (rules : List Rule) (found : List Rule) → Found rules found �
 has_births rules found f k r e = let p = f.each k r e in (p.0, p.1.0, p.1.1, p.1.2, p.1.3)
 
 pub reduced_of : (rules : List Rule) → IsLocallyConfluent (Step rules) → (k : ℕ) (o : Option Rule)
-    → MatchOption o ((rule : Rule) → slice_get rules k ≡ Some rule → EachFactor rule.left (IsIrreducible (Step rules)) → ⊥) (IsReducedAt rules k)
+    → MatchOption o
+    ((rule : Rule) → slice_get rules k ≡ Some rule → EachFactor rule.left (IsIrreducible (Step rules)) → ⊥) (IsReducedAt rules k)
     → IsReducedOf (Linked (Step rules)) rules k o
 reduced_of rules local k None none = λ rule e m. none rule e (factors_irreducible rules local rule.left m)
 reduced_of rules local k (Some r) p = (reduced_rule rules local k r p, (p.0, p.1, p.2, p.3))

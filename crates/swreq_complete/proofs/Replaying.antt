@@ -10,7 +10,8 @@ use Rattle.swreq_complete.specs.declared.limit.Which.TheVariants.{Length, Rules}
 use Rattle.swreq_complete.specs.Laws.{EventsTellTraces, RulesComeFirst}
 use Rattle.swreq_complete.specs.Reached.{BeginsWith}
 
-pub rules_come_first : (limits : Limits) (base : ℕ) (given : List (List Symbol × List Symbol)) (trace : List Rule) → RulesComeFirst limits base given trace
+pub rules_come_first : (limits : Limits) (base : ℕ) (given : List (List Symbol × List Symbol)) (trace : List Rule)
+    → RulesComeFirst limits base given trace
 rules_come_first limits base given trace Rules p more = refl
 rules_come_first limits base given trace Length p more = let e = p.is_last in let few = p.passes.0 in absurd (omega (arith, e, few, more))
 

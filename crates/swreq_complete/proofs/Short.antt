@@ -26,7 +26,8 @@ use Rattle.swreq_complete.proofs.Answering.{over_grown}
 use Rattle.swreq_complete.proofs.Telling.{kept_length}
 
 -- all moments that are equations are settled
-settled_equations : (limits : Limits) (base : ℕ) (given : List (List Symbol × List Symbol)) (t : List Rule) → BearsWithin limits base given t
+settled_equations : (limits : Limits) (base : ℕ) (given : List (List Symbol × List Symbol)) (t : List Rule)
+    → BearsWithin limits base given t
     → (m : Birth) (left right : List Symbol) → HasSides base given t m left right → IsOfEquation m → Settled base t m left right
 settled_equations limits base given t p (Given n) left right sides of = p.settled n left right sides
 settled_equations limits base given t p (Pair i j at) left right sides of = absurd of
@@ -60,12 +61,14 @@ borne_is_one limits base given (Err (Limit v t)) p (Err (Limit w u)) q =
 borne_is_one limits base given (Err Memory) p b q = inr (inl refl)
 borne_is_one limits base given a p (Err Memory) q = inr (inr refl)
 
-pub borne_is_within : (limits : Limits) (base : ℕ) (given : List (List Symbol × List Symbol)) (trace : List Rule) → BorneIsWithin limits base given trace
+pub borne_is_within : (limits : Limits) (base : ℕ) (given : List (List Symbol × List Symbol)) (trace : List Rule)
+    → BorneIsWithin limits base given trace
 borne_is_within limits base given trace p = record { reached = p.reached; kept = λ k rule lo l e. p.kept k rule lo e }
 
 pub borne_is_prefix : (limits : Limits) (base : List Rule) (given : List (List Symbol × List Symbol)) (part whole : List Rule)
     → BorneIsPrefix limits base given part whole
-borne_is_prefix limits base given part whole o p = within_is_prefix limits base given part whole o (borne_is_within limits (length base) given part p)
+borne_is_prefix limits base given part whole o p =
+    within_is_prefix limits base given part whole o (borne_is_within limits (length base) given part p)
 
 -- ---- from what settling did to the answer
 
@@ -75,7 +78,8 @@ pub few_kept : (limits : Limits) (base new : List Rule) → AreInRange limits �
 few_kept limits base new range few kept = let k = kept_length limits (length base) new kept in let m = range.1 in omega (arith, k, few, m)
 
 -- a completion that came as far as the last equation
-come_bears : (limits : Limits) (base : ℕ) (given : List (List Symbol × List Symbol)) (old new : List Rule) (told told' : Option (List Event))
+come_bears : (limits : Limits) (base : ℕ) (given : List (List Symbol × List Symbol)) (old new : List Rule)
+    (told told' : Option (List Event))
     → HasCome limits base given (GivenBelow (length given)) old new told told' → BearsWithin limits base given new
 come_bears limits base given old new told told' c = record {
   reached = reached base given new (GivenBelow (length given)) c.progress (below_closed base given (length given) new);
@@ -87,7 +91,8 @@ come_bears limits base given old new told told' c = record {
 
 module _ (limits : Limits) (given : List (List Symbol × List Symbol)) (base list : List Rule) (told told' : Option (List Event))
     (new : List Rule) (same : list ≡ base) where
-  pub borne_answer : HasCome limits (length list) given (GivenBelow (length given)) list new told told' → IsBorneBy limits base given (Ok new)
+  pub borne_answer : HasCome limits (length list) given (GivenBelow (length given)) list new told told'
+      → IsBorneBy limits base given (Ok new)
   borne_answer c = subst (λ (b : List Rule). IsBorneBy limits b given (Ok new)) same
       (over_grown list new told told' c.grown, come_bears limits (length list) given list new told told' c)
 

@@ -27,7 +27,8 @@ pub key_skipped : (rules : List Rule) (k : ℕ) (keys : List Key) (rule : Rule) 
 key_skipped rules k keys rule e not p = record {
   each = p.each;
   all = λ j other l f g. elim (cases_eq j k) [
-    | inl i ↦ absurd (not (let h : slice_get rules k ≡ Some other = subst (λ x. slice_get rules x ≡ Some other) i f in let same : other ≡ rule = cc in subst
+    | inl i ↦ absurd (not (let h : slice_get rules k ≡ Some other = subst (λ x. slice_get rules x ≡ Some other) i f in
+        let same : other ≡ rule = cc in subst
         (λ (x : Rule). EachFactor x.left (IsIrreducible (Step rules))) same g))
     | inr i ↦ p.all j other (omega (arith, l, i)) f g
   ];
@@ -49,7 +50,8 @@ key_added rules k keys new rule left e s minimal p n = subst (AreKeysBelow rules
   ];
 })
 
-moved : {X : Type 0} (xs ys : List X) (k : ℕ) (x : X) → sorts.IsPermutation xs ys → slice_get xs k ≡ Some x → (n : ℕ) × (slice_get ys n ≡ Some x)
+moved : {X : Type 0} (xs ys : List X) (k : ℕ) (x : X) → sorts.IsPermutation xs ys → slice_get xs k ≡ Some x
+    → (n : ℕ) × (slice_get ys n ≡ Some x)
 moved xs ys k x p e =
     let c : Contains ys x = Contains-permutation xs ys x p (k, slice_get_within xs k x e, get_or_from_slice_get xs k x x e) in
     (c.0, slice_get-get_or ys c.0 x c.1 ∙ ap Some c.2)
@@ -69,7 +71,8 @@ next_key keys sorted n a b e f =
     let l = slice_get_within keys (suc n) b f in
     let g : get_or keys n a ≡ a = get_or_from_slice_get keys n a a e in
     let h : get_or keys (n + 1) a ≡ b = get_or_from_slice_get keys (n + 1) b a (subst (λ m. slice_get keys m ≡ Some b) (omega arith) f) in
-    let s : is_lt (key_cmp b a) ≡ false = subst (λ x. is_lt (key_cmp b x) ≡ false) g (subst (λ x. is_lt (key_cmp x (get_or keys n a)) ≡ false) h
+    let s : is_lt (key_cmp b a) ≡ false =
+    subst (λ x. is_lt (key_cmp b x) ≡ false) g (subst (λ x. is_lt (key_cmp x (get_or keys n a)) ≡ false) h
     (sorted n a (omega arith) (omega (arith, l)))) in
     elim (trichotomy a.0.now b.0.now) [
       | inl x ↦ inl x
@@ -154,7 +157,8 @@ module _ (rules : List Rule) (keys : List Key) (n : ℕ) (found : List Rule) (p 
 
 -- the rule of a key, reduced
 pub reduced_rule : (rules : List Rule) (keys : List Key) → AreKeys rules keys → (n : ℕ) (key : Key) → slice_get keys n ≡ Some key
-    → (rule new : Rule) → slice_get rules key.1 ≡ Some rule → new.left ≡ rule.left → Reduces rules rule.right new.right → new.birth ≡ rule.birth
+    → (rule new : Rule) → slice_get rules key.1 ≡ Some rule → new.left ≡ rule.left → Reduces rules rule.right new.right
+    → new.birth ≡ rule.birth
     → (new.left ≡ key.0.now) × IsReducedRule rules new
 reduced_rule rules keys of n key e rule new f left right birth =
     let r = of.each n key e in

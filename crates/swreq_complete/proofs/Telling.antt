@@ -31,11 +31,13 @@ pub grown_one : (rules new : List Rule) (rule : Rule) (told told' : Option (List
     → GrewBy told told' (Born rule ∷ []) → Grown rules new told told'
 grown_one rules new rule told told' e g = record { more = rule ∷ []; new_is = e; told_is = g }
 
-pub grown_on : (a b c : List Rule) (told told' told'' : Option (List Event)) → Grown a b told told' → Grown b c told' told'' → Grown a c told told''
+pub grown_on : (a b c : List Rule) (told told' told'' : Option (List Event)) → Grown a b told told'
+    → Grown b c told' told'' → Grown a c told told''
 grown_on a b c told told' told'' p q = record {
   more = p.more ++ q.more;
   new_is = q.new_is ∙ ap (λ x. x ++ q.more) p.new_is ∙ append_assoc a p.more q.more;
-  told_is = subst (GrewBy told told'') (sym (map-append Born p.more q.more)) (grew_on told told' told'' (map Born p.more) (map Born q.more) p.told_is q.told_is);
+  told_is = subst (GrewBy told told'') (sym (map-append Born p.more q.more))
+      (grew_on told told' told'' (map Born p.more) (map Born q.more) p.told_is q.told_is);
 }
 
 pub grown_longer : (a b : List Rule) (told told' : Option (List Event)) → Grown a b told told' → length a ≤ length b
@@ -72,7 +74,8 @@ module _ (limits : Limits) (base : ℕ) (old new : List Rule) (kept : KeepsAll l
 
   pub one_more : (rule : Rule) → slice_get new (length old) ≡ Some rule → suc (length old) ≡ length new
   one_more rule e = elim adds [
-    | inl a ↦ absurd (let w = slice_get_within old (length old) rule (subst (λ t. slice_get t (length old) ≡ Some rule) a e) in omega (arith, w))
+    | inl a ↦
+        absurd (let w = slice_get_within old (length old) rule (subst (λ t. slice_get t (length old) ≡ Some rule) a e) in omega (arith, w))
     | inr a ↦ (let n = simp length-append at (ap length a.1) in omega (arith, n))
   ]
 
@@ -87,7 +90,8 @@ module _ (limits : Limits) (base : ℕ) (given : List (List Symbol × List Symbo
   goes_on d = record { progress = takes_on new d.done; kept = all_kept limits base old new kept (adds new d.done) d.kept; grown = d.grown }
 
   within : (t : List Rule) → Done t → IsWithin limits base given t
-  within t d = record { reached = reached base given t Next (takes_on t d) (closed' t d); kept = but_last_kept limits base old t kept (adds t d) }
+  within t d =
+      record { reached = reached base given t Next (takes_on t d) (closed' t d); kept = but_last_kept limits base old t kept (adds t d) }
 
   pub stops : (s : Stop) → StoppedAt limits Done old new told told' s → HasStopped limits base given old new told told' s
   stops (Limit which) d = (
@@ -153,17 +157,20 @@ stops_before limits Done old new told (Limit which) e = cc
 stops_before limits Done old new told Memory e = (old, inl refl, grown_none old told)
 
 -- the same of more that is done
-pub does_more : (limits : Limits) (P Q : List Rule → Type 0) (old new : List Rule) (told told' : Option (List Event)) → ((t : List Rule) → P t → Q t)
+pub does_more : (limits : Limits) (P Q : List Rule → Type 0) (old new : List Rule) (told told' : Option (List Event))
+    → ((t : List Rule) → P t → Q t)
     → DoneWithin limits P old new told told' → DoneWithin limits Q old new told told'
 does_more limits P Q old new told told' f d = record { done = f new d.done; kept = d.kept; grown = d.grown }
 
-pub stops_more : (limits : Limits) (P Q : List Rule → Type 0) (old new : List Rule) (told told' : Option (List Event)) → ((t : List Rule) → P t → Q t)
+pub stops_more : (limits : Limits) (P Q : List Rule → Type 0) (old new : List Rule) (told told' : Option (List Event))
+    → ((t : List Rule) → P t → Q t)
     → (s : Stop) → StoppedAt limits P old new told told' s → StoppedAt limits Q old new told told' s
 stops_more limits P Q old new told told' f (Limit which) d = (f new d.0, d.1, d.2)
 stops_more limits P Q old new told told' f Memory d = (d.0, elim d.1 [ inl e ↦ inl e | inr p ↦ inr (f d.0 p) ], d.2)
 
 -- nothing was born
-pub does_none : (limits : Limits) (Done : List Rule → Type 0) (old : List Rule) (told : Option (List Event)) → Done old → DoneWithin limits Done old old told told
+pub does_none : (limits : Limits) (Done : List Rule → Type 0) (old : List Rule) (told : Option (List Event)) → Done old
+    → DoneWithin limits Done old old told told
 does_none limits Done old told d = record {
   done = d;
   kept = λ rule e. absurd (let w = slice_get_within old (length old) rule e in omega (arith, w));
@@ -173,11 +180,13 @@ does_none limits Done old told d = record {
 -- rules that keep the limits are at most this many
 pub kept_length : (limits : Limits) (base : ℕ) (t : List Rule) → KeepsAll limits base t → length t ≤ max base limits.max_rules
 kept_length limits base t kept = elim (cases_lt base (length t)) [
-  | inl l ↦ (let y = there_is t (length t - 1) (omega (arith, l)) in let k = (kept (length t - 1) y.0 (omega (arith, l)) y.1).0 in omega (arith, k, l))
+  | inl l ↦ (let y = there_is t (length t - 1) (omega (arith, l)) in
+      let k = (kept (length t - 1) y.0 (omega (arith, l)) y.1).0 in omega (arith, k, l))
   | inr l ↦ omega (arith, l)
 ]
 
-pub goes_along : (limits : Limits) (base : ℕ) (given : List (List Symbol × List Symbol)) (Visited Next : Birth → Type 0) (old new : List Rule)
+pub goes_along : (limits : Limits) (base : ℕ) (given : List (List Symbol × List Symbol))
+    (Visited Next : Birth → Type 0) (old new : List Rule)
     (told told' : Option (List Event))
     → (Progress base given new Visited → Progress base given new Next) → HasCome limits base given Visited old new told told'
     → HasCome limits base given Next old new told told'

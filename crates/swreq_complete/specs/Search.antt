@@ -22,7 +22,8 @@ key_cmp a b = ordering_then (word_cmp a.0.now b.0.now) (nat_cmp a.1 b.1)
 
 -- the left side of a rule with its place, where no proper factor of it is reducible
 abbrev pub IsKey : List Rule → Key → Type 0
-IsKey rules key = (rule : Rule) × (slice_get rules key.1 ≡ Some rule) × (rule.left ≡ key.0.now) × EachFactor rule.left (IsIrreducible (Step rules))
+IsKey rules key =
+    (rule : Rule) × (slice_get rules key.1 ≡ Some rule) × (rule.left ≡ key.0.now) × EachFactor rule.left (IsIrreducible (Step rules))
 
 -- all such of the first `count` rules, and no others
 pub record AreKeysBelow (rules : List Rule) (count : ℕ) (keys : List Key) : Type 0 where
@@ -33,7 +34,8 @@ pub record AreKeysBelow (rules : List Rule) (count : ℕ) (keys : List Key) : Ty
 abbrev pub AreKeys : List Rule → List Key → Type 0
 AreKeys rules = AreKeysBelow rules (length rules)
 
--- a rule with the left side and the birth of the one at the place, whose left side has no reducible proper factor, and its right side reduced
+-- a rule with the left side and the birth of the one at the place, whose left side has no reducible proper factor, and its right side
+-- reduced
 abbrev pub IsReducedAt : List Rule → ℕ → Rule → Type 0
 IsReducedAt rules j r = (rule : Rule) × (slice_get rules j ≡ Some rule) × (rule.left ≡ r.left) × (rule.birth ≡ r.birth)
     × EachFactor r.left (IsIrreducible (Step rules)) × Reduces rules rule.right r.right
@@ -45,7 +47,8 @@ IsReducedRule rules r = (j : ℕ) × IsReducedAt rules j r
 -- such rules, sorted, one for each left side of the first `count` keys, the last of which is not below that of a rule
 pub record FoundBelow (rules : List Rule) (keys : List Key) (count : ℕ) (found : List Rule) : Type 0 where
   pub each : (n : ℕ) (r : Rule) → slice_get found n ≡ Some r → IsReducedRule rules r
-  pub all : (n : ℕ) (key : Key) → n < count → slice_get keys n ≡ Some key → (k : ℕ) × (r : Rule) × (slice_get found k ≡ Some r) × (r.left ≡ key.0.now)
+  pub all : (n : ℕ) (key : Key) → n < count → slice_get keys n ≡ Some key
+      → (k : ℕ) × (r : Rule) × (slice_get found k ≡ Some r) × (r.left ≡ key.0.now)
   pub sorted : IsSorted found
   pub last : (k : ℕ) (r : Rule) → slice_get found k ≡ Some r
       → (n : ℕ) × (key : Key) × (suc n ≡ count) × (slice_get keys n ≡ Some key) × (WordLess r.left key.0.now ⊎ (r.left ≡ key.0.now))

@@ -173,7 +173,8 @@ pub fn extend<'b, W: Watch>(
     requires { AreInRange limits }
     ensures answer { IsAnswer limits base.entry given.now result }
     ensures only { IsOnlyAnswer limits base.entry given.now result }
-    ensures told { TellsEvents limits base.entry given.now (W.told watch.old) (W.told watch.new) result }
+    ensures told { TellsEvents limits base.entry given.now (W.told watch.old)
+        (W.told watch.new) result }
 {
     let mut list = base.list;
     let count = list.count();

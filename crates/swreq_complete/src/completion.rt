@@ -28,8 +28,10 @@ fn settle_place<W: Watch>(
     requires few { length rules.old < 2 ^ 32 - 1 }
     requires pair { HasPair rules.old place }
     ensures { MatchResult result
-        (λ _. DoneWithin limits (λ t. SettlesPlace rules.old t place) rules.old rules.new (W.told watch.old) (W.told watch.new))
-        (λ s. StoppedAt limits (λ t. SettlesPlace rules.old t place) rules.old rules.new (W.told watch.old) (W.told watch.new) s) }
+        (λ _. DoneWithin limits (λ t. SettlesPlace rules.old t place) rules.old rules.new
+        (W.told watch.old) (W.told watch.new))
+        (λ s. StoppedAt limits (λ t. SettlesPlace rules.old t place) rules.old rules.new
+        (W.told watch.old) (W.told watch.new) s) }
 {
     let first = rules.rule(place.i as usize - 1);
     let second = rules.rule(place.j as usize - 1);
@@ -68,10 +70,13 @@ fn settle_places<W: Watch>(
     requires new { task.now.base < greater }
     requires in_range { greater ≤ length rules.old }
     requires all_places { AreAllPlaces rules.old greater places.now }
-    requires so_far { IsUnderway task.now.limits task.now.base task.now.given.now rules.old (UpTo greater) }
+    requires so_far { IsUnderway task.now.limits task.now.base task.now.given.now
+        rules.old (UpTo greater) }
     ensures { MatchResult result
-        (λ _. HasCome task.now.limits task.now.base task.now.given.now (UpTo (greater + 1)) rules.old rules.new (W.told watch.old) (W.told watch.new))
-        (λ s. HasStopped task.now.limits task.now.base task.now.given.now rules.old rules.new (W.told watch.old) (W.told watch.new) s) }
+        (λ _. HasCome task.now.limits task.now.base task.now.given.now
+        (UpTo (greater + 1)) rules.old rules.new (W.told watch.old) (W.told watch.new))
+        (λ s. HasStopped task.now.limits task.now.base task.now.given.now rules.old rules.new
+        (W.told watch.old) (W.told watch.new) s) }
 {
     for n in 0..places.len() {
         let place = place_at(places, n);
@@ -91,10 +96,13 @@ fn settle_greater<W: Watch>(
 ) -> Result<(), Stop>
     requires new { task.now.base < greater }
     requires in_range { greater ≤ length rules.old }
-    requires so_far { IsUnderway task.now.limits task.now.base task.now.given.now rules.old (UpTo greater) }
+    requires so_far { IsUnderway task.now.limits task.now.base task.now.given.now
+        rules.old (UpTo greater) }
     ensures { MatchResult result
-        (λ _. HasCome task.now.limits task.now.base task.now.given.now (UpTo (greater + 1)) rules.old rules.new (W.told watch.old) (W.told watch.new))
-        (λ s. HasStopped task.now.limits task.now.base task.now.given.now rules.old rules.new (W.told watch.old) (W.told watch.new) s) }
+        (λ _. HasCome task.now.limits task.now.base task.now.given.now
+        (UpTo (greater + 1)) rules.old rules.new (W.told watch.old) (W.told watch.new))
+        (λ s. HasStopped task.now.limits task.now.base task.now.given.now rules.old rules.new
+        (W.told watch.old) (W.told watch.new) s) }
 {
     find_places(rules, greater, found)?;
     settle_places(task, rules, watch, sides, greater, found.places())
@@ -111,8 +119,10 @@ pub(crate) fn complete<W: Watch>(
     requires base_fits { task.now.base < 2 ^ 32 - 1 }
     requires limits { AreInRange task.now.limits }
     ensures { MatchResult result
-        (λ _. EndsWithin task.now.limits task.now.base task.now.given.now rules.new × Grown rules.old rules.new (W.told watch.old) (W.told watch.new))
-        (λ s. HasStopped task.now.limits task.now.base task.now.given.now rules.old rules.new (W.told watch.old) (W.told watch.new) s) }
+        (λ _. EndsWithin task.now.limits task.now.base task.now.given.now rules.new
+        × Grown rules.old rules.new (W.told watch.old) (W.told watch.new))
+        (λ s. HasStopped task.now.limits task.now.base task.now.given.now rules.old rules.new
+        (W.told watch.old) (W.told watch.new) s) }
 {
     let mut sides = Sides::new(alloc);
     let mut found = Found::new(alloc);

@@ -101,7 +101,8 @@ impl Part {
     /// Puts the rule last. If memory runs out, all is as before.
     pub fn push(&mut self, rule: Rule) -> Result<(), AllocError>
         requires { self.old.before + length self.old.rules < 2 ^ 32 - 1 }
-        ensures ok { OnOk result (self.new ≡ record { before = self.old.before; rules = self.old.rules ++ rule ∷ [] }) }
+        ensures ok { OnOk result
+            (self.new ≡ record { before = self.old.before; rules = self.old.rules ++ rule ∷ [] }) }
         ensures err { OnErr result (self.new ≡ self.old) }
     {
         let count = self.list.rules().len();
@@ -145,7 +146,8 @@ fn shorter(rules: &Indexed<'_>, first: u32, second: u32) -> u32
     requires first { IsNumberOf rules.now first }
     requires second { IsNumberOf rules.now second }
     ensures { (a b : Rule) → RuleAt rules.now first a → RuleAt rules.now second b
-        → ((length b.left < length a.left) × (result ≡ second)) ⊎ ((length a.left ≤ length b.left) × (result ≡ first)) }
+        → ((length b.left < length a.left) × (result ≡ second))
+        ⊎ ((length a.left ≤ length b.left) × (result ≡ first)) }
 {
     let a = rules.rule(first as usize - 1);
     let b = rules.rule(second as usize - 1);
@@ -210,7 +212,8 @@ fn reduce_once(
 ) -> Option<usize>
     requires earlier { NoneEarlier rules.now w.old.items from }
     requires no_left_longer { NoneLonger rules.now longest }
-    ensures step { MatchOption result ((w.new.items ≡ w.old.items) × IsIrreducible (Step rules.now) w.new.items) (λ next. StepsPast rules.now w.old.items w.new.items next) }
+    ensures step { MatchOption result ((w.new.items ≡ w.old.items) × IsIrreducible (Step rules.now)
+        w.new.items) (λ next. StepsPast rules.now w.old.items w.new.items next) }
     ensures no_longer { vec_len w.new ≤ vec_len w.old }
     ensures room { vec_capacity w.new ≡ vec_capacity w.old }
 {
@@ -320,7 +323,8 @@ impl<'b> Indexed<'b> {
     /// The number of the rule that is chosen at the place. Where no left side begins there, how many symbols of the word tell so.
     pub fn find_at(&self, w: &[Symbol], at: usize) -> Result<u32, usize>
         requires { at ≤ length w.now }
-        ensures { MatchResult result (Chosen self.now (drop at w.now)) (TellNone self.now w.now at) }
+        ensures { MatchResult result (Chosen self.now (drop at w.now))
+            (TellNone self.now w.now at) }
     {
         match self.below {
             None => self.own.index().find_at(w, at),
@@ -336,7 +340,8 @@ impl<'b> Indexed<'b> {
         found: &mut Found,
     ) -> Result<(), AllocError>
         requires { 0 < length left.now }
-        ensures { OnOk result ((stored : List Entry) × IsIndexOf stored self.now × ArePlaces stored left.now number found.new) }
+        ensures { OnOk result ((stored : List Entry) × IsIndexOf stored self.now
+            × ArePlaces stored left.now number found.new) }
     {
         match self.below {
             None => self.own.index().find_overlaps(left, number, found),

@@ -37,8 +37,10 @@ fn reduction_path(alloc: Global, rules: &Indexed<'_>, w: &[Symbol]) -> Result<Pa
 impl CompleteRules<'_> {
     /// The path of the reduction of the word, from the word to the least of all words congruent to it.
     pub fn path(&self, alloc: Global, w: &[Symbol]) -> Result<Path, AllocError>
-        ensures reduction { IfOk result (λ path. (v : List Symbol) × IsReductionPath self.now path w.now v) }
-        ensures least { IfOk result (λ path. (v : List Symbol) × HasTarget self.now path v × IsLeast (Linked (Step self.now)) v) }
+        ensures reduction { IfOk result
+            (λ path. (v : List Symbol) × IsReductionPath self.now path w.now v) }
+        ensures least { IfOk result (λ path.
+            (v : List Symbol) × HasTarget self.now path v × IsLeast (Linked (Step self.now)) v) }
     {
         let _complete = self.count();
         reduction_path(alloc, self.indexed(), w)

@@ -88,9 +88,11 @@ fn take_next_step(
     counts: &mut Vec<usize>,
 ) -> Result<bool, AllocError>
     requires { AreRead rules.now w.old.items counts.old.items }
-    ensures step { IfOk result (λ goes. OnTrue goes (ReductionStep rules.now w.old.items w.new.items)) }
+    ensures step { IfOk result
+        (λ goes. OnTrue goes (ReductionStep rules.now w.old.items w.new.items)) }
     ensures read { OnOk result (AreRead rules.now w.new.items counts.new.items) }
-    ensures end { IfOk result (λ goes. OnFalse goes ((w.new.items ≡ w.old.items) × IsIrreducible (Step rules.now) w.new.items)) }
+    ensures end { IfOk result (λ goes.
+        OnFalse goes ((w.new.items ≡ w.old.items) × IsIrreducible (Step rules.now) w.new.items)) }
 {
     match next_redex(rules, w, counts)? {
         None => Ok(false),

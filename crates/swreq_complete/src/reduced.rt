@@ -78,8 +78,10 @@ fn is_same(a: &Key, b: &Key) -> bool
 // Whether the left side differs from the one before it.
 fn is_new(keys: &[Key], n: usize) -> bool
     requires { n < length keys.now }
-    ensures yes { OnTrue result ((m : ℕ) (a b : Key) → suc m ≡ n → slice_get keys.now m ≡ Some a → slice_get keys.now n ≡ Some b → a.0.now ≡ b.0.now → ⊥) }
-    ensures no { OnFalse result ((m : ℕ) × (a : Key) × (b : Key) × (suc m ≡ n) × (slice_get keys.now m ≡ Some a) × (slice_get keys.now n ≡ Some b) × (a.0.now ≡ b.0.now)) }
+    ensures yes { OnTrue result ((m : ℕ) (a b : Key) → suc m ≡ n → slice_get keys.now m ≡ Some a
+        → slice_get keys.now n ≡ Some b → a.0.now ≡ b.0.now → ⊥) }
+    ensures no { OnFalse result ((m : ℕ) × (a : Key) × (b : Key) × (suc m ≡ n)
+        × (slice_get keys.now m ≡ Some a) × (slice_get keys.now n ≡ Some b) × (a.0.now ≡ b.0.now)) }
 {
     if n == 0 {
         return true;
@@ -151,7 +153,8 @@ pub(crate) fn reduced_at(
 ) -> Result<Option<Rule>, AllocError>
     requires { k < length rules.now }
     ensures { IfOk result (λ o. MatchOption o
-        ((rule : Rule) → slice_get rules.now k ≡ Some rule → EachFactor rule.left (IsIrreducible (Step rules.now)) → ⊥)
+        ((rule : Rule) → slice_get rules.now k ≡ Some rule
+        → EachFactor rule.left (IsIrreducible (Step rules.now)) → ⊥)
         (IsReducedAt rules.now k)) }
 {
     let rule = rules.rule(k);

@@ -24,7 +24,8 @@ use swreq_word::{Word, are_same};
 fn rule_of(sides: &Sides, birth: Birth) -> Result<Option<Rule>, AllocError>
     ensures { IfOk result (λ found. MatchOption found
         (sides.now.left.items ≡ sides.now.right.items)
-        (λ rule. (rule.birth ≡ birth) × IsOriented rule sides.now.left.items sides.now.right.items)) }
+        (λ rule.
+        (rule.birth ≡ birth) × IsOriented rule sides.now.left.items sides.now.right.items)) }
 {
     if are_same(&sides.left, &sides.right) {
         return Ok(None);
@@ -69,8 +70,10 @@ fn bear<W: Watch>(
 ) -> Result<(), Stop>
     requires { length rules.old < 2 ^ 32 - 1 }
     ensures { MatchResult result
-        (λ _. DoneWithin limits (λ t. t ≡ rules.old ++ rule ∷ []) rules.old rules.new (W.told watch.old) (W.told watch.new))
-        (λ s. StoppedAt limits (λ t. t ≡ rules.old ++ rule ∷ []) rules.old rules.new (W.told watch.old) (W.told watch.new) s) }
+        (λ _. DoneWithin limits (λ t. t ≡ rules.old ++ rule ∷ []) rules.old rules.new
+        (W.told watch.old) (W.told watch.new))
+        (λ s. StoppedAt limits (λ t. t ≡ rules.old ++ rule ∷ []) rules.old rules.new
+        (W.told watch.old) (W.told watch.new) s) }
 {
     let long = rule.left.symbols().len();
     let event = Event::Born { rule };
@@ -92,8 +95,10 @@ pub(crate) fn settle_sides<W: Watch>(
 ) -> Result<(), Stop>
     requires { length rules.old < 2 ^ 32 - 1 }
     ensures { MatchResult result
-        (λ _. DoneWithin limits (λ t. Settles rules.old t birth sides.old.left.items sides.old.right.items) rules.old rules.new (W.told watch.old) (W.told watch.new))
-        (λ s. StoppedAt limits (λ t. Settles rules.old t birth sides.old.left.items sides.old.right.items) rules.old rules.new (W.told watch.old) (W.told watch.new) s) }
+        (λ _. DoneWithin limits (λ t. Settles rules.old t birth sides.old.left.items
+        sides.old.right.items) rules.old rules.new (W.told watch.old) (W.told watch.new))
+        (λ s. StoppedAt limits (λ t. Settles rules.old t birth sides.old.left.items
+        sides.old.right.items) rules.old rules.new (W.told watch.old) (W.told watch.new) s) }
 {
     reduce(rules, &mut sides.left, &mut sides.counts)?;
     reduce(rules, &mut sides.right, &mut sides.counts)?;
@@ -114,8 +119,10 @@ fn settle_equation<W: Watch>(
 ) -> Result<(), Stop>
     requires { length rules.old < 2 ^ 32 - 1 }
     ensures { MatchResult result
-        (λ _. DoneWithin limits (λ t. Settles rules.old t (Given number) equation.now.0 equation.now.1) rules.old rules.new (W.told watch.old) (W.told watch.new))
-        (λ s. StoppedAt limits (λ t. Settles rules.old t (Given number) equation.now.0 equation.now.1) rules.old rules.new (W.told watch.old) (W.told watch.new) s) }
+        (λ _. DoneWithin limits (λ t. Settles rules.old t (Given number) equation.now.0
+        equation.now.1) rules.old rules.new (W.told watch.old) (W.told watch.new))
+        (λ s. StoppedAt limits (λ t. Settles rules.old t (Given number) equation.now.0
+        equation.now.1) rules.old rules.new (W.told watch.old) (W.told watch.new) s) }
 {
     sides.set(equation.0.symbols(), equation.1.symbols())?;
     settle_sides(rules, limits, watch, Birth::Given(number), sides)
@@ -131,8 +138,10 @@ pub(crate) fn settle_given<W: Watch>(
     requires base_fits { length rules.old < 2 ^ 32 - 1 }
     requires limits { AreInRange task.now.limits }
     ensures { MatchResult result
-        (λ _. HasCome task.now.limits (length rules.old) task.now.given.now (GivenBelow (length task.now.given.now)) rules.old rules.new (W.told watch.old) (W.told watch.new))
-        (λ s. HasStoppedAmong task.now.limits (length rules.old) task.now.given.now rules.old rules.new (W.told watch.old) (W.told watch.new) s) }
+        (λ _. HasCome task.now.limits (length rules.old) task.now.given.now (GivenBelow
+        (length task.now.given.now)) rules.old rules.new (W.told watch.old) (W.told watch.new))
+        (λ s. HasStoppedAmong task.now.limits (length rules.old) task.now.given.now rules.old
+        rules.new (W.told watch.old) (W.told watch.new) s) }
 {
     let given = task.given;
     for n in 0..given.len() {

@@ -32,7 +32,8 @@ module _ (f : TermFacts) (written : List TermRequirement) where
   goes_from_one Start n s h = h.2.0
   goes_from_one (Conformance t p) n s h = h.2.0
 
-  pub lead_further : (a b c : TermPlace) (ns : List ℕ) (n : ℕ) → LeadTo f written a ns b → GoesTo f written b n c → LeadTo f written a (ns ++ n ∷ []) c
+  pub lead_further : (a b c : TermPlace) (ns : List ℕ) (n : ℕ) → LeadTo f written a ns b → GoesTo f written b n c
+      → LeadTo f written a (ns ++ n ∷ []) c
   lead_further a b c [] n h k = (c, subst (λ z. GoesTo f written z n c) (sym h) k, refl)
   lead_further a b c (m ∷ ns) n h k = (h.0, h.1, lead_further h.0 b c ns n h.2 k)
 

@@ -31,7 +31,8 @@ module _ (f : TermFacts) (params : List ParamId) (written : List TermRequirement
   source = Written params written
 
   -- the numbers of a conformance path lead to the place that is sought
-  pub path_leads : (t : Term) (p : ProtoId) (first : ℕ) (steps : List ℕ) → Derivable f source (Requires (Conforms t p)) → IsConformancePath f params written first steps t p
+  pub path_leads : (t : Term) (p : ProtoId) (first : ℕ) (steps : List ℕ) → Derivable f source (Requires (Conforms t p))
+      → IsConformancePath f params written first steps t p
       → (d : TermPlace) × LeadTo f written Start (first ∷ steps) d × AreAlike f source d (Conformance t p)
   path_leads t p first steps c h = (
     Conformance h.subject p,
@@ -40,7 +41,8 @@ module _ (f : TermFacts) (params : List ParamId) (written : List TermRequirement
   )
 
   -- and numbers that lead there are those of one
-  pub leads_path : (t : Term) (p : ProtoId) (first : ℕ) (steps : List ℕ) (d : TermPlace) → LeadTo f written Start (first ∷ steps) d → AreAlike f source d (Conformance t p)
+  pub leads_path : (t : Term) (p : ProtoId) (first : ℕ) (steps : List ℕ) (d : TermPlace) → LeadTo f written Start (first ∷ steps) d
+      → AreAlike f source d (Conformance t p)
       → IsConformancePath f params written first steps t p
   leads_path t p first steps Start h like = absurd like
   leads_path t p first steps (Conformance u q) h like = record {
@@ -78,15 +80,18 @@ module _ (f : TermFacts) (params : List ParamId) (written : List TermRequirement
 
   module _ (sought : TermPlace) (tried : List TermSpot) (next : ℕ) (h : AreTried f params written sought tried next) where
     -- no numbers lead from a dead end to the place that is sought, nor from a place like it
-    none_from_dead : (c b : TermPlace) (ms : List ℕ) (d : TermPlace) → IsDeadEnd f params written sought c → AreAlike f s c b → AreAlike f s b b
+    none_from_dead : (c b : TermPlace) (ms : List ℕ) (d : TermPlace) → IsDeadEnd f params written sought c
+        → AreAlike f s c b → AreAlike f s b b
         → LeadTo f written b ms d → AreAlike f s d sought → ⊥
     none_from_dead c b ms d dead alike own k like =
         let rest = lead_alike f written params protocols list ms c b d alike own k in
         dead ms rest.0 rest.1 (alike_then f written params protocols list rest.0 d sought rest.2 like)
 
     -- numbers that lead to the place that is sought are covered, or go on from one that is not done
-    covers : (ms front : List ℕ) (e : TermSpot) (a d : TermPlace) → AreAlike f s d sought → Contains tried e → AreAlike f s e.place a → AreAlike f s a a
-        → IsNotAfter e.numbers front → LeadTo f written a ms d → IsCovered f params written tried (front ++ ms) d ⊎ IsOpen tried next (front ++ ms) d
+    covers : (ms front : List ℕ) (e : TermSpot) (a d : TermPlace) → AreAlike f s d sought → Contains tried e
+        → AreAlike f s e.place a → AreAlike f s a a
+        → IsNotAfter e.numbers front → LeadTo f written a ms d
+        → IsCovered f params written tried (front ++ ms) d ⊎ IsOpen tried next (front ++ ms) d
     covers [] front e a d like of alike own early k =
         inl (e, of, subst (AreAlike f s e.place) k alike, subst (IsNotAfter e.numbers) (sym (append-nil front)) early)
     covers (n ∷ ms) front e a d like of alike own early k =
@@ -145,7 +150,8 @@ module _ (f : TermFacts) (params : List ParamId) (written : List TermRequirement
         not_after_then (at.numbers ++ suc count ∷ []) (opened.from.numbers ++ (opened.by ∷ opened.ns)) ms
         (from_opened opened (alike_then f written params protocols list opened.last d sought opened.alike like)) opened.not_after
       where
-        by_rest : (from : TermSpot) (by : ℕ) (first : TermPlace) (ns : List ℕ) (last : TermPlace) → from ≡ at → GoesTo f written from.place by first → LeadTo f written first ns last
+        by_rest : (from : TermSpot) (by : ℕ) (first : TermPlace) (ns : List ℕ) (last : TermPlace) → from ≡ at
+            → GoesTo f written from.place by first → LeadTo f written first ns last
             → AreAlike f s last sought → IsNotAfter (at.numbers ++ suc count ∷ []) (at.numbers ++ (by ∷ ns))
         by_rest from by first [] last same goes leads found =
             elim (cases_lt count by) [
@@ -158,20 +164,23 @@ module _ (f : TermFacts) (params : List ParamId) (written : List TermRequirement
             ]
         by_rest from by first (n ∷ ns) last same goes leads found = inr (before_by_length at.numbers ns (suc count) by n)
 
-        from_opened : (opened : IsOpen tried next ms d) → AreAlike f s opened.last sought → IsNotAfter (at.numbers ++ suc count ∷ []) (opened.from.numbers ++ (opened.by ∷ opened.ns))
+        from_opened : (opened : IsOpen tried next ms d) → AreAlike f s opened.last sought
+            → IsNotAfter (at.numbers ++ suc count ∷ []) (opened.from.numbers ++ (opened.by ∷ opened.ns))
         from_opened opened found =
             elim (cases_lt next opened.at) [
               | inl later ↦ inr (before_longer at.numbers opened.from.numbers opened.ns (suc count) opened.by
                   (h.ordered next opened.at at opened.from later now.is_next opened.is_at))
               | inr not ↦
                   let e : opened.at ≡ next = let l = opened.later in omega arith in
-                  let same : opened.from ≡ at = one_there tried next opened.from at (subst (λ z. slice_get tried z ≡ Some opened.from) e opened.is_at) now.is_next in
+                  let same : opened.from ≡ at =
+                  one_there tried next opened.from at (subst (λ z. slice_get tried z ≡ Some opened.from) e opened.is_at) now.is_next in
                   subst (λ (z : TermSpot). IsNotAfter (at.numbers ++ suc count ∷ []) (z.numbers ++ (opened.by ∷ opened.ns))) (sym same)
                   (by_rest opened.from opened.by opened.first opened.ns opened.last same opened.goes opened.leads found)
             ]
 
   -- The first numbers that are found are those of the given path.
-  pub is_given : (t : Term) (p : ProtoId) (tried : List TermSpot) (next : ℕ) (at : TermSpot) (count : ℕ) (d : TermPlace) (first : ℕ) (steps : List ℕ)
+  pub is_given : (t : Term) (p : ProtoId) (tried : List TermSpot) (next : ℕ) (at : TermSpot) (count : ℕ) (d : TermPlace)
+      (first : ℕ) (steps : List ℕ)
       → Derivable f s (Requires (Conforms t p)) → AreTriedUpTo f params written (Conformance t p) tried next at count
       → GoesTo f written at.place (suc count) d → AreAlike f s d (Conformance t p) → first ∷ steps ≡ at.numbers ++ suc count ∷ []
       → IsGivenPath f params written first steps t p

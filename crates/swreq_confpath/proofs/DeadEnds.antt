@@ -58,7 +58,8 @@ module _ (s : Sought) where
     pub links : Links rules (word_of m S subject) (w ++ tail)
 
   -- where numbers lead on to is after the word of the place from which they do
-  behind : (ns : List ℕ) (u : Term) (q : ProtoId) (w : Word) (e : TermPlace) → Links rules (word_of m S u) w → LeadTo F L (Conformance u q) ns e → IsBehind w e
+  behind : (ns : List ℕ) (u : Term) (q : ProtoId) (w : Word) (e : TermPlace) → Links rules (word_of m S u) w
+      → LeadTo F L (Conformance u q) ns e → IsBehind w e
   behind [] u q w e l h = record {
     subject = u;
     proto = q;
@@ -68,8 +69,10 @@ module _ (s : Sought) where
   }
   behind (n ∷ ns) u q w e l h =
       let t = h.1.0 in
-      let spelled : word_of m S u ++ steps m t [] ≡ word_of m S (for_self u t) = spell-append m S u [] (steps m t []) ∙ sym (spell-for_self m S u t []) in
-      let next : Links rules (word_of m S (for_self u t)) (w ++ steps m t []) = subst (λ z. Links rules z (w ++ steps m t [])) spelled (Linked-after (steps m t []) l) in
+      let spelled : word_of m S u ++ steps m t [] ≡ word_of m S (for_self u t) =
+      spell-append m S u [] (steps m t []) ∙ sym (spell-for_self m S u t []) in
+      let next : Links rules (word_of m S (for_self u t)) (w ++ steps m t []) =
+      subst (λ z. Links rules z (w ++ steps m t [])) spelled (Linked-after (steps m t []) l) in
       let rest = behind ns (for_self u t) h.1.1 (w ++ steps m t []) e next (subst (λ z. LeadTo F L z ns e) h.1.3 h.2) in
       record {
         subject = rest.subject;
@@ -88,7 +91,8 @@ module _ (s : Sought) where
         (by_sides W known.text.closed M L known.machine (Equals t u) (valid_sides F S (Equals t u) like.1)).0 like.1
 
     -- From a place that has parted no numbers lead on to the place that is sought.
-    pub dead_end : (target place : Place) (d : TermPlace) → StandsFor s target (sought_in s) → StandsFor s place d → HasParted s target place
+    pub dead_end : (target place : Place) (d : TermPlace) → StandsFor s target (sought_in s) → StandsFor s place d
+        → HasParted s target place
         → IsDeadEnd F (params_in s) L (sought_in s) d
     dead_end target places.Start d h k parted ns e leads like = no_word parted.front parted.rest parted.spared parted.cut
     dead_end places.Start (places.Conformance w q) d h k parted ns e leads like = absurd h

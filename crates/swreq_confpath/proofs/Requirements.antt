@@ -40,10 +40,14 @@ use Rattle.swreq_confpath.specs.Parting.{AllSpareOthers}
 use Rattle.swreq_confpath.specs.Searches.{IsGiven, IsKnown, IsMachineFor, IsPlaceIn, facts_in, list_in, required_at, source_in, world_in}
 
 -- the number of the k-th is k + 1
-pub numbered_at : (rs list : List Requirement) (k : ℕ) (d : Requirement) → list ≡ rs → k < length list → HasNumber (k + 1) rs (get_or list k d)
+pub numbered_at : (rs list : List Requirement) (k : ℕ) (d : Requirement) → list ≡ rs → k < length list
+    → HasNumber (k + 1) rs (get_or list k d)
 numbered_at rs list k d same l =
-    let here : k ≡ k + 1 - 1 = omega arith in
-    (omega arith, subst (λ n. slice_get rs n ≡ Some (get_or list k d)) here (subst (λ z. slice_get z k ≡ Some (get_or list k d)) same (slice_get-get_or list k d l)))
+    let here : k ≡ k + 1 - 1 = omega arith in (
+      omega arith,
+      subst (λ n. slice_get rs n ≡ Some (get_or list k d)) here
+          (subst (λ z. slice_get z k ≡ Some (get_or list k d)) same (slice_get-get_or list k d l)),
+    )
 
 -- ---- of a protocol and of a signature
 
@@ -53,10 +57,12 @@ module _ (terms : List Term) (w : IdWorld) where
       let h = contains_of_map (λ (z : Written). z.requirement) (requirements_of w q) r c in
       subst (IsRequirementIn terms w.lexicon) (sym h.2) (protocol_written w terms text q h.0 h.1)
 
-  pub protocol_in_list : IsTextOver terms w → (q : ProtoId) → (list : List Requirement) → list ≡ bare (requirements_of w q) → AreKnown terms w.lexicon list
+  pub protocol_in_list : IsTextOver terms w → (q : ProtoId) → (list : List Requirement) → list ≡ bare (requirements_of w q)
+      → AreKnown terms w.lexicon list
   protocol_in_list text q list e r c = protocol_known text q r (subst (λ z. Contains z r) e c)
 
-  pub signature_known : IsTextOver terms w → (f : FuncId) → f.place < length w.signatures → (list : List Requirement) → list ≡ bare (signature_at w f).requirements
+  pub signature_known : IsTextOver terms w → (f : FuncId) → f.place < length w.signatures → (list : List Requirement)
+      → list ≡ bare (signature_at w f).requirements
       → AreKnown terms w.lexicon list
   signature_known text f l list e =
       written_known terms w.lexicon (signature_at w f).requirements list e (λ r c. signature_written w terms text f l r c)
@@ -97,13 +103,15 @@ module _ (s : Sought) (f : FuncId) (text : IsTextOver s.table.now s.world.now) (
 
   few : length s.list.now < 2 ^ 32
   few =
-      let h = All-get_or (λ (g : SignatureOver Written). length g.requirements < 2 ^ 32) s.world.now.signatures f.place no_signature of.signature short.lists in
+      let h = All-get_or (λ (g : SignatureOver Written). length g.requirements < 2 ^ 32) s.world.now.signatures f.place no_signature
+      of.signature short.lists in
       let e = ap length list in
       let k = length-map (signature_at s.world.now f).requirements (λ (r : Written). r.requirement) in
       omega arith
 
   pub known_of : IsComplete (last_rules s.machine.now.rounds) → AllSpareOthers (last_rules s.machine.now.rounds) s.changed.now
-      → Derivable (facts_in s) (source_of (signature_at (world_in s) f)) (Requires (Conforms (term_at s.table.now s.subject) s.proto)) → IsKnown s
+      → Derivable (facts_in s) (source_of (signature_at (world_in s) f)) (Requires (Conforms (term_at s.table.now s.subject) s.proto))
+      → IsKnown s
   known_of complete others derivable = record {
     text = text;
     list = signature_known s.table.now s.world.now text f of.signature s.list.now list;
@@ -114,14 +122,18 @@ module _ (s : Sought) (f : FuncId) (text : IsTextOver s.table.now s.world.now) (
     well_formed = subst (IsListWellFormed (facts_in s)) (sym same_source) of.list;
     few = few;
     short = short.protocols;
-    derivable = subst (λ (z : Source). Derivable (facts_in s) z (Requires (Conforms (term_at s.table.now s.subject) s.proto))) (sym same_source) derivable;
+    derivable = subst (λ (z : Source). Derivable (facts_in s) z (Requires (Conforms (term_at s.table.now s.subject) s.proto)))
+        (sym same_source) derivable;
   }
 
   pub given_of : (path : ConfPath) → IsGiven s path
-      → IsGivenPath (facts_in s) (generic_params (signature_at (world_in s) f).params) (written_list (signature_at (world_in s) f)) path.first path.steps
+      → IsGivenPath (facts_in s) (generic_params (signature_at (world_in s) f).params)
+      (written_list (signature_at (world_in s) f)) path.first path.steps
       (term_at s.table.now s.subject) s.proto
   given_of path h =
-      subst (λ (gs : List ParamId). IsGivenPath (facts_in s) gs (written_list (signature_at (world_in s) f)) path.first path.steps (term_at s.table.now s.subject) s.proto)
+      subst (λ (gs : List ParamId). IsGivenPath (facts_in s) gs (written_list (signature_at (world_in s) f)) path.first path.steps
+      (term_at s.table.now s.subject) s.proto)
       (ap generic_params of.params)
-      (subst (λ (rs : List TermRequirement). IsGivenPath (facts_in s) (generic_params s.machine.now.params) rs path.first path.steps (term_at s.table.now s.subject) s.proto)
+      (subst (λ (rs : List TermRequirement).
+      IsGivenPath (facts_in s) (generic_params s.machine.now.params) rs path.first path.steps (term_at s.table.now s.subject) s.proto)
       same_list h)

@@ -41,7 +41,8 @@ pub record IsSpotAt (s : Sought) (tried : List TermSpot) (k : ℕ) (x : Spot) : 
   pub place : IsPlaceIn s.world.now x.0
   pub stands : StandsFor s x.0 at.place
 
-pub spot_at : (s : Sought) (tried : List TermSpot) (spots : List Spot) → AreSpotsOf s tried spots → (k : ℕ) (x : Spot) → slice_get spots k ≡ Some x
+pub spot_at : (s : Sought) (tried : List TermSpot) (spots : List Spot) → AreSpotsOf s tried spots → (k : ℕ) (x : Spot)
+    → slice_get spots k ≡ Some x
     → IsSpotAt s tried k x
 spot_at s [] [] h k x e = absurd (let l = slice_get_within [] k x e in omega arith)
 spot_at s [] (y ∷ ys) h k x e = absurd h
@@ -67,14 +68,16 @@ spots_more s (b ∷ bs) [] a x h e i k = absurd h
 spots_more s (b ∷ bs) (y ∷ ys) a x h e i k = (h.0, h.1, h.2, spots_more s bs ys a x h.3 e i k)
 
 -- the next one is among the spots
-pub within : (s : Sought) (spots : List Spot) (next : ℕ) (from : Place) (count : ℕ) → IsSearchAt s spots next from count → next < length spots
+pub within : (s : Sought) (spots : List Spot) (next : ℕ) (from : Place) (count : ℕ)
+    → IsSearchAt s spots next from count → next < length spots
 within s spots next from count h =
     let l = slice_get_within h.tried next h.at h.up_to.is_next in
     let e = spots_length s h.tried spots h.stand in
     omega arith
 
 -- a requirement of the code that is not a conformance
-no_conforms : (terms : List Term) (r : Requirement) → ((t : TermId) (p : ProtoId) → r ≡ Conf t p → ⊥) → (t : Term) (p : ProtoId) → requirement_of terms r ≡ Conforms t p → ⊥
+no_conforms : (terms : List Term) (r : Requirement) → ((t : TermId) (p : ProtoId) → r ≡ Conf t p → ⊥) → (t : Term) (p : ProtoId)
+    → requirement_of terms r ≡ Conforms t p → ⊥
 no_conforms terms (Conf u q) none t p e = none u q refl
 no_conforms terms (Layout u) none t p e = cc
 no_conforms terms (Same u v) none t p e = cc
@@ -109,7 +112,8 @@ module _ (s : Sought) (known : IsKnown s) where
   pub ends : (spots : List Spot) (next : ℕ) → IsSearch s spots next → length spots ≤ next → ⊥
   ends spots next h all =
       let e = spots_length s h.tried spots h.stand in
-      not_ended F G L known.protocols known.well_formed (term_at s.table.now s.subject) s.proto h.tried next known.derivable h.ready.so_far (omega arith)
+      not_ended F G L known.protocols known.well_formed
+      (term_at s.table.now s.subject) s.proto h.tried next known.derivable h.ready.so_far (omega arith)
 
   pub turned : (spots : List Spot) (next : ℕ) (x : Spot) (from : Place) → slice_get spots next ≡ Some x → from ≡ x.0 → IsSearch s spots next
       → IsSearchAt s spots next from 0
@@ -147,7 +151,8 @@ module _ (s : Sought) (known : IsKnown s) where
         (map_number (requirement_of s.table.now) (suc count) (required_at s.world.now s.list.now from) r n)
 
     -- one by which one does not go on
-    passed : (r : Requirement) → HasNumber (suc count) (required_at s.world.now s.list.now from) r → ((t : TermId) (p : ProtoId) → r ≡ Conf t p → ⊥)
+    passed : (r : Requirement) → HasNumber (suc count) (required_at s.world.now s.list.now from) r
+        → ((t : TermId) (p : ProtoId) → r ≡ Conf t p → ⊥)
         → IsSearchAt s spots next from (suc count)
     passed r n none = record {
       tried = h.tried;
@@ -156,10 +161,12 @@ module _ (s : Sought) (known : IsKnown s) where
       stands_at = h.stands_at;
       up_to = passes F G L known.protocols known.well_formed (sought_in s) h.tried next h.at count h.up_to
           (λ d goes. no_conforms s.table.now r none goes.0 goes.1
-          (one_number (suc count) (requirements_at F L h.at.place) (requirement_of s.table.now r) (Conforms goes.0 goes.1) (numbered r n) goes.2));
+          (one_number (suc count) (requirements_at F L h.at.place) (requirement_of s.table.now r) (Conforms goes.0 goes.1)
+          (numbered r n) goes.2));
     }
 
-    module _ (t : TermId) (p : ProtoId) (n : HasNumber (suc count) (required_at s.world.now s.list.now from) (Conf t p)) (target place : Place)
+    module _ (t : TermId) (p : ProtoId)
+        (n : HasNumber (suc count) (required_at s.world.now s.list.now from) (Conf t p)) (target place : Place)
         (sought : StandsFor s target (sought_in s)) (of_text : IsPlaceIn s.world.now place)
         (stands : StandsFor s place (gone_on h.at.place (term_at s.table.now t) p)) where
       abbrev d : TermPlace
@@ -177,7 +184,8 @@ module _ (s : Sought) (known : IsKnown s) where
       -- the place that is sought
       found : (path : ConfPath) → place ≡ target → path.first ∷ path.steps ≡ h.at.numbers ++ suc count ∷ [] → IsGiven s path
       found path same numbers =
-          is_given F G L known.protocols known.well_formed (term_at s.table.now s.subject) s.proto h.tried next h.at count d path.first path.steps known.derivable h.up_to goes
+          is_given F G L known.protocols known.well_formed
+          (term_at s.table.now s.subject) s.proto h.tried next h.at count d path.first path.steps known.derivable h.up_to goes
           (alike_by_place s known target d (sought_in s) (subst (λ z. StandsFor s z d) same stands) sought itself sought_itself) numbers
 
       other : (place ≡ target → ⊥) → AreAlike F S d (sought_in s) → ⊥
@@ -192,7 +200,8 @@ module _ (s : Sought) (known : IsKnown s) where
             stand = h.stand;
             at = h.at;
             stands_at = h.stands_at;
-            up_to = knows F G L known.protocols known.well_formed (sought_in s) h.tried next h.at count d h.up_to goes (inr dead) (dead [] d refl);
+            up_to = knows F G L known.protocols known.well_formed (sought_in s) h.tried next h.at count d h.up_to goes
+                (inr dead) (dead [] d refl);
           }
 
       -- one that was reached before
@@ -202,14 +211,16 @@ module _ (s : Sought) (known : IsKnown s) where
           let e = spot_at s h.tried spots h.stand k reached.0 there in
           let of : Contains h.tried e.at = get_contains h.tried k e.at e.there in
           let like : AreAlike F S e.at.place d
-          = alike_by_place s known place e.at.place d (subst (λ z. StandsFor s z e.at.place) reached.2 e.stands) stands (h.up_to.so_far.leads e.at of).1 itself in
+          = alike_by_place s known place e.at.place d (subst (λ z. StandsFor s z e.at.place) reached.2 e.stands) stands
+          (h.up_to.so_far.leads e.at of).1 itself in
           record {
             tried = h.tried;
             stand = h.stand;
             at = h.at;
             stands_at = h.stands_at;
             up_to = knows F G L known.protocols known.well_formed (sought_in s) h.tried next h.at count d h.up_to goes
-                (is_known F G L known.protocols known.well_formed (sought_in s) h.tried next h.at count d e.at h.up_to of like) (other differs);
+                (is_known F G L known.protocols known.well_formed (sought_in s) h.tried next h.at count d e.at h.up_to of like)
+                (other differs);
           }
 
       -- and one that is new
@@ -217,7 +228,8 @@ module _ (s : Sought) (known : IsKnown s) where
           → IsSearchAt s (spots ++ (place, numbers) ∷ []) next from (suc count)
       kept differs numbers e = record {
         tried = h.tried ++ (record { numbers = h.at.numbers ++ suc count ∷ []; place = d }) ∷ [];
-        stand = spots_more s h.tried spots (record { numbers = h.at.numbers ++ suc count ∷ []; place = d }) (place, numbers) h.stand e of_text stands;
+        stand = spots_more s h.tried spots (record { numbers = h.at.numbers ++ suc count ∷ []; place = d })
+            (place, numbers) h.stand e of_text stands;
         at = h.at;
         stands_at = h.stands_at;
         up_to = adds F G L known.protocols known.well_formed (sought_in s) h.tried next h.at count d h.up_to goes (other differs);
@@ -225,7 +237,8 @@ module _ (s : Sought) (known : IsKnown s) where
 
       -- what trying the place comes to
       tried_place : (new : List Spot) (x : Spot) (o : Option ConfPath) → slice_get spots next ≡ Some x
-          → MatchOption o ((place ≡ target → ⊥) × IsKept spots new place (x.1 ++ suc count ∷ [])) (λ path. (place ≡ target) × (path.first ∷ path.steps ≡ x.1 ++ suc count ∷ []))
+          → MatchOption o ((place ≡ target → ⊥) × IsKept spots new place (x.1 ++ suc count ∷ []))
+          (λ path. (place ≡ target) × (path.first ∷ path.steps ≡ x.1 ++ suc count ∷ []))
           → MatchOption o (IsSearchAt s new next from (suc count)) (IsGiven s)
       tried_place new x o there outcome = by o outcome
         where
@@ -241,7 +254,8 @@ module _ (s : Sought) (known : IsKnown s) where
           with_last = ap (λ z. z ++ suc count ∷ []) numbers_are
 
           by : (o : Option ConfPath)
-              → MatchOption o ((place ≡ target → ⊥) × IsKept spots new place (x.1 ++ suc count ∷ [])) (λ path. (place ≡ target) × (path.first ∷ path.steps ≡ x.1 ++ suc count ∷ []))
+              → MatchOption o ((place ≡ target → ⊥) × IsKept spots new place (x.1 ++ suc count ∷ []))
+              (λ path. (place ≡ target) × (path.first ∷ path.steps ≡ x.1 ++ suc count ∷ []))
               → MatchOption o (IsSearchAt s new next from (suc count)) (IsGiven s)
           by (Some path) k = found path k.0 (k.1 ∙ with_last)
           by None k = elim k.1 [
@@ -255,7 +269,8 @@ module _ (s : Sought) (known : IsKnown s) where
   the_number number some = omega arith
 
   pub passed_by : (spots : List Spot) (next : ℕ) (from : Place) (number : ℕ) (r : Requirement) → IsSearchAt s spots next from (number - 1)
-      → HasNumber number (required_at s.world.now s.list.now from) r → ((t : TermId) (p : ProtoId) → r ≡ Conf t p → ⊥) → IsSearchAt s spots next from number
+      → HasNumber number (required_at s.world.now s.list.now from) r → ((t : TermId) (p : ProtoId) → r ≡ Conf t p → ⊥)
+      → IsSearchAt s spots next from number
   passed_by spots next from number r h n none =
       let e = the_number number n.0 in
       subst (IsSearchAt s spots next from) e
@@ -269,19 +284,24 @@ module _ (s : Sought) (known : IsKnown s) where
   set_aside_by spots next from target place number t p h n sought of_text stands parted =
       let e = the_number number n.0 in
       subst (IsSearchAt s spots next from) e
-      (set_aside spots next from (number - 1) h t p (subst (λ k. HasNumber k (required_at s.world.now s.list.now from) (Conf t p)) (sym e) n) target place sought of_text
+      (set_aside spots next from (number - 1) h t p
+      (subst (λ k. HasNumber k (required_at s.world.now s.list.now from) (Conf t p)) (sym e) n) target place sought of_text
       (stands h.at.place h.stands_at) parted)
 
-  pub tried_by : (spots new : List Spot) (next : ℕ) (from target place : Place) (number : ℕ) (t : TermId) (p : ProtoId) (o : Option ConfPath)
+  pub tried_by : (spots new : List Spot) (next : ℕ) (from target place : Place) (number : ℕ) (t : TermId)
+      (p : ProtoId) (o : Option ConfPath)
       → IsSearchAt s spots next from (number - 1) → HasNumber number (required_at s.world.now s.list.now from) (Conf t p)
       → StandsFor s target (sought_in s) → IsPlaceIn s.world.now place
       → ((a : TermPlace) → StandsFor s from a → StandsFor s place (gone_on a (term_at s.table.now t) p))
       → (x : Spot) → slice_get spots next ≡ Some x
-      → MatchOption o ((place ≡ target → ⊥) × IsKept spots new place (x.1 ++ number ∷ [])) (λ path. (place ≡ target) × (path.first ∷ path.steps ≡ x.1 ++ number ∷ []))
+      → MatchOption o ((place ≡ target → ⊥) × IsKept spots new place (x.1 ++ number ∷ []))
+      (λ path. (place ≡ target) × (path.first ∷ path.steps ≡ x.1 ++ number ∷ []))
       → MatchOption o (IsSearchAt s new next from number) (IsGiven s)
   tried_by spots new next from target place number t p o h n sought of_text stands x there outcome =
       let e = the_number number n.0 in
       subst (λ k. MatchOption o (IsSearchAt s new next from k) (IsGiven s)) e
-      (tried_place spots next from (number - 1) h t p (subst (λ k. HasNumber k (required_at s.world.now s.list.now from) (Conf t p)) (sym e) n) target place sought of_text
+      (tried_place spots next from (number - 1) h t p
+      (subst (λ k. HasNumber k (required_at s.world.now s.list.now from) (Conf t p)) (sym e) n) target place sought of_text
       (stands h.at.place h.stands_at) new x o there
-      (subst (λ k. MatchOption o ((place ≡ target → ⊥) × IsKept spots new place (x.1 ++ k ∷ [])) (λ path. (place ≡ target) × (path.first ∷ path.steps ≡ x.1 ++ k ∷ []))) (sym e) outcome))
+      (subst (λ k. MatchOption o ((place ≡ target → ⊥) × IsKept spots new place (x.1 ++ k ∷ []))
+      (λ path. (place ≡ target) × (path.first ∷ path.steps ≡ x.1 ++ k ∷ []))) (sym e) outcome))

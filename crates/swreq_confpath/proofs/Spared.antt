@@ -35,7 +35,8 @@ no_word [] rest x e = cc
 no_word (y ∷ front) rest x e = cc
 
 -- where two words with one symbol and some after them are one, the longer end has the shorter one's last symbol as its last
-last_part : (front before : Word) (x y : Symbol) (q : Word) → front ++ x ∷ [] ≡ before ++ (y ∷ q) → (b : Word) × (y ∷ q ≡ b ++ x ∷ []) × (front ≡ before ++ b)
+last_part : (front before : Word) (x y : Symbol) (q : Word) → front ++ x ∷ [] ≡ before ++ (y ∷ q)
+    → (b : Word) × (y ∷ q ≡ b ++ x ∷ []) × (front ≡ before ++ b)
 last_part front [] x y q e = (front, sym e, refl)
 last_part [] (c ∷ before) x y q e = absurd (no_word before q y (same_tails e))
 last_part (a ∷ front) (c ∷ before) x y q e =
@@ -54,11 +55,13 @@ get_dropped (suc n) (y ∷ xs) i x e =
     let z : suc n + i ≡ suc (n + i) = omega arith in
     get_dropped n xs i x (subst (λ k. slice_get (y ∷ xs) k ≡ Some x) z e)
 
-pub stands_between : (xs : Word) (from to i : ℕ) (x : Symbol) → from ≤ i → i < to → slice_get xs i ≡ Some x → Contains (take (to - from) (drop from xs)) x
+pub stands_between : (xs : Word) (from to i : ℕ) (x : Symbol) → from ≤ i → i < to → slice_get xs i ≡ Some x
+    → Contains (take (to - from) (drop from xs)) x
 stands_between xs from to i x low high e =
     let z : i ≡ from + (i - from) = omega arith in
     get_contains (take (to - from) (drop from xs)) (i - from) x
-    (in_front (drop from xs) (to - from) (i - from) x (omega arith) (get_dropped from xs (i - from) x (subst (λ k. slice_get xs k ≡ Some x) z e)))
+    (in_front (drop from xs) (to - from) (i - from) x (omega arith)
+    (get_dropped from xs (i - from) x (subst (λ k. slice_get xs k ≡ Some x) z e)))
 
 -- ---- steps
 
@@ -69,7 +72,8 @@ module _ (rules : List Rule) (front : Word) (x : Symbol) (none : HasNoProtocol (
   Keeps v = (rest : Word) × (v ≡ front ++ (x ∷ rest))
 
   -- by a rule whose left side ends after the spared symbol, and begins up to it
-  over : (rule : Rule) (k : ℕ) → slice_get rules k ≡ Some rule → (before after q : Word) (y z : Symbol) (end : Word) → front ++ x ∷ [] ≡ before ++ (y ∷ q)
+  over : (rule : Rule) (k : ℕ) → slice_get rules k ≡ Some rule → (before after q : Word) (y z : Symbol) (end : Word)
+      → front ++ x ∷ [] ≡ before ++ (y ∷ q)
       → rule.left ≡ (y ∷ q) ++ (z ∷ end) → (v : Word) → v ≡ before ++ (rule.right ++ after) → Keeps v
   over rule k is before after q y z end e f v target =
       let b = last_part front before x y q e in
@@ -136,7 +140,8 @@ module _ (rules : List Rule) (complete : IsComplete rules) where
 
 -- ---- what the code finds
 
-pub differ_at : (u v : Word) (k : ℕ) (x y : Symbol) → take k u ≡ take k v → slice_get u k ≡ Some x → slice_get v k ≡ Some y → (x ≡ y → ⊥) → AreInCommon u v k
+pub differ_at : (u v : Word) (k : ℕ) (x y : Symbol) → take k u ≡ take k v → slice_get u k ≡ Some x → slice_get v k ≡ Some y
+    → (x ≡ y → ⊥) → AreInCommon u v k
 differ_at u v k x y same a b differ =
     let within_left = slice_get_within u k x a in
     let within_right = slice_get_within v k y b in
@@ -176,22 +181,27 @@ pub none_at_all : (w : Word) (k : ℕ) → k ≡ length w → HasNoProtocol (tak
 none_at_all w k all before = record { within = omega (arith, all); none = before; then_one = λ l. absurd (omega (arith, all, l)) }
 
 -- what both sides of a rule have in common stays
-in_front_of_both : (sides other before after : Word) (x : Symbol) (n from : ℕ) → from ≡ length before + suc n → take from sides ≡ take from other
+in_front_of_both : (sides other before after : Word) (x : Symbol) (n from : ℕ) → from ≡ length before + suc n
+    → take from sides ≡ take from other
     → sides ≡ before ++ (x ∷ after) → (rest : Word) × (other ≡ before ++ (x ∷ rest))
 in_front_of_both sides other before after x n from size same e =
     let front : take from sides ≡ before ++ (x ∷ take n after) = ap₂ take size e ∙ take-append-add before (x ∷ after) (suc n) in (
       take n after ++ drop from other,
-      sym (take-append-drop from other) ∙ ap (λ w. w ++ drop from other) (sym same ∙ front) ∙ append_assoc before (x ∷ take n after) (drop from other),
+      sym (take-append-drop from other) ∙ ap (λ w. w ++ drop from other) (sym same ∙ front)
+          ∙ append_assoc before (x ∷ take n after) (drop from other),
     )
 
 -- a symbol after what both sides have in common, with another after it and no protocol's symbol up to it, is among those that may change
-pub others_spared : (rule : Rule) (from clear to : ℕ) (changed : Word) → AreInCommon rule.left rule.right from → AreBeforeProtocol rule.left clear
+pub others_spared : (rule : Rule) (from clear to : ℕ) (changed : Word) → AreInCommon rule.left rule.right from
+    → AreBeforeProtocol rule.left clear
     → ((i : ℕ) → i < clear → i + 1 < length rule.left → i < to)
     → ((i : ℕ) (x : Symbol) → from ≤ i → i < to → slice_get rule.left i ≡ Some x → Contains changed x)
     → SparesOthers rule changed
 others_spared rule from clear to changed common protocol bound stands x none before after y e no_protocol =
-    let size : length rule.left ≡ length before + suc (suc (length after)) = let l = simp length-append at (ap length e) in omega (arith, l) in
-    let here : slice_get rule.left (length before) ≡ Some x = subst (λ w. slice_get w (length before) ≡ Some x) (sym e) (there before x (y ∷ after)) in
+    let size : length rule.left ≡ length before + suc (suc (length after)) =
+    let l = simp length-append at (ap length e) in omega (arith, l) in
+    let here : slice_get rule.left (length before) ≡ Some x =
+    subst (λ w. slice_get w (length before) ≡ Some x) (sym e) (there before x (y ∷ after)) in
     elim (cases_lt (length before) from) [
       | inl less ↦ in_front_of_both rule.left rule.right before (y ∷ after) x (from - suc (length before)) from (omega arith) common.same e
       | inr far ↦ elim (cases_lt (length before) clear) [
@@ -207,7 +217,8 @@ others_spared rule from clear to changed common protocol bound stands x none bef
     ]
 
 -- one rule more
-pub spared_more : (rules : List Rule) (k : ℕ) (rule : Rule) (changed part : Word) → FirstSpareOthers rules k changed → slice_get rules k ≡ Some rule
+pub spared_more : (rules : List Rule) (k : ℕ) (rule : Rule) (changed part : Word) → FirstSpareOthers rules k changed
+    → slice_get rules k ≡ Some rule
     → SparesOthers rule part → FirstSpareOthers rules (k + 1) (changed ++ part)
 spared_more rules k rule changed part before is own x none n r less there_now = elim (last_or_below n k less) [
   | inl last ↦
@@ -216,11 +227,14 @@ spared_more rules k rule changed part before is own x none n r less there_now = 
   | inr earlier ↦ before x (λ c. none (Contains-append_left changed part x c)) n r earlier there_now
 ]
 
-pub all_spared : (rules : List Rule) (count : ℕ) (changed : Word) → length rules ≤ count → FirstSpareOthers rules count changed → AllSpareOthers rules changed
-all_spared rules count changed all h x none k rule is = h x none k rule (let l = slice_get_within rules k rule is in omega (arith, l, all)) is
+pub all_spared : (rules : List Rule) (count : ℕ) (changed : Word) → length rules ≤ count → FirstSpareOthers rules count changed
+    → AllSpareOthers rules changed
+all_spared rules count changed all h x none k rule is =
+    h x none k rule (let l = slice_get_within rules k rule is in omega (arith, l, all)) is
 
 -- a spared symbol past what two words have in common
-pub parts_at : (rules : List Rule) (changed u v : Word) (from clear k : ℕ) (x : Symbol) → AllSpareOthers rules changed → AreInCommon u v from
+pub parts_at : (rules : List Rule) (changed u v : Word) (from clear k : ℕ) (x : Symbol)
+    → AllSpareOthers rules changed → AreInCommon u v from
     → AreBeforeProtocol v clear → from ≤ k → k < clear → slice_get v k ≡ Some x → (Contains changed x → ⊥) → PartsForGood rules u v
 parts_at rules changed u v from clear k x spare common protocol low high is none = record {
   front = take k v;
@@ -230,14 +244,16 @@ parts_at rules changed u v from clear k x spare common protocol low high is none
   no_protocol = λ p c.
       let j = contains_get (take (suc k) v) (Proto p) (subst (λ w. Contains w (Proto p)) (sym one_more) c) in
       let within = get_take (suc k) j.0 v (Proto p) j.1 in
-      protocol.none p (get_contains (take clear v) j.0 (Proto p) (in_front v clear j.0 (Proto p) (let l = within.0 in omega arith) within.1));
+      protocol.none p
+      (get_contains (take clear v) j.0 (Proto p) (in_front v clear j.0 (Proto p) (let l = within.0 in omega arith) within.1));
   by_all = spare x none;
   apart = λ after e.
       let y = there_is v from (let l = slice_get_within v k x is in omega arith) in
       let near : slice_get (take k v ++ x ∷ []) from ≡ Some y.0
       = subst (λ w. slice_get w from ≡ Some y.0) one_more (in_front v (suc k) from y.0 (omega arith) y.1) in
       let whole : u ≡ (take k v ++ x ∷ []) ++ after = e ∙ sym (append_assoc (take k v) (x ∷ []) after) in
-      common.then_differ y.0 y.0 (subst (λ w. slice_get w from ≡ Some y.0) (sym whole) (get_left (take k v ++ x ∷ []) after from y.0 near)) y.1 refl;
+      common.then_differ y.0 y.0
+      (subst (λ w. slice_get w from ≡ Some y.0) (sym whole) (get_left (take k v ++ x ∷ []) after from y.0 near)) y.1 refl;
 }
   where
     one_more : take (suc k) v ≡ take k v ++ x ∷ []

@@ -42,7 +42,8 @@ none_less used [] l = inl refl
 none_less used (x ∷ v) l = inr (by_length [] (x ∷ v) (omega arith))
 
 -- one symbol more after a word, of which some are taken
-pub linked_more : (used : List Rule) (front rest w v : Word) (k : ℕ) (x : Symbol) → Links used (front ++ take k rest) w → slice_get rest k ≡ Some x
+pub linked_more : (used : List Rule) (front rest w v : Word) (k : ℕ) (x : Symbol) → Links used (front ++ take k rest) w
+    → slice_get rest k ≡ Some x
     → Links used (w ++ x ∷ []) v → Links used (front ++ take (k + 1) rest) v
 linked_more used front rest w v k x l is next =
     let e : k + 1 ≡ suc k = omega arith in
@@ -75,7 +76,8 @@ module _ (s : Sought) where
   -- ---- words
 
   -- of a type parameter of the signature
-  pub first_word : {E : Type 0} (t : Term) (word front : Word) (used : List Rule) (r : Result Word E) → word ≡ right_side m (source_by None) (IsAnyObject t)
+  pub first_word : {E : Type 0} (t : Term) (word front : Word) (used : List Rule) (r : Result Word E)
+      → word ≡ right_side m (source_by None) (IsAnyObject t)
       → front ≡ [] → used ≡ rules → IfOk r (Links used (front ++ word)) → IfOk r (IsLeastBy used) → IfOk r (IsLeastWord W M t)
   first_word t word front used (Err e) is none same l n = tt
   first_word t word front used (Ok u) is none same l n = (
@@ -91,7 +93,8 @@ module _ (s : Sought) where
       let own : rest ≡ steps m t [] = tail (start (SelfOf q) (head t)) (steps m t []) is in
       let whole : Links rules (word_of m S u ++ steps m t []) v
       = linked_on (Linked-after (steps m t []) h.1) (subst (λ z. Links rules (base ++ z) v) own l) in
-      let spelled : word_of m S u ++ steps m t [] ≡ word_of m S (for_self u t) = spell-append m S u [] (steps m t []) ∙ sym (spell-for_self m S u t []) in
+      let spelled : word_of m S u ++ steps m t [] ≡ word_of m S (for_self u t) =
+      spell-append m S u [] (steps m t []) ∙ sym (spell-for_self m S u t []) in
       subst (λ z. Links rules z v) spelled whole
 
   pub next_word : {E : Type 0} (q : ProtoId) (u t : Term) (word rest base front : Word) (used : List Rule) (r : Result Word E)
@@ -101,7 +104,8 @@ module _ (s : Sought) where
   next_word q u t word rest base front used (Err e) is tail begins same l n h = tt
   next_word q u t word rest base front used (Ok v) is tail begins same l n h = (
     subst (λ z. IsLeastBy z v) same n,
-    next_linked q u t word rest base v is tail h (subst (λ z. Links rules (z ++ rest) v) begins (subst (λ z. Links z (front ++ rest) v) same l)),
+    next_linked q u t word rest base v is tail h
+        (subst (λ z. Links rules (z ++ rest) v) begins (subst (λ z. Links z (front ++ rest) v) same l)),
   )
 
   -- ---- where one goes on
@@ -111,7 +115,8 @@ module _ (s : Sought) where
   from_start Start h t p u l = (refl, l)
   from_start (Conformance r q) h t p u l = absurd h
 
-  pub from_next : {E : Type 0} (base : Word) (q : ProtoId) (a : TermPlace) → StandsFor s (places.Conformance base q) a → (t : Term) (p : ProtoId) (r : Result Word E)
+  pub from_next : {E : Type 0} (base : Word) (q : ProtoId) (a : TermPlace) → StandsFor s (places.Conformance base q) a
+      → (t : Term) (p : ProtoId) (r : Result Word E)
       → ((u : Term) → IsLeastWord W M u base → IfOk r (IsLeastWord W M (for_self u t)))
       → IfOk r (λ v. StandsFor s (places.Conformance v p) (gone_on a t p))
   from_next base q Start h t p r of = absurd h
@@ -140,13 +145,15 @@ module _ (s : Sought) where
         let links = (by_sides W known.text.closed M L known.machine (Equals t u) (valid_sides F S (Equals t u) e)).0 e in
         one_least rules a b h.0 k.0 (linked_on (linked_back h.1) (linked_on links k.1))
 
-    equal_by_word : (t u : Term) (a : Word) → IsLeastWord W M t a → IsLeastWord W M u a → Derivable F S (IsValid t) → Derivable F S (IsValid u)
+    equal_by_word : (t u : Term) (a : Word) → IsLeastWord W M t a → IsLeastWord W M u a → Derivable F S (IsValid t)
+        → Derivable F S (IsValid u)
         → Derivable F S (Requires (Equals t u))
     equal_by_word t u a h k v w =
         (by_sides W known.text.closed M L known.machine (Equals t u) (v, w)).1 (linked_on h.1 (linked_back k.1))
 
     -- Places over type parameters for which one place stands are alike,
-    pub alike_by_place : (p : Place) (a b : TermPlace) → StandsFor s p a → StandsFor s p b → AreAlike F S a a → AreAlike F S b b → AreAlike F S a b
+    pub alike_by_place : (p : Place) (a b : TermPlace) → StandsFor s p a → StandsFor s p b → AreAlike F S a a
+        → AreAlike F S b b → AreAlike F S a b
     alike_by_place places.Start Start Start h k i j = tt
     alike_by_place places.Start Start (Conformance u r) h k i j = absurd k
     alike_by_place places.Start (Conformance t q) b h k i j = absurd h

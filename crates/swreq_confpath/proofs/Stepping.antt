@@ -21,7 +21,8 @@ module _ (f : TermFacts) (params : List ParamId) (written : List TermRequirement
   abbrev s : Source
   s = Written params written
 
-  settled_more : (tried : List TermSpot) (spot : TermSpot) (numbers : List ℕ) (d : TermPlace) → IsSettled f params written sought tried numbers d
+  settled_more : (tried : List TermSpot) (spot : TermSpot) (numbers : List ℕ) (d : TermPlace)
+      → IsSettled f params written sought tried numbers d
       → IsSettled f params written sought (tried ++ spot ∷ []) numbers d
   settled_more tried spot numbers d (inl h) = inl (h.0, Contains-append_left tried (spot ∷ []) h.0 h.1, h.2, h.3)
   settled_more tried spot numbers d (inr dead) = inr dead
@@ -32,7 +33,8 @@ module _ (f : TermFacts) (params : List ParamId) (written : List TermRequirement
   begun other = record {
     so_far = record {
       begins = (0, omega arith, refl);
-      leads = λ e h. subst (λ (z : TermSpot). LeadTo f written Start z.numbers z.place × AreAlike f s z.place z.place) (sym (only_member start e h)) (refl, tt);
+      leads = λ e h. subst (λ (z : TermSpot). LeadTo f written Start z.numbers z.place × AreAlike f s z.place z.place)
+          (sym (only_member start e h)) (refl, tt);
       unlike = λ e h k. other (subst (λ (z : TermSpot). AreAlike f s z.place sought) (only_member start e h) k);
       ordered = λ i j a b less x y.
           let w = slice_get_within (start ∷ []) j b y in absurd (omega arith);
@@ -45,7 +47,8 @@ module _ (f : TermFacts) (params : List ParamId) (written : List TermRequirement
         (subst (λ (z : TermSpot). ComesBefore [] (z.numbers ++ n ∷ [])) (sym two) (inl (omega arith)));
   }
 
-  pub opens : (tried : List TermSpot) (next : ℕ) (at : TermSpot) → AreReady f params written sought tried next → slice_get tried next ≡ Some at
+  pub opens : (tried : List TermSpot) (next : ℕ) (at : TermSpot) → AreReady f params written sought tried next
+      → slice_get tried next ≡ Some at
       → AreTriedUpTo f params written sought tried next at 0
   opens tried next at h e = record {
     so_far = h.so_far;
@@ -85,9 +88,11 @@ module _ (f : TermFacts) (params : List ParamId) (written : List TermRequirement
         (e, goes_once f written at.place (suc count) d r goes (subst (λ z. GoesTo f written at.place z r) e to))
 
     settled_now : (all : List TermSpot)
-        → ((n : ℕ) (r : TermPlace) → n ≤ count → GoesTo f written at.place n r → IsSettled f params written sought all (at.numbers ++ n ∷ []) r)
+        → ((n : ℕ) (r : TermPlace) → n ≤ count → GoesTo f written at.place n r
+        → IsSettled f params written sought all (at.numbers ++ n ∷ []) r)
         → IsSettled f params written sought all (at.numbers ++ suc count ∷ []) d
-        → (n : ℕ) (r : TermPlace) → n ≤ suc count → GoesTo f written at.place n r → IsSettled f params written sought all (at.numbers ++ n ∷ []) r
+        → (n : ℕ) (r : TermPlace) → n ≤ suc count → GoesTo f written at.place n r
+        → IsSettled f params written sought all (at.numbers ++ n ∷ []) r
     settled_now all before known n r few to = elim (cases_lt count n) [
       | inl more ↦
           let e = one_place n r more few to in
@@ -96,7 +101,8 @@ module _ (f : TermFacts) (params : List ParamId) (written : List TermRequirement
       | inr less ↦ before n r less to
     ]
 
-    unlike_now : ((n : ℕ) (r : TermPlace) → n ≤ count → GoesTo f written at.place n r → AreAlike f s r sought → ⊥) → (AreAlike f s d sought → ⊥)
+    unlike_now : ((n : ℕ) (r : TermPlace) → n ≤ count → GoesTo f written at.place n r → AreAlike f s r sought → ⊥)
+        → (AreAlike f s d sought → ⊥)
         → (n : ℕ) (r : TermPlace) → n ≤ suc count → GoesTo f written at.place n r → AreAlike f s r sought → ⊥
     unlike_now before other n r few to like = elim (cases_lt count n) [
       | inl more ↦ other (subst (λ z. AreAlike f s z sought) (sym (one_place n r more few to).1) like)
@@ -104,8 +110,10 @@ module _ (f : TermFacts) (params : List ParamId) (written : List TermRequirement
     ]
 
   -- one that goes on to a place that is settled, and not sought
-  pub knows : (tried : List TermSpot) (next : ℕ) (at : TermSpot) (count : ℕ) (d : TermPlace) → AreTriedUpTo f params written sought tried next at count
-      → GoesTo f written at.place (suc count) d → IsSettled f params written sought tried (at.numbers ++ suc count ∷ []) d → (AreAlike f s d sought → ⊥)
+  pub knows : (tried : List TermSpot) (next : ℕ) (at : TermSpot) (count : ℕ) (d : TermPlace)
+      → AreTriedUpTo f params written sought tried next at count
+      → GoesTo f written at.place (suc count) d → IsSettled f params written sought tried (at.numbers ++ suc count ∷ []) d
+      → (AreAlike f s d sought → ⊥)
       → AreTriedUpTo f params written sought tried next at (suc count)
   knows tried next at count d h goes known other = record {
     so_far = h.so_far;
@@ -116,12 +124,14 @@ module _ (f : TermFacts) (params : List ParamId) (written : List TermRequirement
   }
 
   -- a place that was reached goes on like one that was tried before
-  pub is_known : (tried : List TermSpot) (next : ℕ) (at : TermSpot) (count : ℕ) (d : TermPlace) (e : TermSpot) → AreTriedUpTo f params written sought tried next at count
+  pub is_known : (tried : List TermSpot) (next : ℕ) (at : TermSpot) (count : ℕ) (d : TermPlace) (e : TermSpot)
+      → AreTriedUpTo f params written sought tried next at count
       → Contains tried e → AreAlike f s e.place d → IsSettled f params written sought tried (at.numbers ++ suc count ∷ []) d
   is_known tried next at count d e h of like = inl (e, of, like, inr (h.before e (suc count) (omega arith) of))
 
   -- one that is tried from now on
-  module _ (tried : List TermSpot) (next : ℕ) (at : TermSpot) (count : ℕ) (d : TermPlace) (h : AreTriedUpTo f params written sought tried next at count)
+  module _ (tried : List TermSpot) (next : ℕ) (at : TermSpot) (count : ℕ) (d : TermPlace)
+      (h : AreTriedUpTo f params written sought tried next at count)
       (goes : GoesTo f written at.place (suc count) d) (other : AreAlike f s d sought → ⊥) where
     abbrev spot : TermSpot
     spot = record { numbers = at.numbers ++ suc count ∷ []; place = d }
@@ -146,7 +156,8 @@ module _ (f : TermFacts) (params : List ParamId) (written : List TermRequirement
         let within = slice_get_within tried next at h.is_next in
         elim (get_cases tried spot i a x) [ inl k ↦ k | inr k ↦ let e = k.0 in absurd (omega arith) ]
 
-    ordered_now : (i j : ℕ) (a b : TermSpot) → i < j → slice_get more i ≡ Some a → slice_get more j ≡ Some b → ComesBefore a.numbers b.numbers
+    ordered_now : (i j : ℕ) (a b : TermSpot) → i < j → slice_get more i ≡ Some a → slice_get more j ≡ Some b
+        → ComesBefore a.numbers b.numbers
     ordered_now i j a b less x y = elim (get_cases tried spot j b y) [
       | inl old ↦
           let w = slice_get_within tried j b old in
@@ -155,12 +166,14 @@ module _ (f : TermFacts) (params : List ParamId) (written : List TermRequirement
             | inr k ↦ let e = k.0 in absurd (omega arith)
           ]
       | inr new ↦ elim (get_cases tried spot i a x) [
-        | inl k ↦ subst (λ (z : TermSpot). ComesBefore a.numbers z.numbers) (sym new.1) (h.before a (suc count) (omega arith) (get_contains tried i a k))
+        | inl k ↦ subst (λ (z : TermSpot). ComesBefore a.numbers z.numbers) (sym new.1)
+            (h.before a (suc count) (omega arith) (get_contains tried i a k))
         | inr k ↦ let e = k.0 in let g = new.0 in absurd (omega arith)
       ]
     ]
 
-    pub adds : AreTriedUpTo f params written sought (tried ++ (record { numbers = at.numbers ++ suc count ∷ []; place = d }) ∷ []) next at (suc count)
+    pub adds : AreTriedUpTo f params written sought
+        (tried ++ (record { numbers = at.numbers ++ suc count ∷ []; place = d }) ∷ []) next at (suc count)
     adds = record {
       so_far = record {
         begins = Contains-append_left tried (spot ∷ []) start h.so_far.begins;
@@ -175,14 +188,17 @@ module _ (f : TermFacts) (params : List ParamId) (written : List TermRequirement
           | inr k ↦ other (subst (λ (z : TermSpot). AreAlike f s z.place sought) k like)
         ];
         ordered = ordered_now;
-        settled = λ i a less x n r to. settled_more tried spot (a.numbers ++ n ∷ []) r (h.so_far.settled i a less (old_place i a less x) n r to);
+        settled =
+            λ i a less x n r to. settled_more tried spot (a.numbers ++ n ∷ []) r (h.so_far.settled i a less (old_place i a less x) n r to);
       };
       is_next = get_left tried (spot ∷ []) next at h.is_next;
-      settled = settled_now at count d goes more (λ n r few to. settled_more tried spot (at.numbers ++ n ∷ []) r (h.settled n r few to)) known;
+      settled =
+          settled_now at count d goes more (λ n r few to. settled_more tried spot (at.numbers ++ n ∷ []) r (h.settled n r few to)) known;
       unlike = unlike_now at count d goes h.unlike other;
       before = λ e n above of. elim (spot_of e of) [
         | inl k ↦ h.before e n (omega arith) k
-        | inr k ↦ subst (λ (z : TermSpot). ComesBefore z.numbers (at.numbers ++ n ∷ [])) (sym k) (before_by_last at.numbers (suc count) n above)
+        | inr k ↦
+            subst (λ (z : TermSpot). ComesBefore z.numbers (at.numbers ++ n ∷ [])) (sym k) (before_by_last at.numbers (suc count) n above)
       ];
     }
 
@@ -202,7 +218,8 @@ module _ (f : TermFacts) (params : List ParamId) (written : List TermRequirement
             let e : i ≡ next = omega arith in
             let same : a ≡ at = one_there tried next a at (subst (λ z. slice_get tried z ≡ Some a) e x) h.is_next in
             let to_now : GoesTo f written at.place n d = subst (λ (z : TermSpot). GoesTo f written z.place n d) same to in
-            subst (λ (z : TermSpot). IsSettled f params written sought tried (z.numbers ++ n ∷ []) d) (sym same) (h.settled n d (all n d to_now) to_now)
+            subst (λ (z : TermSpot). IsSettled f params written sought tried (z.numbers ++ n ∷ []) d) (sym same)
+            (h.settled n d (all n d to_now) to_now)
       ];
     };
     before = λ i a e n later some x of.

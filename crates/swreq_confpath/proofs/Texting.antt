@@ -24,15 +24,18 @@ numbers_behind : (f : TermFacts) (ns : List ℕ) (u t : Term) (q p : ProtoId) �
 numbers_behind f [] u t q p h = tt
 numbers_behind f (n ∷ ns) u t q p h = (h.0, h.1, h.2, numbers_behind f ns (for_self u h.0) t h.1 p h.3)
 
-pub path_numbers : (f : TermFacts) (params : List ParamId) (written : List TermRequirement) (t : Term) (p : ProtoId) (first : ℕ) (steps : List ℕ)
+pub path_numbers : (f : TermFacts) (params : List ParamId) (written : List TermRequirement) (t : Term) (p : ProtoId)
+    (first : ℕ) (steps : List ℕ)
     → IsConformancePath f params written first steps t p → AreNumbers f written first steps
-path_numbers f params written t p first steps h = (h.start, h.proto, h.is_written, numbers_behind f steps h.start h.subject h.proto p h.leads)
+path_numbers f params written t p first steps h =
+    (h.start, h.proto, h.is_written, numbers_behind f steps h.start h.subject h.proto p h.leads)
 
 pub next_left : (xs : List ℕ) (k : ℕ) → k < length xs → drop k xs ≡ get_or xs k 0 ∷ drop (k + 1) xs
 next_left xs k l = let e : suc k ≡ k + 1 = omega arith in drop-cons xs k 0 l ∙ ap (λ z. get_or xs k 0 ∷ drop z xs) e
 
 -- a numbered conformance of a list over ids
-module _ (terms : List Term) (rs : List TermRequirement) (list : List Requirement) (same : rs ≡ map (requirement_of terms) list) (n : ℕ) (v : Term) (r : ProtoId)
+module _ (terms : List Term) (rs : List TermRequirement) (list : List Requirement) (same : rs ≡ map (requirement_of terms) list) (n : ℕ)
+    (v : Term) (r : ProtoId)
     (h : HasNumber n rs (Conforms v r)) where
   there : slice_get (map (requirement_of terms) list) (n - 1) ≡ Some (Conforms v r)
   there = subst (λ z. slice_get z (n - 1) ≡ Some (Conforms v r)) same h.1
@@ -49,7 +52,8 @@ module _ (terms : List Term) (rs : List TermRequirement) (list : List Requiremen
   pub number_is : (d : Requirement) → requirement_of terms (get_or list (n - 1) d) ≡ Conforms v r
   number_is d = at list (n - 1) there
     where
-      at : (xs : List Requirement) (k : ℕ) → slice_get (map (requirement_of terms) xs) k ≡ Some (Conforms v r) → requirement_of terms (get_or xs k d) ≡ Conforms v r
+      at : (xs : List Requirement) (k : ℕ) → slice_get (map (requirement_of terms) xs) k ≡ Some (Conforms v r)
+          → requirement_of terms (get_or xs k d) ≡ Conforms v r
       at [] k e = absurd (let z = slice_get_within [] k (Conforms v r) e in omega arith)
       at (x ∷ xs) zero e = cc
       at (x ∷ xs) (suc k) e = at xs k e
@@ -68,19 +72,25 @@ module _ (terms : List Term) (rs : List TermRequirement) (list : List Requiremen
       subst (IsProtocol x) (sym (names d q e)) known.1
 
 -- one conformance more is written
-pub step_written : (x : LexiconView) (f : TermFacts) (p q : ProtoId) (n : ℕ) (ns : List ℕ) (v : Term) (r : ProtoId) (out new : Text) (written : TermRequirement)
+pub step_written : (x : LexiconView) (f : TermFacts) (p q : ProtoId) (n : ℕ) (ns : List ℕ) (v : Term) (r : ProtoId) (out new : Text)
+    (written : TermRequirement)
     → requirement_at (f.of_protocol p) n ≡ Conforms v r → written ≡ Conforms v r → q ≡ r → new ≡ out ++ in_brackets (self_text x written)
     → new ++ steps_text x f q ns ≡ out ++ steps_text x f p (n ∷ ns)
 step_written x f p q n ns v r out new written is e named n_is =
-    let text : in_brackets (self_text x written) ≡ in_brackets (self_text x (requirement_at (f.of_protocol p) n)) = ap (λ z. in_brackets (self_text x z)) (e ∙ sym is) in
+    let text : in_brackets (self_text x written) ≡ in_brackets (self_text x (requirement_at (f.of_protocol p) n)) =
+    ap (λ z. in_brackets (self_text x z)) (e ∙ sym is) in
     let proto : q ≡ protocol_named (requirement_at (f.of_protocol p) n) = named ∙ sym (ap protocol_named is) in
     ap₂ ◌++◌ (n_is ∙ ap (λ z. out ++ z) text) (ap (λ z. steps_text x f z ns) proto)
-    ∙ append_assoc out (in_brackets (self_text x (requirement_at (f.of_protocol p) n))) (steps_text x f (protocol_named (requirement_at (f.of_protocol p) n)) ns)
+    ∙ append_assoc out (in_brackets (self_text x (requirement_at (f.of_protocol p) n)))
+    (steps_text x f (protocol_named (requirement_at (f.of_protocol p) n)) ns)
 
 -- the whole text, from its first conformance and the others
-pub first_written : (x : LexiconView) (f : TermFacts) (rs : List TermRequirement) (n : ℕ) (ns steps : List ℕ) (v : Term) (r q : ProtoId) (begun mid new : Text) (written : TermRequirement)
-    → requirement_at rs n ≡ Conforms v r → written ≡ Conforms v r → q ≡ r → steps ≡ ns → begun ≡ [] → mid ≡ begun ++ in_brackets (requirement_text x written)
+pub first_written : (x : LexiconView) (f : TermFacts) (rs : List TermRequirement) (n : ℕ) (ns steps : List ℕ) (v : Term) (r q : ProtoId)
+    (begun mid new : Text) (written : TermRequirement)
+    → requirement_at rs n ≡ Conforms v r → written ≡ Conforms v r → q ≡ r → steps ≡ ns → begun ≡ []
+    → mid ≡ begun ++ in_brackets (requirement_text x written)
     → new ≡ mid ++ steps_text x f q steps → new ≡ path_text x f rs n ns
 first_written x f rs n ns steps v r q begun mid new written is e named s b m k =
-    k ∙ ap₂ ◌++◌ (m ∙ (ap (λ z. z ++ in_brackets (requirement_text x written)) b ∙ ap (λ z. in_brackets (requirement_text x z)) (e ∙ sym is)))
+    k
+    ∙ ap₂ ◌++◌ (m ∙ (ap (λ z. z ++ in_brackets (requirement_text x written)) b ∙ ap (λ z. in_brackets (requirement_text x z)) (e ∙ sym is)))
     (ap₂ (steps_text x f) (named ∙ sym (ap protocol_named is)) s)

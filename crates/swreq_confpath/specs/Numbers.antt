@@ -42,7 +42,8 @@ in_brackets t = codes "[" ++ (t ++ codes "]")
 abbrev pub steps_text : LexiconView → TermFacts → ProtoId → List ℕ → Text
 steps_text x f q [] = []
 steps_text x f q (n ∷ ns) =
-    in_brackets (self_text x (requirement_at (f.of_protocol q) n)) ++ steps_text x f (protocol_named (requirement_at (f.of_protocol q) n)) ns
+    in_brackets (self_text x (requirement_at (f.of_protocol q) n))
+    ++ steps_text x f (protocol_named (requirement_at (f.of_protocol q) n)) ns
 
 -- all conformances of a path, each in brackets: the first as the signature requires it
 abbrev pub path_text : LexiconView → TermFacts → List TermRequirement → ℕ → List ℕ → Text

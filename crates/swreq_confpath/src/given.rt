@@ -66,7 +66,8 @@ pub fn shortest(
     requires short { IsShort world.now }
     requires machine { IsMachineFor table.now world.now f machine.now }
     requires asked { IsRequirementIn table.now world.now.lexicon (Conf t p) }
-    requires derivable { Derivable (facts_of (world_by table.now world.now)) (source_of (signature_at (world_by table.now world.now) f))
+    requires derivable { Derivable (facts_of (world_by table.now world.now))
+        (source_of (signature_at (world_by table.now world.now) f))
         (Requires (Conforms (term_at table.now t) p)) }
     ensures path { IfOk result (λ path. IsGivenPath (facts_of (world_by table.now world.now))
         (generic_params (signature_at (world_by table.now world.now) f).params)

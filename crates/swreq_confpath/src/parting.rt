@@ -75,7 +75,8 @@ pub(crate) fn changed_symbols(
 
 /// Whether the word `v` parts from `u` by a symbol that is not one of those that the rules change.
 pub(crate) fn parts_for_good(changed: &[Symbol], u: &[Symbol], v: &[Symbol]) -> bool
-    ensures { (rules : List Rule) → AllSpareOthers rules changed.now → IsTrue result → PartsForGood rules u.now v.now }
+    ensures { (rules : List Rule) → AllSpareOthers rules changed.now → IsTrue result
+        → PartsForGood rules u.now v.now }
 {
     let from = in_common(u, v);
     let to = before_protocol(v);

@@ -88,7 +88,8 @@ fn behind_first(word: &[Symbol]) -> &[Symbol]
 fn word_of(sought: &Sought<'_>, t: TermId) -> Result<Word, AllocError>
     requires text { IsTextOver sought.now.table.now sought.now.world.now }
     requires t { IsTypeIn sought.now.table.now sought.now.world.now.lexicon t }
-    ensures { IfOk result (IsLeastWord (world_in sought.now) sought.now.machine.now (term_at sought.now.table.now t)) }
+    ensures { IfOk result (IsLeastWord (world_in sought.now) sought.now.machine.now
+        (term_at sought.now.table.now t)) }
 {
     let side = Requirement::Layout { subject: t };
     let (_, word) = equation(sought.alloc, sought.world, sought.table, None, &side)?;
@@ -106,7 +107,8 @@ fn word_behind(
     requires t { IsTypeIn sought.now.table.now sought.now.world.now.lexicon t }
     requires base { IsLeastBy (last_rules sought.now.machine.now.rounds) base.now }
     ensures { (u : Term) → IsLeastWord (world_in sought.now) sought.now.machine.now u base.now
-        → IfOk result (IsLeastWord (world_in sought.now) sought.now.machine.now (for_self u (term_at sought.now.table.now t))) }
+        → IfOk result (IsLeastWord (world_in sought.now) sought.now.machine.now
+        (for_self u (term_at sought.now.table.now t))) }
 {
     let side = Requirement::Layout { subject: t };
     let (_, word) = equation(sought.alloc, sought.world, sought.table, Some(owner), &side)?;
@@ -120,7 +122,8 @@ fn subject_from(sought: &Sought<'_>, from: &Place, t: TermId) -> Result<Word, Al
     requires t { IsTypeIn sought.now.table.now sought.now.world.now.lexicon t }
     requires least { HasLeastWord sought.now from.now }
     ensures { (a : TermPlace) (p : ProtoId) → StandsFor sought.now from.now a
-        → IfOk result (λ u. StandsFor sought.now (Conformance u p) (gone_on a (term_at sought.now.table.now t) p)) }
+        → IfOk result (λ u.
+        StandsFor sought.now (Conformance u p) (gone_on a (term_at sought.now.table.now t) p)) }
 {
     match from {
         Place::Start => word_of(sought, t),
@@ -141,7 +144,8 @@ pub(crate) fn follow(
     requires least { HasLeastWord sought.now from.now }
     ensures place { IfOk result (IsPlaceIn sought.now.world.now) }
     ensures stands { (a : TermPlace) → StandsFor sought.now from.now a
-        → IfOk result (λ place. StandsFor sought.now place (gone_on a (term_at sought.now.table.now subject) proto)) }
+        → IfOk result (λ place.
+        StandsFor sought.now place (gone_on a (term_at sought.now.table.now subject) proto)) }
 {
     let subject = subject_from(sought, from, subject)?;
     Ok(Place::Conformance { subject, proto })

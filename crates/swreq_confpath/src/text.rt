@@ -40,7 +40,8 @@ fn put_first(
     out: &mut Vec<u8>,
 ) -> Result<(), AllocError>
     requires { HasIdsOf table.now r }
-    ensures { OnOk result (out.new.items ≡ out.old.items ++ in_brackets (requirement_text names.now (requirement_of table.now r))) }
+    ensures { OnOk result (out.new.items
+        ≡ out.old.items ++ in_brackets (requirement_text names.now (requirement_of table.now r))) }
 {
     append_bytes(out, b"[")?;
     requirement_text(alloc, names, table, &r, out)?;
@@ -56,7 +57,8 @@ fn put_step(
     out: &mut Vec<u8>,
 ) -> Result<(), AllocError>
     requires { HasIdsOf table.now r }
-    ensures { OnOk result (out.new.items ≡ out.old.items ++ in_brackets (self_text names.now (requirement_of table.now r))) }
+    ensures { OnOk result (out.new.items
+        ≡ out.old.items ++ in_brackets (self_text names.now (requirement_of table.now r))) }
 {
     append_bytes(out, b"[")?;
     self_text(alloc, names, table, &r, out)?;
@@ -104,10 +106,12 @@ pub fn path_text(
     requires text { IsTextOver table.now world.now }
     requires f { f.place < length world.now.signatures }
     requires numbers { AreNumbers (facts_of (world_by table.now world.now))
-        (written_list (signature_at (world_by table.now world.now) f)) path.now.first path.now.steps }
+        (written_list (signature_at (world_by table.now world.now) f))
+        path.now.first path.now.steps }
     ensures ok { OnOk result (out.new.items ≡ out.old.items
         ++ path_text world.now.lexicon (facts_of (world_by table.now world.now))
-        (written_list (signature_at (world_by table.now world.now) f)) path.now.first path.now.steps) }
+        (written_list (signature_at (world_by table.now world.now) f))
+        path.now.first path.now.steps) }
     ensures err { OnErr result (out.new.items ≡ out.old.items) }
 {
     let list = world.bare_signature(alloc, f)?;

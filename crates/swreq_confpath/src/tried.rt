@@ -70,7 +70,8 @@ impl Tried {
         place: Place,
     ) -> Result<(), AllocError>
         requires { index < length self.old }
-        ensures { OnOk result ((s : Spot) → slice_get self.old index ≡ Some s → IsKept self.old self.new place (s.1 ++ number ∷ [])) }
+        ensures { OnOk result ((s : Spot) → slice_get self.old index ≡ Some s
+            → IsKept self.old self.new place (s.1 ++ number ∷ [])) }
     {
         if self.numbers.contains_key(&place) {
             return Ok(());

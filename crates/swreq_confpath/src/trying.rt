@@ -62,7 +62,8 @@ fn try_requirement(
 ) -> Result<Option<ConfPath>, AllocError>
     requires known { IsKnown sought.now }
     requires target { StandsFor sought.now target.now (sought_in sought.now) }
-    requires number { HasNumber number (required_at sought.now.world.now sought.now.list.now turn.from.now) requirement }
+    requires number { HasNumber number
+        (required_at sought.now.world.now sought.now.list.now turn.from.now) requirement }
     requires at { IsSearchAt sought.now tried.old turn.next turn.from.now (number - 1) }
     ensures { IfOk result (λ o. MatchOption o
         (IsSearchAt sought.now tried.new turn.entry.next turn.entry.from.now number)
@@ -91,7 +92,8 @@ pub(crate) fn go_on(
     requires target { StandsFor sought.now target.now (sought_in sought.now) }
     requires next { next < length tried.old }
     requires so_far { IsSearch sought.now tried.old next }
-    ensures { IfOk result (λ o. MatchOption o (IsSearch sought.now tried.new (next + 1)) (IsGiven sought.now)) }
+    ensures { IfOk result
+        (λ o. MatchOption o (IsSearch sought.now tried.new (next + 1)) (IsGiven sought.now)) }
 {
     let (place, _) = tried.spot(next);
     let from = place.copy()?;

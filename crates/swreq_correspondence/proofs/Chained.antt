@@ -40,21 +40,27 @@ module _ {m : Symbols} {Of : ProtoId → TermRequirement → Type 0} {Own : Term
   pub within : (t : Term) {u v : Word} → Link (Equation m Of Own s) u v → Link (Equation m Of Own s) (spell m s t u) (spell m s t v)
   within t l = there (start s (head t)) (behind m t l)
 
-  pub within_all : (t : Term) {u v : Word} → Linking (Equation m Of Own s) u v → Linking (Equation m Of Own s) (spell m s t u) (spell m s t v)
+  pub within_all : (t : Term) {u v : Word} → Linking (Equation m Of Own s) u v
+      → Linking (Equation m Of Own s) (spell m s t u) (spell m s t v)
   within_all t done = done
   within_all t (more l c) = more (within t l) (within_all t c)
 
   -- after a type parameter that conforms to p
-  pub inside : (t : Term) (p : ProtoId) {u v : Word} → ((y : Word) → Linking (Equation m Of Own s) (spell m s t (ProtoSymbol p.rank ∷ y)) (spell m s t y))
-      → Linking (Equation m Of Own s) (ProtoSymbol p.rank ∷ u) (ProtoSymbol p.rank ∷ v) → Linking (Equation m Of Own s) (spell m s t u) (spell m s t v)
+  pub inside : (t : Term) (p : ProtoId) {u v : Word}
+      → ((y : Word) → Linking (Equation m Of Own s) (spell m s t (ProtoSymbol p.rank ∷ y)) (spell m s t y))
+      → Linking (Equation m Of Own s) (ProtoSymbol p.rank ∷ u) (ProtoSymbol p.rank ∷ v)
+      → Linking (Equation m Of Own s) (spell m s t u) (spell m s t v)
   inside t p {u = u} {v = v} e c = joined (turn_all (e u)) (joined (within_all t c) (e v))
 
   -- the equation of a requirement of p, or of the source, with something after it
-  pub conf_link : (b : Source) (t : Term) (q : ProtoId) (y : Word) → Equation m Of Own s (left_side m b (Conforms t q)) (right_side m b (Conforms t q))
+  pub conf_link : (b : Source) (t : Term) (q : ProtoId) (y : Word)
+      → Equation m Of Own s (left_side m b (Conforms t q)) (right_side m b (Conforms t q))
       → Link (Equation m Of Own s) (spell m b t (ProtoSymbol q.rank ∷ y)) (spell m b t y)
-  conf_link b t q y e = subst₂ (Link (Equation m Of Own s)) (spell-append m b t (ProtoSymbol q.rank ∷ []) y) (spell-append m b t [] y) (forth y e)
+  conf_link b t q y e =
+      subst₂ (Link (Equation m Of Own s)) (spell-append m b t (ProtoSymbol q.rank ∷ []) y) (spell-append m b t [] y) (forth y e)
 
-  pub layout_link : (b : Source) (t : Term) (y : Word) → Equation m Of Own s (left_side m b (IsAnyObject t)) (right_side m b (IsAnyObject t))
+  pub layout_link : (b : Source) (t : Term) (y : Word)
+      → Equation m Of Own s (left_side m b (IsAnyObject t)) (right_side m b (IsAnyObject t))
       → Link (Equation m Of Own s) (spell m b t (LayoutSymbol ∷ y)) (spell m b t y)
   layout_link b t y e = subst₂ (Link (Equation m Of Own s)) (spell-append m b t (LayoutSymbol ∷ []) y) (spell-append m b t [] y) (forth y e)
 
@@ -66,35 +72,56 @@ module _ {m : Symbols} {Of : ProtoId → TermRequirement → Type 0} {Own : Term
   pub member_link : (f : TermFacts) (p : ProtoId) (a : NameId) (d : AssocId) (y : Word) → AreSymbolsOf m f → Declares f p a d
       → Link (Equation m Of Own s) (MemberSymbol (m.rank_of d) ∷ y) (ProtoSymbol p.rank ∷ NameSymbol a.rank ∷ y)
   member_link f p a d y fit h =
-      let e : Link (Equation m Of Own s) (MemberSymbol (m.rank_of d) ∷ y) (ProtoSymbol (proto_of m (m.rank_of d)).rank ∷ NameSymbol (name_of m (m.rank_of d)).rank ∷ y)
+      let e : Link (Equation m Of Own s) (MemberSymbol (m.rank_of d) ∷ y)
+      (ProtoSymbol (proto_of m (m.rank_of d)).rank ∷ NameSymbol (name_of m (m.rank_of d)).rank ∷ y)
       = back y (member (m.rank_of d) (fit p a d h).0) in
-      subst₂ (λ q b. Link (Equation m Of Own s) (MemberSymbol (m.rank_of d) ∷ y) (ProtoSymbol q.rank ∷ NameSymbol b.rank ∷ y)) (fit p a d h).1 (fit p a d h).2 e
+      subst₂ (λ q b. Link (Equation m Of Own s) (MemberSymbol (m.rank_of d) ∷ y) (ProtoSymbol q.rank ∷ NameSymbol b.rank ∷ y))
+      (fit p a d h).1 (fit p a d h).2 e
 
   -- an equation over `[τ_0_0 : P]` is one over each source
   carry : {p : ProtoId} → IsOfText m p → {l r : Word} → Equation m Of Own (SelfOf p) l r → Equation m Of Own s l r
   carry h (twice q k) = twice q k
   carry h (member k i) = member k i
   carry h (of_protocol q r k) = of_protocol q r k
-  carry {p = p} h (of_source r k) = subst (λ x. Equation m Of Own s (left_side m (SelfOf p) x) (right_side m (SelfOf p) x)) (sym k) (twice p h)
+  carry {p = p} h (of_source r k) =
+      subst (λ x. Equation m Of Own s (left_side m (SelfOf p) x) (right_side m (SelfOf p) x)) (sym k) (twice p h)
 
   carry_link : {p : ProtoId} → IsOfText m p → {u v : Word} → Link (Equation m Of Own (SelfOf p)) u v → Link (Equation m Of Own s) u v
   carry_link h (forth y e) = forth y (carry h e)
   carry_link h (back y e) = back y (carry h e)
   carry_link h (there x l) = there x (carry_link h l)
 
-  pub carry_chain : {p : ProtoId} → IsOfText m p → {u v : Word} → Linking (Equation m Of Own (SelfOf p)) u v → Linking (Equation m Of Own s) u v
+  pub carry_chain : {p : ProtoId} → IsOfText m p → {u v : Word} → Linking (Equation m Of Own (SelfOf p)) u v
+      → Linking (Equation m Of Own s) u v
   carry_chain h done = done
   carry_chain h (more l c) = more (carry_link h l) (carry_chain h c)
 
   -- what is found over `[τ_0_0 : P]` is found with t for `Self`
   shown_for_self : (f : TermFacts) (t u : Term) (p : ProtoId) → IsOfText m p
       → ((y : Word) → Linking (Equation m Of Own s) (spell m s t (ProtoSymbol p.rank ∷ y)) (spell m s t y))
-      → ShowsValid m f s (Linking (Equation m Of Own s)) t → ShowsValid m f (SelfOf p) (Linking (Equation m Of Own (SelfOf p))) u → ShowsValid m f s (Linking (Equation m Of Own s)) (for_self t u)
+      → ShowsValid m f s (Linking (Equation m Of Own s)) t → ShowsValid m f (SelfOf p) (Linking (Equation m Of Own (SelfOf p))) u
+      → ShowsValid m f s (Linking (Equation m Of Own s)) (for_self t u)
   shown_for_self f t (Generic g) p h e v w = v
-  shown_for_self f t (Member u (Name a)) p h e v (w, (q, d, k, c)) =
-      (shown_for_self f t u p h e v w, (q, d, k, subst₂ (Linking (Equation m Of Own s)) (sym (spell-for_self m s t u (ProtoSymbol q.rank ∷ []))) (sym (spell-for_self m s t u [])) (inside t p e (carry_chain h c))))
-  shown_for_self f t (Member u (Bound d)) p h e v (w, (q, a, k, c)) =
-      (shown_for_self f t u p h e v w, (q, a, k, subst₂ (Linking (Equation m Of Own s)) (sym (spell-for_self m s t u (ProtoSymbol q.rank ∷ []))) (sym (spell-for_self m s t u [])) (inside t p e (carry_chain h c))))
+  shown_for_self f t (Member u (Name a)) p h e v (w, (q, d, k, c)) = (
+    shown_for_self f t u p h e v w,
+    (
+      q,
+      d,
+      k,
+      subst₂ (Linking (Equation m Of Own s)) (sym (spell-for_self m s t u (ProtoSymbol q.rank ∷ []))) (sym (spell-for_self m s t u []))
+          (inside t p e (carry_chain h c)),
+    ),
+  )
+  shown_for_self f t (Member u (Bound d)) p h e v (w, (q, a, k, c)) = (
+    shown_for_self f t u p h e v w,
+    (
+      q,
+      a,
+      k,
+      subst₂ (Linking (Equation m Of Own s)) (sym (spell-for_self m s t u (ProtoSymbol q.rank ∷ []))) (sym (spell-for_self m s t u []))
+          (inside t p e (carry_chain h c)),
+    ),
+  )
 
 same_proto : {t u : Term} {p q : ProtoId} → Conforms t q ≡ Conforms u p → q ≡ p
 same_proto e = cc
@@ -102,13 +129,15 @@ same_proto e = cc
 pub self_in_range : (m : Symbols) (p : ProtoId) → IsOfText m p → IsInText m (SelfOf p)
 self_in_range m p h t q e = subst (λ x. IsOfText m x) (sym (same_proto e)) h
 
-module _ (m : Symbols) (f : TermFacts) (Of : ProtoId → TermRequirement → Type 0) (Own : TermRequirement → Type 0) (fit : AreSymbolsOf m f) (ranges : AreOfText m f) where
+module _ (m : Symbols) (f : TermFacts) (Of : ProtoId → TermRequirement → Type 0) (Own : TermRequirement → Type 0) (fit : AreSymbolsOf m f)
+    (ranges : AreOfText m f) where
   abbrev pub E : Source → Word → Word → Type 0
   E s u v = Equation m Of Own s u v
 
   -- a usable requirement of a protocol whose sides are found is picked
   abbrev pub OfIsClosed : Type 0
-  OfIsClosed = (p : ProtoId) (r : TermRequirement) → Contains (f.of_protocol p) r → HasValidSides f (SelfOf p) r → ShowsUsable m f (SelfOf p) (Linking (E (SelfOf p))) r → Of p r
+  OfIsClosed = (p : ProtoId) (r : TermRequirement) → Contains (f.of_protocol p) r → HasValidSides f (SelfOf p) r
+      → ShowsUsable m f (SelfOf p) (Linking (E (SelfOf p))) r → Of p r
 
   abbrev pub OwnIsClosed : Source → Type 0
   OwnIsClosed s = (r : TermRequirement) → HasRequirement s r → HasValidSides f s r → ShowsUsable m f s (Linking (E s)) r → Gives Own s r
@@ -116,7 +145,8 @@ module _ (m : Symbols) (f : TermFacts) (Of : ProtoId → TermRequirement → Typ
   self_is_closed : (p : ProtoId) → OwnIsClosed (SelfOf p)
   self_is_closed p r h w e = h
 
-  pub chained : {s : Source} {st : TermStatement} → Derives f true s st → OfIsClosed → IsInText m s → OwnIsClosed s → Shows m f s (Linking (E s)) st
+  pub chained : {s : Source} {st : TermStatement} → Derives f true s st → OfIsClosed → IsInText m s → OwnIsClosed s
+      → Shows m f s (Linking (E s)) st
   chained (generic h) k n o = h
   chained {s = s} (conf {t = t} {p = p} h v) k n o =
       let w : ShowsValid m f s (Linking (E s)) t = chained (v refl) k n o in
@@ -158,7 +188,8 @@ module _ (m : Symbols) (f : TermFacts) (Of : ProtoId → TermRequirement → Typ
         shown_for_self f t x' p r.0 r.2 r.1 z,
         λ y.
             subst₂ (Linking (E s)) (sym (spell-for_self m s t u y)) (sym (spell-for_self m s t x' y))
-            (inside t p r.2 (at_once (same_link (SelfOf p) u x' y (of_protocol p (Equals u x') (k p (Equals u x') h (v refl, x refl) (w, z)))))),
+            (inside t p r.2
+            (at_once (same_link (SelfOf p) u x' y (of_protocol p (Equals u x') (k p (Equals u x') h (v refl, x refl) (w, z)))))),
       )
   chained (reflex e) k n o = let r = chained e k n o in (r, r, λ y. done)
   chained (symm e) k n o = let r = chained e k n o in (r.1, r.0, λ y. turn_all (r.2 y))
@@ -188,6 +219,7 @@ pub chained_usable : {f : TermFacts} {s : Source} {st : TermStatement} → (m : 
 chained_usable {f = f} {s = s} m fit ranges n e =
     chained m f (UsableOf f) (UsableIn f s) fit ranges e (λ p r h w x. (h, w)) n (gives s)
   where
-    gives : (b : Source) (r : TermRequirement) → HasRequirement b r → HasValidSides f b r → ShowsUsable m f b (Linking (Equation m (UsableOf f) (UsableIn f s) b)) r → Gives (UsableIn f b) b r
+    gives : (b : Source) (r : TermRequirement) → HasRequirement b r → HasValidSides f b r
+        → ShowsUsable m f b (Linking (Equation m (UsableOf f) (UsableIn f s) b)) r → Gives (UsableIn f b) b r
     gives (Written ps ms) r h w x = (h, w)
     gives (SelfOf p) r h w x = h

@@ -51,8 +51,10 @@ module _ (m : Symbols) (f : TermFacts) (p : ProtoId) (fit : AreSymbolsOf m f) wh
   pub to_self : (w : Word) → HasReading m f (SelfOf p) w → IsFirst w × CanReadAll m f (SelfOf p) self w × (reading m w ≡ read_on m self w)
   unfolding IsFirst
   to_self [] c = absurd c
-  to_self (ProtoSymbol q ∷ u) c = (c.0, (subst (λ x. Derivable f (SelfOf p) (Requires (Conforms self x))) (sym c.0) self_conforms, c.1), refl)
-  to_self (MemberSymbol k ∷ u) c = (c.0.0, ((c.0.1, subst (λ x. Derivable f (SelfOf p) (Requires (Conforms self x))) (sym c.0.0) self_conforms, c.0.2), c.1), refl)
+  to_self (ProtoSymbol q ∷ u) c =
+      (c.0, (subst (λ x. Derivable f (SelfOf p) (Requires (Conforms self x))) (sym c.0) self_conforms, c.1), refl)
+  to_self (MemberSymbol k ∷ u) c =
+      (c.0.0, ((c.0.1, subst (λ x. Derivable f (SelfOf p) (Requires (Conforms self x))) (sym c.0.0) self_conforms, c.0.2), c.1), refl)
   to_self (ParamSymbol d i ∷ u) c = absurd c.0
   to_self (NameSymbol a ∷ u) c = absurd c.0
   to_self (LayoutSymbol ∷ u) c = absurd c.0
@@ -66,7 +68,8 @@ module _ (m : Symbols) (f : TermFacts) (p : ProtoId) (fit : AreSymbolsOf m f) wh
   from_self (NameSymbol a ∷ u) h c = absurd h
   from_self (LayoutSymbol ∷ u) h c = absurd h
 
-  first_stays : {l r : Word} → Equation m (UsableOf f) (UsableIn f (SelfOf p)) (SelfOf p) l r → (y : Word) → (IsFirst (l ++ y) → IsFirst (r ++ y)) × (IsFirst (r ++ y) → IsFirst (l ++ y))
+  first_stays : {l r : Word} → Equation m (UsableOf f) (UsableIn f (SelfOf p)) (SelfOf p) l r → (y : Word)
+      → (IsFirst (l ++ y) → IsFirst (r ++ y)) × (IsFirst (r ++ y) → IsFirst (l ++ y))
   unfolding IsFirst
   first_stays (twice q h) y = ((λ e. e), λ e. e)
   first_stays (member k h) y = ((λ e. e), λ e. e)
@@ -98,7 +101,8 @@ module _ (m : Symbols) (f : TermFacts) (p : ProtoId) (fit : AreSymbolsOf m f) wh
       let w : HasReading m f (SelfOf p) v × (reading m v ≡ read_on m self v) = from_self m f p fit v (h r.0) q.0 in
       (w.0, subst₂ (λ x y. Derivable f (SelfOf p) (Requires (Equals x y))) (sym r.2) (sym w.1) q.1)
 
-  front_self : {l r : Word} → Equation m (UsableOf f) (UsableIn f (SelfOf p)) (SelfOf p) l r → (y : Word) → LeadsTo m f (SelfOf p) (l ++ y) (r ++ y) × LeadsTo m f (SelfOf p) (r ++ y) (l ++ y)
+  front_self : {l r : Word} → Equation m (UsableOf f) (UsableIn f (SelfOf p)) (SelfOf p) l r → (y : Word)
+      → LeadsTo m f (SelfOf p) (l ++ y) (r ++ y) × LeadsTo m f (SelfOf p) (r ++ y) (l ++ y)
   front_self {l = l} {r = r} e y = (
     lead_self (l ++ y) (r ++ y) (first_stays m f p fit e y).0 (middle m f fit (SelfOf p) e self y (generic refl)).0,
     lead_self (r ++ y) (l ++ y) (first_stays m f p fit e y).1 (middle m f fit (SelfOf p) e self y (generic refl)).1,
@@ -121,14 +125,16 @@ module _ (m : Symbols) (f : TermFacts) (fit : AreSymbolsOf m f) where
   pub own : (s : Source) (u : Term) → Derivable f s (IsValid u)
       → Derivable f s (Requires (Equals u (read s u))) × AreRead m f s (root s (head u)) u
   own (Written gs rs) u v =
-      subst (λ x. Derivable f (Written gs rs) (Requires (Equals x (read (Written gs rs) u))) × AreRead m f (Written gs rs) (Generic (head u)) u) (substitute-generic u)
+      subst (λ x. Derivable f (Written gs rs) (Requires (Equals x (read (Written gs rs) u)))
+      × AreRead m f (Written gs rs) (Generic (head u)) u) (substitute-generic u)
       (steps_are_read m f (Written gs rs) (Written gs rs) Generic fit (λ g h. generic h)
       (λ r h w. subst (λ x. Derivable f (Written gs rs) (Requires x)) (sym (substitute_in-generic r)) (of_usable r h w)) u v)
   own (SelfOf p) u v =
       subst (λ x. Derivable f (SelfOf p) (Requires (Equals x (read (SelfOf p) u))) × AreRead m f (SelfOf p) self u) (substitute-self u v)
       (of_self m f (SelfOf p) fit self p (generic refl) (self_conforms m f p fit) u v)
 
-  spelled : (s : Source) (u : Term) → Derivable f s (IsValid u) → (y : Word) → CanReadAll m f s (read s u) y → HasReading m f s (spell m s u y)
+  spelled : (s : Source) (u : Term) → Derivable f s (IsValid u) → (y : Word) → CanReadAll m f s (read s u) y
+      → HasReading m f s (spell m s u y)
   spelled (Written gs rs) u v y c = (root_param u v, (own (Written gs rs) u v).1 y c)
   spelled (SelfOf p) u v y c = (refl, (own (SelfOf p) u v).1 y c)
 
@@ -141,16 +147,21 @@ module _ (m : Symbols) (f : TermFacts) (fit : AreSymbolsOf m f) where
   spelled_reading (SelfOf p) u y = read_on-steps m f (SelfOf p) self u y
 
   module _ (s : Source) where
-    spell_leads : (u u' : Term) (a b : Word) → Derivable f s (IsValid u') → Leads m f s (read s u) a (read s u') b → LeadsTo m f s (spell m s u a) (spell m s u' b)
+    spell_leads : (u u' : Term) (a b : Word) → Derivable f s (IsValid u') → Leads m f s (read s u) a (read s u') b
+        → LeadsTo m f s (spell m s u a) (spell m s u' b)
     spell_leads u u' a b v k c =
-        let r : CanReadAll m f s (read s u') b × Derivable f s (Requires (Equals (read_on m (read s u) a) (read_on m (read s u') b))) = k (spelled_rest s u a c) in
-        (spelled s u' v b r.0, subst₂ (λ x y. Derivable f s (Requires (Equals x y))) (sym (spelled_reading s u a)) (sym (spelled_reading s u' b)) r.1)
+        let r : CanReadAll m f s (read s u') b × Derivable f s (Requires (Equals (read_on m (read s u) a) (read_on m (read s u') b))) =
+        k (spelled_rest s u a c) in (
+          spelled s u' v b r.0,
+          subst₂ (λ x y. Derivable f s (Requires (Equals x y))) (sym (spelled_reading s u a)) (sym (spelled_reading s u' b)) r.1,
+        )
 
     abbrev pub BothTo : Word → Word → Type 0
     BothTo u v = LeadsTo m f s u v × LeadsTo m f s v u
 
     -- a requirement of the source, with something after its words
-    front_own : (r : TermRequirement) (y : Word) → HasRequirement s r → HasValidSides f s r → BothTo (left_side m s r ++ y) (right_side m s r ++ y)
+    front_own : (r : TermRequirement) (y : Word) → HasRequirement s r → HasValidSides f s r
+        → BothTo (left_side m s r ++ y) (right_side m s r ++ y)
     front_own (Conforms u q) y h w =
         let v : Derivable f s (IsValid (read s u)) = (sides_of (own s u w).0).1 in
         let k : Derivable f s (Requires (Conforms (read s u) q)) = same_conf (conf h (λ _. w)) (symm (own s u w).0) in
@@ -166,13 +177,15 @@ module _ (m : Symbols) (f : TermFacts) (fit : AreSymbolsOf m f) where
           spell_leads u u y (LayoutSymbol ∷ y) w (add_symbol m f s (read s u) LayoutSymbol y refl v k),
         )
     front_own (Equals u u') y h w =
-        let k : Derivable f s (Requires (Equals (read s u) (read s u'))) = trans (symm (own s u w.0).0) (trans (same h (λ _. w.0) (λ _. w.1)) (own s u' w.1).0) in
+        let k : Derivable f s (Requires (Equals (read s u) (read s u'))) =
+        trans (symm (own s u w.0).0) (trans (same h (λ _. w.0) (λ _. w.1)) (own s u' w.1).0) in
         subst₂ BothTo (sym (spell-append m s u [] y)) (sym (spell-append m s u' [] y)) (
           spell_leads u u' y y w.1 (read_all_same m f s (read s u) (read s u') y k),
           spell_leads u' u y y w.0 (read_all_same m f s (read s u') (read s u) y (symm k)),
         )
 
-  front_written : (gs : List ParamId) (rs : List TermRequirement) {l r : Word} → Equation m (UsableOf f) (UsableIn f (Written gs rs)) (Written gs rs) l r → (y : Word) → BothTo (Written gs rs) (l ++ y) (r ++ y)
+  front_written : (gs : List ParamId) (rs : List TermRequirement) {l r : Word}
+      → Equation m (UsableOf f) (UsableIn f (Written gs rs)) (Written gs rs) l r → (y : Word) → BothTo (Written gs rs) (l ++ y) (r ++ y)
   front_written gs rs (twice q h) y = ((λ c. absurd c.0), λ c. absurd c.0)
   front_written gs rs (member k h) y = ((λ c. absurd c.0), λ c. absurd c.0)
   front_written gs rs (of_protocol q (Conforms u n) h) y = ((λ c. absurd c.0), λ c. absurd c.0)
@@ -203,8 +216,10 @@ module _ (m : Symbols) (f : TermFacts) (fit : AreSymbolsOf m f) where
     chain_leads (more l k) = λ c. let r = link_leads l c in let q = chain_leads k r.0 in (q.0, trans r.1 q.1)
 
     -- the law on readings, for the word of a valid type parameter
-    pub word_is_read : (u : Term) → Derivable f s (IsValid u) → HasReading m f s (spell m s u []) × Derivable f s (Requires (Equals u (reading m (spell m s u []))))
-    word_is_read u v = (spelled s u v [] tt, subst (λ x. Derivable f s (Requires (Equals u x))) (sym (spelled_reading s u [])) (own s u v).0)
+    pub word_is_read : (u : Term) → Derivable f s (IsValid u)
+        → HasReading m f s (spell m s u []) × Derivable f s (Requires (Equals u (reading m (spell m s u []))))
+    word_is_read u v =
+        (spelled s u v [] tt, subst (λ x. Derivable f s (Requires (Equals u x))) (sym (spelled_reading s u [])) (own s u v).0)
 
   module _ (s : Source) (ranges : AreOfText m f) (n : IsInText m s) where
     -- the law of correspondence
@@ -237,5 +252,6 @@ module _ {f : TermFacts} {s : Source} where
   pub valid_members : (t : Term) (a : NameId) → Derivable f s (IsValid (Member t (Name a))) ↔ HasName f s t a
   valid_members t a = ((λ e. valid_name e), λ h. assoc_name h.2 h.3)
 
-  pub valid_bounds : (t : Term) (d : AssocId) → Derivable f s (IsValid (Member t (Bound d))) ↔ ((p : ProtoId) × (a : NameId) × Derivable f s (Requires (Conforms t p)) × Declares f p a d)
+  pub valid_bounds : (t : Term) (d : AssocId) → Derivable f s (IsValid (Member t (Bound d)))
+      ↔ ((p : ProtoId) × (a : NameId) × Derivable f s (Requires (Conforms t p)) × Declares f p a d)
   valid_bounds t d = ((λ e. valid_bound e), λ h. assoc_decl h.2 h.3)

@@ -30,9 +30,12 @@ module _ (m : Symbols) (f : TermFacts) (s : Source) where
   pub behind_steps : (t t' u u' : Term) (a b : Word) → AreRead t' u' → Leads (unbound m t u) a (unbound m t' u') b
       → Leads t (steps m u a) t' (steps m u' b)
   behind_steps t t' u u' a b h k c =
-      let r : CanReadAll m f s (unbound m t' u') b × Derivable f s (Requires (Equals (read_on m (unbound m t u) a) (read_on m (unbound m t' u') b)))
-      = k (rest_is_read m f s t u a c) in
-      (h b r.0, subst₂ (λ x y. Derivable f s (Requires (Equals x y))) (sym (read_on-steps m f s t u a)) (sym (read_on-steps m f s t' u' b)) r.1)
+      let r : CanReadAll m f s (unbound m t' u') b
+      × Derivable f s (Requires (Equals (read_on m (unbound m t u) a) (read_on m (unbound m t' u') b)))
+      = k (rest_is_read m f s t u a c) in (
+        h b r.0,
+        subst₂ (λ x y. Derivable f s (Requires (Equals x y))) (sym (read_on-steps m f s t u a)) (sym (read_on-steps m f s t' u' b)) r.1,
+      )
 
   -- after a type that conforms to q, `[Q]` may stand or not
   pub drop_symbol : (t : Term) (x : Symbol) (y : Word) → after m t x ≡ t → Derivable f s (IsValid t) → Leads t (x ∷ y) t y
@@ -40,7 +43,8 @@ module _ (m : Symbols) (f : TermFacts) (s : Source) where
       let k : CanReadAll m f s t y = subst (λ z. CanReadAll m f s z y) e c.1 in
       (k, subst (λ z. Derivable f s (Requires (Equals (read_on m z y) (read_on m t y)))) (sym e) (reflex (valid_reading m f s t y v k)))
 
-  pub add_symbol : (t : Term) (x : Symbol) (y : Word) → after m t x ≡ t → Derivable f s (IsValid t) → CanRead m f s t x → Leads t y t (x ∷ y)
+  pub add_symbol : (t : Term) (x : Symbol) (y : Word) → after m t x ≡ t → Derivable f s (IsValid t)
+      → CanRead m f s t x → Leads t y t (x ∷ y)
   add_symbol t x y e v h c = (
     (h, subst (λ z. CanReadAll m f s z y) (sym e) c),
     subst (λ z. Derivable f s (Requires (Equals (read_on m t y) (read_on m z y)))) (sym e) (reflex (valid_reading m f s t y v c)),
@@ -56,7 +60,8 @@ module _ (m : Symbols) (f : TermFacts) (s : Source) (fit : AreSymbolsOf m f) whe
 
   -- the two sides of a requirement of p, after a type that conforms to p
   module _ (t : Term) (p : ProtoId) (v : Derivable f s (IsValid t)) (c : Derivable f s (Requires (Conforms t p))) where
-    pub of_self : (u : Term) → Derivable f (SelfOf p) (IsValid u) → Derivable f s (Requires (Equals (for_self t u) (unbound m t u))) × AreRead m f s t u
+    pub of_self : (u : Term) → Derivable f (SelfOf p) (IsValid u)
+        → Derivable f s (Requires (Equals (for_self t u) (unbound m t u))) × AreRead m f s t u
     of_self u e = steps_are_read m f s (SelfOf p) (λ g. t) fit (λ g h. v)
         (λ r h w. subst (λ x. Derivable f s (Requires (substitute_in (λ g. t) x))) (sym h) c) u e
 
@@ -80,19 +85,22 @@ module _ (m : Symbols) (f : TermFacts) (s : Source) (fit : AreSymbolsOf m f) whe
           behind_steps m f s t t u u y (LayoutSymbol ∷ y) r.1 (add_symbol m f s (unbound m t u) LayoutSymbol y refl w k),
         )
 
-    same_sides : (u u' : Term) (y : Word) → Contains (f.of_protocol p) (Equals u u') → Derivable f (SelfOf p) (IsValid u) → Derivable f (SelfOf p) (IsValid u')
+    same_sides : (u u' : Term) (y : Word) → Contains (f.of_protocol p) (Equals u u') → Derivable f (SelfOf p) (IsValid u)
+        → Derivable f (SelfOf p) (IsValid u')
         → Both t (steps m u y) t (steps m u' y)
     same_sides u u' y h e e' =
         let r : Derivable f s (Requires (Equals (for_self t u) (unbound m t u))) × AreRead m f s t u = of_self u e in
         let r' : Derivable f s (Requires (Equals (for_self t u') (unbound m t u'))) × AreRead m f s t u' = of_self u' e' in
-        let k : Derivable f s (Requires (Equals (unbound m t u) (unbound m t u'))) = trans (symm r.0) (trans (assoc_same c h (λ _. e) (λ _. e')) r'.0) in (
+        let k : Derivable f s (Requires (Equals (unbound m t u) (unbound m t u'))) =
+        trans (symm r.0) (trans (assoc_same c h (λ _. e) (λ _. e')) r'.0) in (
           behind_steps m f s t t u u' y y r'.1 (read_all_same m f s (unbound m t u) (unbound m t u') y k),
           behind_steps m f s t t u' u y y r.1 (read_all_same m f s (unbound m t u') (unbound m t u) y (symm k)),
         )
 
 -- the equation of a source's own member is that of `[P][P] = [P]`, or begins with a generic parameter
 module _ (m : Symbols) (f : TermFacts) (fit : AreSymbolsOf m f) where
-  doubled : (s : Source) (t : Term) (p : ProtoId) (y : Word) → Derivable f s (IsValid t) → Both m f s fit t (ProtoSymbol p.rank ∷ ProtoSymbol p.rank ∷ y) t (ProtoSymbol p.rank ∷ y)
+  doubled : (s : Source) (t : Term) (p : ProtoId) (y : Word) → Derivable f s (IsValid t)
+      → Both m f s fit t (ProtoSymbol p.rank ∷ ProtoSymbol p.rank ∷ y) t (ProtoSymbol p.rank ∷ y)
   doubled s t p y v = (
     drop_symbol m f s t (ProtoSymbol p.rank) (ProtoSymbol p.rank ∷ y) refl v,
     λ c. add_symbol m f s t (ProtoSymbol p.rank) (ProtoSymbol p.rank ∷ y) refl v c.0 c,
@@ -104,34 +112,44 @@ module _ (m : Symbols) (f : TermFacts) (fit : AreSymbolsOf m f) where
   of_member (Written gs rs) t y (IsAnyObject u) v h = ((λ c. absurd c.0), λ c. absurd c.0)
   of_member (Written gs rs) t y (Equals u u') v h = ((λ c. absurd c.0), λ c. absurd c.0)
   of_member (SelfOf p) t y r v h =
-      subst (λ x. Both m f (SelfOf p) fit t (left_side m (SelfOf p) x ++ y) t (right_side m (SelfOf p) x ++ y)) (sym h) (doubled (SelfOf p) t p y v)
+      subst (λ x. Both m f (SelfOf p) fit t (left_side m (SelfOf p) x ++ y) t (right_side m (SelfOf p) x ++ y)) (sym h)
+      (doubled (SelfOf p) t p y v)
 
   module _ (s : Source) where
     under_proto : (t : Term) (p : ProtoId) (a b : Word) → (Derivable f s (Requires (Conforms t p)) → Both m f s fit t a t b)
         → Both m f s fit t (ProtoSymbol p.rank ∷ a) t (ProtoSymbol p.rank ∷ b)
     under_proto t p a b k = (
-      (λ c. let r : CanReadAll m f s t b × Derivable f s (Requires (Equals (read_on m t a) (read_on m t b))) = (k c.0).0 c.1 in ((c.0, r.0), r.1)),
-      λ c. let r : CanReadAll m f s t a × Derivable f s (Requires (Equals (read_on m t b) (read_on m t a))) = (k c.0).1 c.1 in ((c.0, r.0), r.1),
+      (λ c. let r : CanReadAll m f s t b × Derivable f s (Requires (Equals (read_on m t a) (read_on m t b))) = (k c.0).0 c.1 in
+          ((c.0, r.0), r.1)),
+      λ c. let r : CanReadAll m f s t a × Derivable f s (Requires (Equals (read_on m t b) (read_on m t a))) = (k c.0).1 c.1 in
+          ((c.0, r.0), r.1),
     )
 
-    pub middle : {l r : Word} → Equation m (UsableOf f) (UsableIn f s) s l r → (t : Term) (y : Word) → Derivable f s (IsValid t) → Both m f s fit t (l ++ y) t (r ++ y)
+    pub middle : {l r : Word} → Equation m (UsableOf f) (UsableIn f s) s l r → (t : Term) (y : Word) → Derivable f s (IsValid t)
+        → Both m f s fit t (l ++ y) t (r ++ y)
     middle (twice p h) t y v = doubled s t p y v
     middle (member k h) t y v = (
-      (λ c. (((h, c.0, c.1.0), c.1.1), reflex (valid_reading m f s t (ProtoSymbol (proto_of m k).rank ∷ NameSymbol (name_of m k).rank ∷ y) v c))),
+      (λ c. (
+        ((h, c.0, c.1.0), c.1.1),
+        reflex (valid_reading m f s t (ProtoSymbol (proto_of m k).rank ∷ NameSymbol (name_of m k).rank ∷ y) v c),
+      )),
       λ c. ((c.0.1, (c.0.2, c.1)), reflex (valid_reading m f s t (MemberSymbol k ∷ y) v c)),
     )
     middle (of_protocol p (Conforms u q) (h, w)) t y v =
-        subst₂ (λ a b. Both m f s fit t a t b) (sym (spell-append m (SelfOf p) u (ProtoSymbol q.rank ∷ []) y)) (sym (spell-append m (SelfOf p) u [] y))
+        subst₂ (λ a b. Both m f s fit t a t b) (sym (spell-append m (SelfOf p) u (ProtoSymbol q.rank ∷ []) y))
+        (sym (spell-append m (SelfOf p) u [] y))
         (under_proto t p (steps m u (ProtoSymbol q.rank ∷ y)) (steps m u y) (λ c. conf_sides m f s fit t p v c u q y h w))
     middle (of_protocol p (IsAnyObject u) (h, w)) t y v =
-        subst₂ (λ a b. Both m f s fit t a t b) (sym (spell-append m (SelfOf p) u (LayoutSymbol ∷ []) y)) (sym (spell-append m (SelfOf p) u [] y))
+        subst₂ (λ a b. Both m f s fit t a t b) (sym (spell-append m (SelfOf p) u (LayoutSymbol ∷ []) y))
+        (sym (spell-append m (SelfOf p) u [] y))
         (under_proto t p (steps m u (LayoutSymbol ∷ y)) (steps m u y) (λ c. layout_sides m f s fit t p v c u y h w))
     middle (of_protocol p (Equals u u') (h, w)) t y v =
         subst₂ (λ a b. Both m f s fit t a t b) (sym (spell-append m (SelfOf p) u [] y)) (sym (spell-append m (SelfOf p) u' [] y))
         (under_proto t p (steps m u y) (steps m u' y) (λ c. same_sides m f s fit t p v c u u' y h w.0 w.1))
     middle (of_source r h) t y v = of_member s t y r v h
 
-    pub middle_link : {u v : Word} → Link (Equation m (UsableOf f) (UsableIn f s) s) u v → (t : Term) → Derivable f s (IsValid t) → Leads m f s t u t v
+    pub middle_link : {u v : Word} → Link (Equation m (UsableOf f) (UsableIn f s) s) u v → (t : Term)
+        → Derivable f s (IsValid t) → Leads m f s t u t v
     middle_link (forth y e) t v = (middle e t y v).0
     middle_link (back y e) t v = (middle e t y v).1
     middle_link (there {u = u} {v = w} x l) t v = λ c.

@@ -75,23 +75,27 @@ module _ (m : Symbols) (f : TermFacts) (ps : List ParamId) (ms : List TermRequir
   abbrev Least : Word → Type 0
   Least u = IsLeast C u
 
-  pub conf_chain : (t : Term) (p : ProtoId) → Derivable f L (Requires (Conforms t p)) → (y : Word) → C (spell m L t (ProtoSymbol p.rank ∷ y)) (spell m L t y)
+  pub conf_chain : (t : Term) (p : ProtoId) → Derivable f L (Requires (Conforms t p)) → (y : Word)
+      → C (spell m L t (ProtoSymbol p.rank ∷ y)) (spell m L t y)
   conf_chain t p e y = (chained_usable m fit ranges n e).2 y
 
   -- a member symbol that is read is as good as its name
-  pub as_name : (t : Term) (k : ℕ) → CanRead m f L t (MemberSymbol k) → (y : Word) → C (spell m L t (MemberSymbol k ∷ y)) (spell m L t (NameSymbol (name_of m k).rank ∷ y))
+  pub as_name : (t : Term) (k : ℕ) → CanRead m f L t (MemberSymbol k) → (y : Word)
+      → C (spell m L t (MemberSymbol k ∷ y)) (spell m L t (NameSymbol (name_of m k).rank ∷ y))
   as_name t k c y = more (within t (back y (member k c.0))) (conf_chain t (proto_of m k) c.1 (NameSymbol (name_of m k).rank ∷ y))
 
   -- pre is as good as the word of t
   unfoldable pub Stands : Word → Term → Type 0
   Stands pre t = (z : Word) → C (pre ++ z) (spell m L t z)
 
-  stands_on : (pre : Word) (t : Term) (k : ℕ) (d : AssocId) → Stands pre t → CanRead m f L t (MemberSymbol k) → IsFirstFor f L t (name_of m k) d
+  stands_on : (pre : Word) (t : Term) (k : ℕ) (d : AssocId) → Stands pre t → CanRead m f L t (MemberSymbol k)
+      → IsFirstFor f L t (name_of m k) d
       → Stands (pre ++ (MemberSymbol k ∷ [])) (Member t (Bound d))
   unfolding Stands
   stands_on pre t k d w c i = λ z.
       subst (λ v. C v (spell m L (Member t (Bound d)) z)) (sym (append_assoc pre (MemberSymbol k ∷ []) z))
-      (joined (w (MemberSymbol k ∷ z)) (joined (as_name t k c z) (joined (turn_all (conf_chain t i.proto i.conforms (NameSymbol (name_of m k).rank ∷ z)))
+      (joined (w (MemberSymbol k ∷ z))
+      (joined (as_name t k c z) (joined (turn_all (conf_chain t i.proto i.conforms (NameSymbol (name_of m k).rank ∷ z)))
       (at_once (turn (within t (member_link f i.proto (name_of m k) d z fit i.declares)))))))
 
   pub front : (t : Term) (rest u : Word) → BeginsAs m f L t rest u → (pre : Word) × (u ≡ pre ++ rest) × Stands pre t
@@ -103,7 +107,8 @@ module _ (m : Symbols) (f : TermFacts) (ps : List ParamId) (ms : List TermRequir
       (pre ++ (MemberSymbol k ∷ []), e ∙ sym (append_assoc pre (MemberSymbol k ∷ []) rest), stands_on pre t k d w c i)
 
   -- two member symbols with one name, read after the same type
-  alike : (pre : Word) (t : Term) (k j : ℕ) (rest : Word) → Stands pre t → CanRead m f L t (MemberSymbol k) → CanRead m f L t (MemberSymbol j)
+  alike : (pre : Word) (t : Term) (k j : ℕ) (rest : Word) → Stands pre t → CanRead m f L t (MemberSymbol k)
+      → CanRead m f L t (MemberSymbol j)
       → name_of m k ≡ name_of m j → C (pre ++ (MemberSymbol k ∷ rest)) (pre ++ (MemberSymbol j ∷ rest))
   unfolding Stands
   alike pre t k j rest w c d e =
@@ -116,7 +121,8 @@ module _ (m : Symbols) (f : TermFacts) (ps : List ParamId) (ms : List TermRequir
       → CanRead m f L t (MemberSymbol k) → CanRead m f L t (MemberSymbol j) → name_of m k ≡ name_of m j → j < k → ⊥
   none_smaller pre t k j rest w l c d e h =
       none_less C _ _ l (alike pre t k j rest w c d e)
-      (by_symbols _ _ (same_length pre (MemberSymbol j) (MemberSymbol k) rest rest refl) (lex_at pre (MemberSymbol j) (MemberSymbol k) rest rest (before_member j k h)))
+      (by_symbols _ _ (same_length pre (MemberSymbol j) (MemberSymbol k) rest rest refl)
+      (lex_at pre (MemberSymbol j) (MemberSymbol k) rest rest (before_member j k h)))
 
   -- the words of one type, at the fronts of least words, are one
   same_front : (t : Term) (rest rest' u v : Word) → BeginsAs m f L t rest u → BeginsAs m f L t rest' v → Least u → Least v
@@ -136,10 +142,12 @@ module _ (m : Symbols) (f : TermFacts) (ps : List ParamId) (ms : List TermRequir
         stands_on pre t k d w c i,
       )
 
-  name_less : (t : Term) (p : ProtoId) (a : NameId) (d : AssocId) (b : NameId) (e : AssocId) → Declares f p a d → Derivable f L (Requires (Conforms t p)) → IsFirstFor f L t b e → d.rank < e.rank → a.rank < b.rank
+  name_less : (t : Term) (p : ProtoId) (a : NameId) (d : AssocId) (b : NameId) (e : AssocId) → Declares f p a d
+      → Derivable f L (Requires (Conforms t p)) → IsFirstFor f L t b e → d.rank < e.rank → a.rank < b.rank
   name_less t p a d b e k c i h =
       let x : a.rank ≤ b.rank = ranked.assocs p a d i.proto b e k i.declares h in
-      let y : a.rank ≡ b.rank → ⊥ = λ q. let z : e.rank ≤ d.rank = i.first p d (subst (λ c. Declares f p c d) (λ j. record { rank = q j }) k) c in omega arith in
+      let y : a.rank ≡ b.rank → ⊥ =
+      λ q. let z : e.rank ≤ d.rank = i.first p d (subst (λ c. Declares f p c d) (λ j. record { rank = q j }) k) c in omega arith in
       omega arith
 
   symbol_less : (k j : ℕ) → IsRank m k → (name_of m k).rank < (name_of m j).rank → k < j
@@ -151,7 +159,8 @@ module _ (m : Symbols) (f : TermFacts) (ps : List ParamId) (ms : List TermRequir
   -- what comes before by type comes before by word
   bases_lex : (t t' : Term) (rest rest' u v : Word) → BeginsAs m f L t rest u → BeginsAs m f L t' rest' v → Least u → Least v
       → AlikeBefore t t' → Lex u v
-  bases_lex (Generic i) (Generic j) rest rest' u v h h' l l' b = subst₂ Lex (sym h) (sym h') (lex_at [] (ParamSymbol i.depth i.index) (ParamSymbol j.depth j.index) rest rest' (before_param i j b))
+  bases_lex (Generic i) (Generic j) rest rest' u v h h' l l' b =
+      subst₂ Lex (sym h) (sym h') (lex_at [] (ParamSymbol i.depth i.index) (ParamSymbol j.depth j.index) rest rest' (before_param i j b))
   bases_lex (Generic i) (Member t' y) rest rest' u v h h' l l' b = absurd b
   bases_lex (Member t x) (Generic j) rest rest' u v h h' l l' b = absurd b
   bases_lex (Member t (Name a)) (Member t' y) rest rest' u v h h' l l' b = absurd h
@@ -162,10 +171,12 @@ module _ (m : Symbols) (f : TermFacts) (ps : List ParamId) (ms : List TermRequir
       let h'' : BeginsAs m f L t (MemberSymbol k' ∷ rest') v = subst (λ x. BeginsAs m f L x (MemberSymbol k' ∷ rest') v) (sym b.0) h' in
       let (pre, e, e', w) = same_front t (MemberSymbol k ∷ rest) (MemberSymbol k' ∷ rest') u v h h'' l l' in
       subst₂ Lex (sym e) (sym e') (lex_at pre (MemberSymbol k) (MemberSymbol k') rest rest' (before_member k k'
-      (symbol_less k k' c.0 (name_less t i.proto (name_of m k) d (name_of m k') d' i.declares i.conforms (subst (λ x. IsFirstFor f L x (name_of m k') d') (sym b.0) i') b.1))))
+      (symbol_less k k' c.0 (name_less t i.proto (name_of m k) d (name_of m k') d' i.declares i.conforms
+      (subst (λ x. IsFirstFor f L x (name_of m k') d') (sym b.0) i') b.1))))
 
   -- A type parameter whose word is congruent to a least word does not come before its type.
-  none_before : (t : Term) (w : Term) (rest z u : Word) → BeginsAs m f L t rest u → Least u → Derivable f L (IsValid w) → C u (spell m L w z)
+  none_before : (t : Term) (w : Term) (rest z u : Word) → BeginsAs m f L t rest u → Least u
+      → Derivable f L (IsValid w) → C u (spell m L w z)
       → length z ≡ length rest → AlikeBefore w t → ⊥
   unfolding Stands
   none_before (Generic i) (Generic j) rest z u h l v c g b =
@@ -181,21 +192,25 @@ module _ (m : Symbols) (f : TermFacts) (ps : List ParamId) (ms : List TermRequir
   none_before (Member t (Bound d)) (Member w (Bound e)) rest z u (k, c, i, h) l v r g (inr b) =
       let (pre, q, s) = front t (MemberSymbol k ∷ rest) u h in
       let (p, a, o, o') = valid_bound v in
-      let x : a.rank < (name_of m k).rank = name_less t p a e (name_of m k) d o' (subst (λ x. Derivable f L (Requires (Conforms x p))) b.0 o) i b.1 in
+      let x : a.rank < (name_of m k).rank =
+      name_less t p a e (name_of m k) d o' (subst (λ x. Derivable f L (Requires (Conforms x p))) b.0 o) i b.1 in
       let y : (name_of m (m.rank_of e)).rank ≡ a.rank = ap (λ z. z.rank) (fit p a e o').2 in
       let y' : (name_of m (m.rank_of e)).rank < (name_of m k).rank = omega arith in
-      let r' : C u (pre ++ (MemberSymbol (m.rank_of e) ∷ z)) = joined (subst (λ x. C u (spell m L x (MemberSymbol (m.rank_of e) ∷ z))) b.0 r) (turn_all (s (MemberSymbol (m.rank_of e) ∷ z))) in
+      let r' : C u (pre ++ (MemberSymbol (m.rank_of e) ∷ z)) =
+      joined (subst (λ x. C u (spell m L x (MemberSymbol (m.rank_of e) ∷ z))) b.0 r) (turn_all (s (MemberSymbol (m.rank_of e) ∷ z))) in
       none_less C _ _ l r'
       (subst (λ x. WordLess (pre ++ (MemberSymbol (m.rank_of e) ∷ z)) x) (sym q)
       (by_symbols _ _ (same_length pre (MemberSymbol (m.rank_of e)) (MemberSymbol k) z rest g)
-      (lex_at pre (MemberSymbol (m.rank_of e)) (MemberSymbol k) z rest (before_member (m.rank_of e) k (symbol_less (m.rank_of e) k (fit p a e o').0 y')))))
+      (lex_at pre (MemberSymbol (m.rank_of e)) (MemberSymbol k) z rest
+      (before_member (m.rank_of e) k (symbol_less (m.rank_of e) k (fit p a e o').0 y')))))
 
   steps_length : (w : Term) (z : Word) → length (steps m w z) ≡ member_count w + length z
   steps_length (Generic i) z = omega arith
   steps_length (Member w x) z = let y = steps_length w (symbol m x ∷ z) in omega arith
 
   -- the type of a least word comes before no type parameter that is derivably equal to it, nor after one
-  pub type_is_least : (t w : Term) (u : Word) → BeginsAs m f L t [] u → Least u → Derivable f L (IsValid w) → C u (spell m L w []) → TermBefore w t → ⊥
+  pub type_is_least : (t w : Term) (u : Word) → BeginsAs m f L t [] u → Least u → Derivable f L (IsValid w)
+      → C u (spell m L w []) → TermBefore w t → ⊥
   type_is_least t w u h l v c (inl b) =
       let x = typed_length m f L t [] u h in
       let y = steps_length w [] in
@@ -203,7 +218,8 @@ module _ (m : Symbols) (f : TermFacts) (ps : List ParamId) (ms : List TermRequir
   type_is_least t w u h l v c (inr b) = none_before t w [] [] u h l v c refl b.1
 
   -- the order of types is the order of words
-  pub type_order : (t t' : Term) (u v : Word) → BeginsAs m f L t [] u → BeginsAs m f L t' [] v → Least u → Least v → TermBefore t t' → WordLess u v
+  pub type_order : (t t' : Term) (u v : Word) → BeginsAs m f L t [] u → BeginsAs m f L t' [] v → Least u → Least v
+      → TermBefore t t' → WordLess u v
   type_order t t' u v h h' l l' (inl b) =
       let x = typed_length m f L t [] u h in
       let y = typed_length m f L t' [] v h' in
@@ -221,7 +237,8 @@ module _ (m : Symbols) (f : TermFacts) (ps : List ParamId) (ms : List TermRequir
   pub word_order : (t w : Term) (u v : Word) → IsTypeOf m f L u t → IsTypeOf m f L v w → Least u → Least v → WordLess u v → TermBefore t w
   word_order t w u v h k l l' less = elim (total t w) [
     | inl b ↦ b
-    | inr (inl e) ↦ absurd (not_below_itself v (subst (λ x. WordLess x v) (one_word w u v (subst (λ x. IsTypeOf m f L u x) e h) k l l') less))
+    | inr (inl e) ↦
+        absurd (not_below_itself v (subst (λ x. WordLess x v) (one_word w u v (subst (λ x. IsTypeOf m f L u x) e h) k l l') less))
     | inr (inr b) ↦ absurd (not_both_below u v less (type_order w t v u k h l' l b))
   ]
 
@@ -237,8 +254,11 @@ module _ (m : Symbols) (f : TermFacts) (ps : List ParamId) (ms : List TermRequir
   read_as (Generic g) rest u h v = (Generic g, ap (reading m) h, reflex v)
   read_as (Member t (Name a)) rest u h v = absurd h
   read_as (Member t (Bound d)) rest u (k, c, i, h) v =
-      let (r, e, q) = read_as t (MemberSymbol k ∷ rest) u h v in
-      (Member r (Name (name_of m k)), e, trans (symm (read_same m f L t r (MemberSymbol k) (symm q) c).1) (symm (assoc_bind i.conforms i.declares)))
+      let (r, e, q) = read_as t (MemberSymbol k ∷ rest) u h v in (
+        Member r (Name (name_of m k)),
+        e,
+        trans (symm (read_same m f L t r (MemberSymbol k) (symm q) c).1) (symm (assoc_bind i.conforms i.declares)),
+      )
 
   pub reading_type : (t : Term) (u : Word) → IsTypeOf m f L u t → HasReading m f L u → Derivable f L (Requires (Equals (reading m u) t))
   reading_type t u h r =
@@ -248,7 +268,8 @@ module _ (m : Symbols) (f : TermFacts) (ps : List ParamId) (ms : List TermRequir
       subst (λ x. Derivable f L (Requires (Equals x t))) (sym q) k
 
   -- The type of the least word of a class is the reduced type of each type parameter whose word is in the class.
-  pub type_is_reduced : (t r : Term) (u : Word) → Derivable f L (IsValid t) → C (spell m L t []) u → Least u → IsTypeOf m f L u r → IsReducedTypeOf f L t r
+  pub type_is_reduced : (t r : Term) (u : Word) → Derivable f L (IsValid t) → C (spell m L t []) u → Least u → IsTypeOf m f L u r
+      → IsReducedTypeOf f L t r
   type_is_reduced t r u v c l h =
       let (w, e) = word_is_read m f fit L t v in
       let (z, q) = chain_leads m f fit L c w in
@@ -270,19 +291,24 @@ module _ (m : Symbols) (f : TermFacts) (ps : List ParamId) (ms : List TermRequir
   shorter (a ∷ pre) x w = let h = shorter pre x w in omega arith
 
   -- in a least word no `[Q]`, no layout and no name stands after a part that is read
-  least_shape : (pre : Word) (t : Term) (w : Word) → Stands pre t → Derivable f L (IsValid t) → Least (pre ++ w) → CanReadAll m f L t w → OnlyMembers w
+  least_shape : (pre : Word) (t : Term) (w : Word) → Stands pre t → Derivable f L (IsValid t) → Least (pre ++ w)
+      → CanReadAll m f L t w → OnlyMembers w
   unfolding Stands OnlyMembers
   least_shape pre t [] s v l c = tt
   least_shape pre t (ProtoSymbol q ∷ w) s v l c =
-      none_less C _ _ l (joined (s (ProtoSymbol q ∷ w)) (joined (conf_chain t (record { rank = q }) c.0 w) (turn_all (s w)))) (by_length _ _ (shorter pre (ProtoSymbol q) w))
+      none_less C _ _ l (joined (s (ProtoSymbol q ∷ w)) (joined (conf_chain t (record { rank = q }) c.0 w) (turn_all (s w))))
+      (by_length _ _ (shorter pre (ProtoSymbol q) w))
   least_shape pre t (LayoutSymbol ∷ w) s v l c =
-      none_less C _ _ l (joined (s (LayoutSymbol ∷ w)) (joined ((chained_usable m fit ranges n c.0).1 w) (turn_all (s w)))) (by_length _ _ (shorter pre LayoutSymbol w))
+      none_less C _ _ l (joined (s (LayoutSymbol ∷ w)) (joined ((chained_usable m fit ranges n c.0).1 w) (turn_all (s w))))
+      (by_length _ _ (shorter pre LayoutSymbol w))
   least_shape pre t (ParamSymbol d i ∷ w) s v l c = c.0
   least_shape pre t (NameSymbol a ∷ w) s v l ((p, d, e, h), c) =
       none_less C _ _ l
       (joined (s (NameSymbol a ∷ w)) (joined (turn_all (conf_chain t p e (NameSymbol a ∷ w)))
-      (joined (at_once (turn (within t (member_link f p (record { rank = a }) d w fit h)))) (turn_all (s (MemberSymbol (m.rank_of d) ∷ w))))))
-      (by_symbols _ _ (same_length pre (MemberSymbol (m.rank_of d)) (NameSymbol a) w w refl) (lex_at pre (MemberSymbol (m.rank_of d)) (NameSymbol a) w w refl))
+      (joined (at_once (turn (within t (member_link f p (record { rank = a }) d w fit h))))
+      (turn_all (s (MemberSymbol (m.rank_of d) ∷ w))))))
+      (by_symbols _ _ (same_length pre (MemberSymbol (m.rank_of d)) (NameSymbol a) w w refl)
+      (lex_at pre (MemberSymbol (m.rank_of d)) (NameSymbol a) w w refl))
   least_shape pre t (MemberSymbol k ∷ w) s v l c =
       least_shape (pre ++ (MemberSymbol k ∷ [])) (Member t (Name (name_of m k))) w
       (λ z. subst (λ x. C x (spell m L t (NameSymbol (name_of m k).rank ∷ z))) (sym (append_assoc pre (MemberSymbol k ∷ []) z))
@@ -305,11 +331,13 @@ module _ (m : Symbols) (f : TermFacts) (ps : List ParamId) (ms : List TermRequir
         typed w u (Member t (Name (name_of m k))) (Member b (Bound d)) (trans g (symm (assoc_bind i.conforms i.declares))) o r (k, q, i, h)
 
     -- a least word that is read has a type
-    pub has_type : (u : Word) → HasReading m f L u → Least u → (t : Term) × BeginsAs m f L t [] u × Derivable f L (Requires (Equals (reading m u) t))
+    pub has_type : (u : Word) → HasReading m f L u → Least u
+        → (t : Term) × BeginsAs m f L t [] u × Derivable f L (Requires (Equals (reading m u) t))
     unfolding Stands
     has_type [] c l = absurd c
     has_type (ParamSymbol d i ∷ u) (c, r) l =
-        typed u (ParamSymbol d i ∷ u) (Generic (record { depth = d; index = i })) (Generic (record { depth = d; index = i })) (reflex (generic c))
+        typed u (ParamSymbol d i ∷ u) (Generic (record { depth = d; index = i }))
+        (Generic (record { depth = d; index = i })) (reflex (generic c))
         (least_shape (ParamSymbol d i ∷ []) (Generic (record { depth = d; index = i })) u (λ z. done) (generic c) l r) r refl
     has_type (ProtoSymbol q ∷ u) (c, r) l = absurd c
     has_type (LayoutSymbol ∷ u) (c, r) l = absurd c

@@ -24,7 +24,8 @@ use Rattle.swreq_correspondence.specs.Readings.{HasName, CanRead, after, CanRead
 pub valid_name : {f : TermFacts} {s : Source} {t : Term} {a : NameId} → Derives f true s (IsValid (Member t (Name a))) → HasName f s t a
 valid_name (assoc_name {p = p} {d = d} e h) = (p, d, e, h)
 
-pub valid_bound : {f : TermFacts} {s : Source} {t : Term} {d : AssocId} → Derives f true s (IsValid (Member t (Bound d))) → (p : ProtoId) × (a : NameId) × Derivable f s (Requires (Conforms t p)) × Declares f p a d
+pub valid_bound : {f : TermFacts} {s : Source} {t : Term} {d : AssocId} → Derives f true s (IsValid (Member t (Bound d)))
+    → (p : ProtoId) × (a : NameId) × Derivable f s (Requires (Conforms t p)) × Declares f p a d
 valid_bound (assoc_decl {p = p} {a = a} e h) = (p, a, e, h)
 
 pub valid_generic : {f : TermFacts} {s : Source} {g : ParamId} → Derives f true s (IsValid (Generic g)) → HasParam s g
@@ -43,7 +44,8 @@ module _ {f : TermFacts} {s : Source} where
   has_name : {t u : Term} {a : NameId} → Derivable f s (Requires (Equals t u)) → HasName f s t a → HasName f s u a
   has_name e (p, d, c, h) = (p, d, same_conf c (symm e), h)
 
-  same_member : {t u : Term} {a : NameId} → Derivable f s (Requires (Equals t u)) → HasName f s t a → Derivable f s (Requires (Equals (Member t (Name a)) (Member u (Name a))))
+  same_member : {t u : Term} {a : NameId} → Derivable f s (Requires (Equals t u)) → HasName f s t a
+      → Derivable f s (Requires (Equals (Member t (Name a)) (Member u (Name a))))
   same_member e h = same_name (same_conf h.2 (symm e)) e h.3
 
 module _ (m : Symbols) (f : TermFacts) (s : Source) where
@@ -123,6 +125,7 @@ module _ (m : Symbols) (f : TermFacts) (s : Source) where
         let r : Derivable f s (Requires (Equals (substitute of u) (unbound m (base u) u)))
         × ((y : Word) → CanReadAll m f s (unbound m (base u) u) y → CanReadAll m f s (base u) (steps m u y))
         = steps_are_read u (valid_base x e) in
-        let k : CanRead m f s (unbound m (base u) u) (symbol m x) × Derivable f s (Requires (Equals (Member (substitute of u) x) (after m (unbound m (base u) u) (symbol m x))))
+        let k : CanRead m f s (unbound m (base u) u) (symbol m x)
+        × Derivable f s (Requires (Equals (Member (substitute of u) x) (after m (unbound m (base u) u) (symbol m x))))
         = step_is_read u (unbound m (base u) u) x e r.0 in
         (k.1, λ y c. r.1 (symbol m x ∷ y) (k.0, c))

@@ -1,5 +1,5 @@
--- The symbols of worked texts. Their facts and lists stand in `swreq_derive`; a member name has its symbols in the order of the protocols that
--- inherit more, and then of their names.
+-- The symbols of worked texts. Their facts and lists stand in `swreq_derive`; a member name has its symbols in the order of the protocols
+-- that inherit more, and then of their names.
 use Rattle.std.specs.Prelude.{ℕ, List, [], ◌∷◌, get_or}
 use Rattle.swreq_param.specs.declared.ids.AssocId.{AssocId}
 use Rattle.swreq_param.specs.declared.ids.NameId.{NameId}

@@ -24,7 +24,8 @@ ghost use Rattle.swreq_correspondence.specs.Types.{AreRanked, HasFirsts, IsTypeO
 /// Congruence of words shows what is derivable.
 pub fn derived_is_shown()
     ensures { (m : Symbols) (f : TermFacts) (s : Source) (st : TermStatement)
-        → AreSymbolsOf m f → AreOfText m f → IsInText m s → Derivable f s st → Shows m f s (AreCongruent m f s) st }
+        → AreSymbolsOf m f → AreOfText m f → IsInText m s → Derivable f s st
+        → Shows m f s (AreCongruent m f s) st }
 {}
 
 /// The word of a valid type parameter reads as a type that is derivably equal to it. Where a word has
@@ -33,7 +34,8 @@ pub fn derived_is_shown()
 pub fn words_are_read()
     ensures of_valid { (m : Symbols) (f : TermFacts) (s : Source) (t : Term)
         → AreSymbolsOf m f → Derivable f s (IsValid t)
-        → HasReading m f s (word_of m s t) × Derivable f s (Requires (Equals t (reading m (word_of m s t)))) }
+        → HasReading m f s (word_of m s t)
+        × Derivable f s (Requires (Equals t (reading m (word_of m s t)))) }
     ensures along { (m : Symbols) (f : TermFacts) (s : Source) (u v : Word)
         → AreSymbolsOf m f → Link (UsableEquation m f s) u v → HasReading m f s u
         → HasReading m f s v × Derivable f s (Requires (Equals (reading m u) (reading m v))) }
@@ -42,8 +44,10 @@ pub fn words_are_read()
 /// What is derivable of valid type parameters is what is congruent of their words.
 pub fn derivations_are_congruences()
     ensures equal { (m : Symbols) (f : TermFacts) (s : Source) (t u : Term)
-        → AreSymbolsOf m f → AreOfText m f → IsInText m s → Derivable f s (IsValid t) → Derivable f s (IsValid u)
-        → Derivable f s (Requires (Equals t u)) ↔ AreCongruent m f s (word_of m s t) (word_of m s u) }
+        → AreSymbolsOf m f → AreOfText m f → IsInText m s → Derivable f s (IsValid t)
+        → Derivable f s (IsValid u)
+        → Derivable f s (Requires (Equals t u))
+        ↔ AreCongruent m f s (word_of m s t) (word_of m s u) }
     ensures conforms { (m : Symbols) (f : TermFacts) (s : Source) (t : Term) (p : ProtoId)
         → AreSymbolsOf m f → AreOfText m f → IsInText m s → Derivable f s (IsValid t)
         → Derivable f s (Requires (Conforms t p))
@@ -56,7 +60,8 @@ pub fn derivations_are_congruences()
         → Derivable f s (IsValid (Member t (Name a))) ↔ HasName f s t a }
     ensures bound { (f : TermFacts) (s : Source) (t : Term) (d : AssocId)
         → Derivable f s (IsValid (Member t (Bound d)))
-        ↔ ((p : ProtoId) × (a : NameId) × Derivable f s (Requires (Conforms t p)) × Declares f p a d) }
+        ↔ ((p : ProtoId) × (a : NameId)
+        × Derivable f s (Requires (Conforms t p)) × Declares f p a d) }
 {}
 
 /// Of two least words that have types, the one is less if and only if its type comes first. A word has one type.
@@ -65,7 +70,8 @@ pub fn types_go_by_words()
         → AreSymbolsOf m f → AreOfText m f → IsInText m (Written gs rs) → AreRanked m f
         → (t w : Term) (u v : Word)
         → IsTypeOf m f (Written gs rs) u t → IsTypeOf m f (Written gs rs) v w
-        → IsLeast (AreCongruent m f (Written gs rs)) u → IsLeast (AreCongruent m f (Written gs rs)) v
+        → IsLeast (AreCongruent m f (Written gs rs)) u
+        → IsLeast (AreCongruent m f (Written gs rs)) v
         → WordLess u v ↔ TermBefore t w }
     ensures one { (m : Symbols) (f : TermFacts) (s : Source) (t w : Term) (u : Word)
         → IsTypeOf m f s u t → IsTypeOf m f s u w → t ≡ w }
@@ -74,13 +80,16 @@ pub fn types_go_by_words()
 /// The least word of the class of a valid type parameter's word has a type, which is the reduced type.
 pub fn types_are_reduced()
     ensures some { (m : Symbols) (f : TermFacts) (gs : List ParamId) (rs : List TermRequirement)
-        → AreSymbolsOf m f → AreOfText m f → IsInText m (Written gs rs) → AreRanked m f → HasFirsts f (Written gs rs)
+        → AreSymbolsOf m f → AreOfText m f → IsInText m (Written gs rs) → AreRanked m f
+        → HasFirsts f (Written gs rs)
         → (t : Term) (u : Word) → Derivable f (Written gs rs) (IsValid t)
-        → AreCongruent m f (Written gs rs) (word_of m (Written gs rs) t) u → IsLeast (AreCongruent m f (Written gs rs)) u
+        → AreCongruent m f (Written gs rs) (word_of m (Written gs rs) t) u
+        → IsLeast (AreCongruent m f (Written gs rs)) u
         → (r : Term) × IsTypeOf m f (Written gs rs) u r }
     ensures reduced { (m : Symbols) (f : TermFacts) (gs : List ParamId) (rs : List TermRequirement)
         → AreSymbolsOf m f → AreOfText m f → IsInText m (Written gs rs) → AreRanked m f
         → (t r : Term) (u : Word) → Derivable f (Written gs rs) (IsValid t)
-        → AreCongruent m f (Written gs rs) (word_of m (Written gs rs) t) u → IsLeast (AreCongruent m f (Written gs rs)) u
+        → AreCongruent m f (Written gs rs) (word_of m (Written gs rs) t) u
+        → IsLeast (AreCongruent m f (Written gs rs)) u
         → IsTypeOf m f (Written gs rs) u r → IsReducedTypeOf f (Written gs rs) t r }
 {}

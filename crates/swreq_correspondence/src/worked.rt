@@ -32,10 +32,14 @@ pub fn members_without_end()
         (first_param ∷ Proto 0 ∷ []) (first_param ∷ []) }
 
     // The readings.
-    ensures reads { HasReading endless_symbols endless (of_one endless_f) (first_param ∷ Member 0 ∷ Name 1 ∷ Proto 0 ∷ []) }
-    ensures read_as { reading endless_symbols (first_param ∷ Member 0 ∷ Name 1 ∷ Proto 0 ∷ []) ≡ τ_0_0 · Next · Next }
-    ensures no_reading { HasReading endless_symbols endless (of_one endless_f) (first_param ∷ Name 0 ∷ []) → ⊥ }
-    ensures typed { IsTypeOf endless_symbols endless (of_one endless_f) (first_param ∷ Member 0 ∷ []) (bound τ_0_0 Next_of_N) }
+    ensures reads { HasReading endless_symbols endless (of_one endless_f)
+        (first_param ∷ Member 0 ∷ Name 1 ∷ Proto 0 ∷ []) }
+    ensures read_as { reading endless_symbols (first_param ∷ Member 0 ∷ Name 1 ∷ Proto 0 ∷ [])
+        ≡ τ_0_0 · Next · Next }
+    ensures no_reading { HasReading endless_symbols endless (of_one endless_f)
+        (first_param ∷ Name 0 ∷ []) → ⊥ }
+    ensures typed { IsTypeOf endless_symbols endless (of_one endless_f)
+        (first_param ∷ Member 0 ∷ []) (bound τ_0_0 Next_of_N) }
 {}
 
 /// `protocol P { associatedtype A }`, `protocol Q { associatedtype A }`, `func f<T: P & Q>()` and `func g<T: P>()`: the words of the two
@@ -44,7 +48,8 @@ pub fn one_name_in_two_protocols()
     ensures congruent { AreCongruent shared_symbols shared (of_one shared_f)
         (word_of shared_symbols (of_one shared_f) (bound τ_0_0 A_of_P))
         (word_of shared_symbols (of_one shared_f) (bound τ_0_0 A_of_Q)) }
-    ensures no_reading { HasReading shared_symbols shared (of_one shared_g) (first_param ∷ Member 1 ∷ []) → ⊥ }
+    ensures no_reading { HasReading shared_symbols shared (of_one shared_g)
+        (first_param ∷ Member 1 ∷ []) → ⊥ }
 {
     swreq_derive::worked::one_name_in_two_protocols();
 }
@@ -52,20 +57,25 @@ pub fn one_name_in_two_protocols()
 /// `protocol Late { associatedtype Next: Late }`, `protocol Early: Late { associatedtype Next: Early }` and `func f<T: Early>()`: the symbol
 /// of the protocol that inherits more comes first, and stands for the associated type that is a root.
 pub fn name_declared_again()
-    ensures word { word_of redeclared_symbols (of_one redeclared_f) (bound τ_0_0 Next_of_Late) ≡ first_param ∷ Member 1 ∷ [] }
-    ensures typed { IsTypeOf redeclared_symbols redeclared (of_one redeclared_f) (first_param ∷ Member 0 ∷ []) (bound τ_0_0 Next_of_Late) }
+    ensures word { word_of redeclared_symbols (of_one redeclared_f) (bound τ_0_0 Next_of_Late)
+        ≡ first_param ∷ Member 1 ∷ [] }
+    ensures typed { IsTypeOf redeclared_symbols redeclared (of_one redeclared_f)
+        (first_param ∷ Member 0 ∷ []) (bound τ_0_0 Next_of_Late) }
 {}
 
 /// `protocol P { associatedtype B where B == Self }` and `func f<X: P, Y>() where X.B == Y`: the equations of same-type requirements.
 pub fn member_that_is_self()
-    ensures of_protocol { UsableEquation looped_symbols looped (of_two looped_f) (Proto 0 ∷ Name 1 ∷ []) (Proto 0 ∷ []) }
-    ensures of_list { UsableEquation looped_symbols looped (of_two looped_f) (first_param ∷ Name 1 ∷ []) (second_param ∷ []) }
+    ensures of_protocol { UsableEquation looped_symbols looped (of_two looped_f)
+        (Proto 0 ∷ Name 1 ∷ []) (Proto 0 ∷ []) }
+    ensures of_list { UsableEquation looped_symbols looped (of_two looped_f)
+        (first_param ∷ Name 1 ∷ []) (second_param ∷ []) }
 {}
 
 /// `protocol P { associatedtype A }`, `protocol Q { associatedtype B: P }` and `func f<T>() where T.A: Q, T.A.B == T`: no requirement of the
 /// list is usable, so none gives an equation.
 pub fn requirements_that_justify_one_another()
-    ensures none { (u v : Word) → UsableEquation circular_symbols circular (of_one circular_f) (first_param ∷ u) v → ⊥ }
+    ensures none { (u v : Word)
+        → UsableEquation circular_symbols circular (of_one circular_f) (first_param ∷ u) v → ⊥ }
 {
     swreq_derive::worked::requirements_that_justify_one_another();
 }
@@ -74,7 +84,9 @@ pub fn requirements_that_justify_one_another()
 /// has a symbol too, and its type is bound to the protocol that declares it.
 pub fn inherited_member_name()
     ensures symbols { AreSymbolsOf inherited_symbols inherited }
-    ensures member { UsableEquation inherited_symbols inherited (of_one inherited_f) (Proto 1 ∷ Name 0 ∷ []) (Member 0 ∷ []) }
+    ensures member { UsableEquation inherited_symbols inherited (of_one inherited_f)
+        (Proto 1 ∷ Name 0 ∷ []) (Member 0 ∷ []) }
     ensures read_as { reading inherited_symbols (first_param ∷ Member 0 ∷ []) ≡ τ_0_0 · A }
-    ensures typed { IsTypeOf inherited_symbols inherited (of_one inherited_f) (first_param ∷ Member 0 ∷ []) (bound τ_0_0 A_of_P) }
+    ensures typed { IsTypeOf inherited_symbols inherited (of_one inherited_f)
+        (first_param ∷ Member 0 ∷ []) (bound τ_0_0 A_of_P) }
 {}

@@ -21,7 +21,8 @@ inherits_as_written = or_else_same [] inherit_as_written
 requirement_as_written : SameTexts lines.requirement written.requirement
 unfolding lines.requirement
 requirement_as_written =
-    two_ways lines.written_type (λ found subject. requirements.Bound subject found) (after (mark Colon) lines.bounds) (λ right left. requirements.Same left right) (after (mark EqualEqual) lines.written_type)
+    two_ways lines.written_type (λ found subject. requirements.Bound subject found) (after (mark Colon) lines.bounds)
+    (λ right left. requirements.Same left right) (after (mark EqualEqual) lines.written_type)
 
 conditions_as_written : SameTexts lines.conditions (or_else [] written.where_clause)
 unfolding lines.conditions lines.where_clause
@@ -29,7 +30,8 @@ conditions_as_written = or_else_same [] (after_same (mark Where) (separated_same
 
 member_as_written : SameTexts lines.member written.member
 unfolding lines.member
-member_as_written = mapped_same _ (after_same (mark AssociatedType) (sequence_same (same lines.name) (sequence_same inherits_as_written (before_same lines.semicolon conditions_as_written))))
+member_as_written = mapped_same _ (after_same (mark AssociatedType)
+    (sequence_same (same lines.name) (sequence_same inherits_as_written (before_same lines.semicolon conditions_as_written))))
 
 -- ---- items
 
@@ -37,7 +39,8 @@ protocol_as_written : SameTexts (after (skipped lines.access) lines.protocol) wr
 unfolding lines.protocol
 protocol_as_written =
     after_same (skipped lines.access) (mapped_same _ (after_same (mark Protocol)
-    (sequence_same (same lines.name) (sequence_same (same lines.primary_names) (sequence_same inherits_as_written (sequence_same conditions_as_written
+    (sequence_same (same lines.name)
+    (sequence_same (same lines.primary_names) (sequence_same inherits_as_written (sequence_same conditions_as_written
     (after_same (mark OpenBrace) (before_same (mark CloseBrace) (repetition_same unlimited member_as_written)))))))))
 
 function_as_written : SameTexts (after (skipped lines.access) lines.function) written.function
@@ -45,20 +48,23 @@ unfolding lines.function
 function_as_written =
     after_same (skipped lines.access) (mapped_same _ (after_same (mark Func)
     (sequence_same (same lines.name) (sequence_same (same lines.params)
-    (after_same (mark OpenParenthesis) (after_same (labelled Parameters (mark CloseParenthesis)) (before_same lines.no_body conditions_as_written)))))))
+    (after_same (mark OpenParenthesis)
+    (after_same (labelled Parameters (mark CloseParenthesis)) (before_same lines.no_body conditions_as_written)))))))
 
 structure_as_written : SameTexts (after (skipped lines.access) lines.structure) written.structure
 unfolding lines.structure lines.inner_function
 structure_as_written =
     after_same (skipped lines.access) (mapped_same _ (after_same (mark Struct)
     (sequence_same (same lines.name) (sequence_same (same lines.params) (sequence_same conditions_as_written
-    (after_same (mark OpenBrace) (before_same (mark CloseBrace) (repetition_same unlimited (before_same lines.semicolon function_as_written)))))))))
+    (after_same (mark OpenBrace)
+    (before_same (mark CloseBrace) (repetition_same unlimited (before_same lines.semicolon function_as_written)))))))))
 
 -- ---- queries
 
 qstep_as_written : SameTexts lines.qstep written.qstep
 unfolding lines.qstep
-qstep_as_written = then (after_either (mark Dot) lines.bound_step (mapped lines.plain_step lines.name)) (swapped (after (mark Dot) lines.bound_step) (after (mark Dot) (mapped lines.plain_step lines.name)))
+qstep_as_written = then (after_either (mark Dot) lines.bound_step (mapped lines.plain_step lines.name))
+    (swapped (after (mark Dot) lines.bound_step) (after (mark Dot) (mapped lines.plain_step lines.name)))
 
 qtype_as_written : SameTexts lines.qtype written.qtype
 unfolding lines.qtype
@@ -68,7 +74,8 @@ ask_as_written : SameTexts lines.ask written.ask
 unfolding lines.ask
 ask_as_written =
     then
-    (three_ways lines.qtype (λ bound t. asks.Is t bound) (after (mark Colon) lines.qentity) (λ right left. asks.Same left right) (after (mark EqualEqual) lines.qtype) (λ t. asks.Reduced t))
+    (three_ways lines.qtype (λ bound t. asks.Is t bound) (after (mark Colon) lines.qentity) (λ right left. asks.Same left right)
+    (after (mark EqualEqual) lines.qtype) (λ t. asks.Reduced t))
     (then (grouped _ _ _)
     (then (swapped _ _)
     (either (mapped_same _ qtype_as_written)
@@ -87,7 +94,8 @@ item_as_written : SameTexts lines.item written.item
 unfolding lines.item lines.bare_item lines.declaration
 item_as_written =
     then
-    (with_front lines.access (λ p. items.Protocol p) lines.protocol (λ f. items.Function f) lines.function (λ s. items.Struct s) lines.structure (mapped (λ q. items.Query q) lines.query) lines.semicolon)
+    (with_front lines.access (λ p. items.Protocol p) lines.protocol (λ f. items.Function f) lines.function
+    (λ s. items.Struct s) lines.structure (mapped (λ q. items.Query q) lines.query) lines.semicolon)
     (either (before_same lines.semicolon (mapped_same _ protocol_as_written))
     (either (before_same lines.semicolon (mapped_same _ function_as_written))
     (either (before_same lines.semicolon (mapped_same _ structure_as_written))

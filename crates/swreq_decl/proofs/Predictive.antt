@@ -6,9 +6,13 @@ use Rattle.swreq_decl.specs.Terminals.{number}
 use Rattle.swreq_decl.specs.Source.{name, semicolon, head, written_type, args, arguments, entity, qentity, bounds, inherit, requirement, where_clause, inherits, conditions, member, access, primaries, primary_names, protocol, param, generics, params, no_body, function, inner_function, structure, bound_step, qstep, qtype, ask, asked, sname, query, declaration, bare_item, item, source}
 
 pub source_is_predictive : is_predictive number source ≡ true
-unfolding name semicolon head written_type args arguments entity qentity bounds inherit requirement where_clause inherits conditions member access primaries primary_names protocol param generics params no_body function inner_function structure bound_step qstep qtype ask asked sname query declaration bare_item item source
+unfolding name semicolon head written_type args arguments entity qentity bounds inherit requirement where_clause inherits conditions member
+    access primaries primary_names protocol param generics params no_body function inner_function structure bound_step qstep qtype ask asked
+    sname query declaration bare_item item source
 source_is_predictive = refl
 
 pub source_is_well_labelled : is_well_labelled source ≡ true
-unfolding name semicolon head written_type args arguments entity qentity bounds inherit requirement where_clause inherits conditions member access primaries primary_names protocol param generics params no_body function inner_function structure bound_step qstep qtype ask asked sname query declaration bare_item item source
+unfolding name semicolon head written_type args arguments entity qentity bounds inherit requirement where_clause inherits conditions member
+    access primaries primary_names protocol param generics params no_body function inner_function structure bound_step qstep qtype ask asked
+    sname query declaration bare_item item source
 source_is_well_labelled = refl

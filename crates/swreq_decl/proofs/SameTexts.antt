@@ -35,7 +35,8 @@ either_onward : {A : Type 0} (g h i j : Line A) → Onward g h → Onward i j �
 either_onward g h i j k l ts v (inl m) = inl (k ts v m)
 either_onward g h i j k l ts v (inr m) = inr (l ts v m)
 
-parts_onward : {A : Type 0} (g h : Line A) → Onward g h → (vs : List A) (ts : Tokens) → Parts (Matches number g) ts vs → Parts (Matches number h) ts vs
+parts_onward : {A : Type 0} (g h : Line A) → Onward g h → (vs : List A) (ts : Tokens) → Parts (Matches number g) ts vs
+    → Parts (Matches number h) ts vs
 parts_onward g h k [] ts e = e
 parts_onward g h k (v ∷ vs) ts (first, rest, s, m, ms) = (first, rest, s, k first v m, parts_onward g h k vs rest ms)
 
@@ -48,10 +49,12 @@ pub mapped_same : {A B : Type 0} (f : A → B) {g h : Line A} → SameTexts g h 
 mapped_same f {g} {h} a = record { onward = mapped_onward f g h a.onward; back = mapped_onward f h g a.back }
 
 pub sequence_same : {A B : Type 0} {g h : Line A} {i j : Line B} → SameTexts g h → SameTexts i j → SameTexts (sequence g i) (sequence h j)
-sequence_same {g = g} {h = h} {i = i} {j = j} a b = record { onward = sequence_onward g h i j a.onward b.onward; back = sequence_onward h g j i a.back b.back }
+sequence_same {g = g} {h = h} {i = i} {j = j} a b =
+    record { onward = sequence_onward g h i j a.onward b.onward; back = sequence_onward h g j i a.back b.back }
 
 pub either : {A : Type 0} {g h i j : Line A} → SameTexts g h → SameTexts i j → SameTexts (alternative g i) (alternative h j)
-either {g = g} {h = h} {i = i} {j = j} a b = record { onward = either_onward g h i j a.onward b.onward; back = either_onward h g j i a.back b.back }
+either {g = g} {h = h} {i = i} {j = j} a b =
+    record { onward = either_onward g h i j a.onward b.onward; back = either_onward h g j i a.back b.back }
 
 pub repetition_same : {A : Type 0} (limit : Limit Kind) {g h : Line A} → SameTexts g h → SameTexts (repetition limit g) (repetition limit h)
 repetition_same limit {g} {h} a = record { onward = repetition_onward limit g h a.onward; back = repetition_onward limit h g a.back }
@@ -65,5 +68,7 @@ before_same s e = mapped_same (λ p. p.0) (sequence_same e (same s))
 pub or_else_same : {A : Type 0} (default : A) {g h : Line A} → SameTexts g h → SameTexts (or_else default g) (or_else default h)
 or_else_same default e = either e (same (empty default))
 
-pub separated_same : {A : Type 0} (separators : List Terminal) {g h : Line A} → SameTexts g h → SameTexts (separated separators g) (separated separators h)
-separated_same separators e = mapped_same (λ p. p.0 ∷ p.1) (sequence_same e (repetition_same unlimited (after_same (terminal separators) e)))
+pub separated_same : {A : Type 0} (separators : List Terminal) {g h : Line A} → SameTexts g h
+    → SameTexts (separated separators g) (separated separators h)
+separated_same separators e =
+    mapped_same (λ p. p.0 ∷ p.1) (sequence_same e (repetition_same unlimited (after_same (terminal separators) e)))

@@ -38,11 +38,14 @@ above_less : (from to : ℕ) → from ≤ to → (ts : Tokens) → Above to ts �
 above_less from to l [] a = tt
 above_less from to l (t ∷ ts) a = (let k = a.0 in omega arith, above_less from to l ts a.1)
 
-slices_ordered : (text : List ℕ) (from : ℕ) (ts : List lexed.Token) → AreSlices text from ts → Above from (with_terminals text ts) × AreOrdered (with_terminals text ts)
+slices_ordered : (text : List ℕ) (from : ℕ) (ts : List lexed.Token) → AreSlices text from ts
+    → Above from (with_terminals text ts) × AreOrdered (with_terminals text ts)
 slices_ordered text from [] s = (tt, tt)
 slices_ordered text from (t ∷ ts) (next a b c d e s) =
-    let r = slices_ordered text t.end ts s in
-    ((a, above_less from t.end (omega arith) (with_terminals text ts) r.0), (above_less (suc t.start) t.end (omega arith) (with_terminals text ts) r.0, r.1))
+    let r = slices_ordered text t.end ts s in (
+      (a, above_less from t.end (omega arith) (with_terminals text ts) r.0),
+      (above_less (suc t.start) t.end (omega arith) (with_terminals text ts) r.0, r.1),
+    )
 
 -- a token starts there
 abbrev pub Starts : ℕ → Tokens → Type 0
@@ -81,7 +84,8 @@ name_starts ts s (t, (e, h), k) = subst (λ (us : Tokens). Starts s.start us) (s
 named_starts : {A B : Type 0} (t : Terminal) (h : Line B) (f : Span × B → A) (name : A → Span) → ((p : Span × B) → name (f p) ≡ p.0) →
     (ts : Tokens) (v : A) → Matches number (mapped f (after (mark t) (sequence lines.name h))) ts v → Starts (name v).start ts
 named_starts {A} {B} t h f name same ts v (p, (q, (a, b, s, m, (c, d, r, n, l)), e), k) =
-    let here : Starts q.1.0.start (a ++ (c ++ d)) = starts_right q.1.0.start a (c ++ d) (starts_left q.1.0.start c d (name_starts c q.1.0 n)) in
+    let here : Starts q.1.0.start (a ++ (c ++ d)) =
+    starts_right q.1.0.start a (c ++ d) (starts_left q.1.0.start c d (name_starts c q.1.0 n)) in
     let whole : a ++ (c ++ d) ≡ ts = sym (s ∙ ap (λ (us : Tokens). a ++ us) r) in
     let is : q.1.0 ≡ name v = ap (λ (x : Span × B). x.0) e ∙ sym (same p) ∙ ap name k in
     subst (λ (us : Tokens). Starts (name v).start us) whole (subst (λ (x : Span). Starts x.start (a ++ (c ++ d))) is here)
@@ -89,13 +93,15 @@ named_starts {A} {B} t h f name same ts v (p, (q, (a, b, s, m, (c, d, r, n, l)),
 function_starts : (ts : Tokens) (f : FunctionDecl) → Matches number lines.function ts f → Starts f.name.start ts
 unfolding lines.function
 function_starts ts f m =
-    named_starts Func (sequence lines.params (after (mark OpenParenthesis) (after (labelled Parameters (mark CloseParenthesis)) (before lines.conditions lines.no_body))))
+    named_starts Func (sequence lines.params
+    (after (mark OpenParenthesis) (after (labelled Parameters (mark CloseParenthesis)) (before lines.conditions lines.no_body))))
     (λ p. record { name = p.0; params = p.1.0; clause = p.1.1 }) (λ (g : FunctionDecl). g.name) (λ p. refl) ts f m
 
 structure_starts : (ts : Tokens) (s : StructDecl) → Matches number lines.structure ts s → Starts s.name.start ts
 unfolding lines.structure
 structure_starts ts s m =
-    named_starts Struct (sequence lines.params (sequence lines.conditions (after (mark OpenBrace) (before (repetition unlimited lines.inner_function) (mark CloseBrace)))))
+    named_starts Struct (sequence lines.params
+    (sequence lines.conditions (after (mark OpenBrace) (before (repetition unlimited lines.inner_function) (mark CloseBrace)))))
     (λ p. record { name = p.0; params = p.1.0; clause = p.1.1.0; functions = p.1.1.1 }) (λ (r : StructDecl). r.name) (λ p. refl) ts s m
 
 protocol_starts : (ts : Tokens) (p : ProtocolDecl) → Matches number lines.protocol ts p → Starts p.name.start ts
@@ -103,8 +109,10 @@ unfolding lines.protocol
 protocol_starts ts p m =
     named_starts Protocol
     (sequence lines.primary_names
-    (sequence lines.inherits (sequence lines.conditions (after (mark OpenBrace) (before (repetition unlimited lines.member) (mark CloseBrace))))))
-    (λ p. record { name = p.0; primaries = p.1.0; inherits = p.1.1.0; clause = p.1.1.1.0; members = p.1.1.1.1 }) (λ (q : ProtocolDecl). q.name) (λ p. refl) ts p m
+    (sequence lines.inherits
+    (sequence lines.conditions (after (mark OpenBrace) (before (repetition unlimited lines.member) (mark CloseBrace))))))
+    (λ p. record { name = p.0; primaries = p.1.0; inherits = p.1.1.0; clause = p.1.1.1.0; members = p.1.1.1.1 })
+    (λ (q : ProtocolDecl). q.name) (λ p. refl) ts p m
 
 -- the name of a protocol, or of a struct or function at the top, is one of the tokens
 abbrev pub Stands : Item → Tokens → Type 0
@@ -133,13 +141,15 @@ declaration_stands ts v (inr (inr (s, m, e))) = subst (λ x. Stands x ts) e (str
 
 bare_item_stands : (ts : Tokens) (v : Item) → Matches number lines.bare_item ts v → Stands v ts
 unfolding lines.bare_item
-bare_item_stands ts v (inl (w, (a, b, s, m, n), e)) = subst (λ x. Stands x ts) e (subst (λ us. Stands w.1 us) (sym s) (stands_right w.1 a b (declaration_stands b w.1 n)))
+bare_item_stands ts v (inl (w, (a, b, s, m, n), e)) =
+    subst (λ x. Stands x ts) e (subst (λ us. Stands w.1 us) (sym s) (stands_right w.1 a b (declaration_stands b w.1 n)))
 bare_item_stands ts v (inr (inl m)) = declaration_stands ts v m
 bare_item_stands ts v (inr (inr (q, m, e))) = subst (λ x. Stands x ts) e tt
 
 pub item_stands : (ts : Tokens) (v : Item) → Matches number lines.item ts v → Stands v ts
 unfolding lines.item
-item_stands ts v (w, (a, b, s, m, n), e) = subst (λ x. Stands x ts) e (subst (λ us. Stands w.0 us) (sym s) (stands_left w.0 a b (bare_item_stands a w.0 m)))
+item_stands ts v (w, (a, b, s, m, n), e) =
+    subst (λ x. Stands x ts) e (subst (λ us. Stands w.0 us) (sym s) (stands_left w.0 a b (bare_item_stands a w.0 m)))
 
 -- ---- parts in order
 
@@ -170,7 +180,8 @@ later_one n (items.Function f) ts h k = k f.name.start h
 later_one n (items.Protocol p) ts h k = tt
 later_one n (items.Query q) ts h k = tt
 
-all_later : (n : ℕ) (vs : List Item) (ts : Tokens) → Parts (Matches number lines.item) ts vs → ((m : ℕ) → Starts m ts → n < m) → AllLater n vs
+all_later : (n : ℕ) (vs : List Item) (ts : Tokens) → Parts (Matches number lines.item) ts vs
+    → ((m : ℕ) → Starts m ts → n < m) → AllLater n vs
 all_later n [] ts e k = tt
 all_later n (v ∷ vs) ts (a, b, s, m, ms) k = (
   later_one n v a (item_stands a v m) (λ x h. k x (subst (λ us. Starts x us) (sym s) (starts_left x a b h))),
@@ -186,8 +197,10 @@ precedes (items.Query q) vs ts h k = tt
 parts_in_order : (vs : List Item) (ts : Tokens) → Parts (Matches number lines.item) ts vs → AreOrdered ts → InOrder vs
 parts_in_order [] ts e o = tt
 parts_in_order (v ∷ vs) ts (a, b, s, m, ms) o =
-    let all : AreOrdered (a ++ b) = subst (λ us. AreOrdered us) s o in
-    (precedes v vs a (item_stands a v m) (λ n h. all_later n vs b ms (λ x k. ordered_apart a b all n x h k)), parts_in_order vs b ms (ordered_back a b all))
+    let all : AreOrdered (a ++ b) = subst (λ us. AreOrdered us) s o in (
+      precedes v vs a (item_stands a v m) (λ n h. all_later n vs b ms (λ x k. ordered_apart a b all n x h k)),
+      parts_in_order vs b ms (ordered_back a b all),
+    )
 
 -- ---- their signatures
 
@@ -227,11 +240,13 @@ all_after : (s : StructDecl) (fs : List FunctionDecl) → FunctionsLater s.name.
 all_after s [] h = refl
 all_after s (f ∷ fs) h = rw (not_less s.name.start f.name.start h.0) (ap (λ (gs : List FunctionDecl). f ∷ gs) (all_after s fs h.1))
 
-function_first : (f : FunctionDecl) (ss : List StructDecl) (fs : List FunctionDecl) → StructsLater f.name.start ss → merged ss (f ∷ fs) ≡ of_function f ∷ merged ss fs
+function_first : (f : FunctionDecl) (ss : List StructDecl) (fs : List FunctionDecl) → StructsLater f.name.start ss
+    → merged ss (f ∷ fs) ≡ of_function f ∷ merged ss fs
 function_first f [] fs h = refl
 function_first f (s ∷ ss) fs h = rw (less f.name.start s.name.start h.0) refl
 
-struct_first : (s : StructDecl) (ss : List StructDecl) (fs : List FunctionDecl) → FunctionsLater s.name.start fs → merged (s ∷ ss) fs ≡ with_functions s ++ merged ss fs
+struct_first : (s : StructDecl) (ss : List StructDecl) (fs : List FunctionDecl) → FunctionsLater s.name.start fs
+    → merged (s ∷ ss) fs ≡ with_functions s ++ merged ss fs
 struct_first s ss fs h = rw (none_before s fs h, all_after s fs h) refl
 
 in_order : (vs : List Item) → InOrder vs → signature_decls (skeleton_of vs) ≡ flat_map item_signatures vs
@@ -247,6 +262,8 @@ in_order (items.Function f ∷ vs) h =
 in_order (items.Protocol p ∷ vs) h = in_order vs h.1 ∙ sym (flat_map-cons item_signatures (items.Protocol p) vs)
 in_order (items.Query q ∷ vs) h = in_order vs h.1 ∙ sym (flat_map-cons item_signatures (items.Query q) vs)
 
-pub signatures_in_order : (text : List ℕ) (from : ℕ) (ts : List lexed.Token) → AreSlices text from ts → (parts : List Item) → Matches number lines.source (with_terminals text ts) parts → signature_decls (skeleton_of parts) ≡ flat_map item_signatures parts
+pub signatures_in_order : (text : List ℕ) (from : ℕ) (ts : List lexed.Token) → AreSlices text from ts → (parts : List Item)
+    → Matches number lines.source (with_terminals text ts) parts → signature_decls (skeleton_of parts) ≡ flat_map item_signatures parts
 unfolding lines.source
-signatures_in_order text from ts s parts m = in_order parts (parts_in_order parts (with_terminals text ts) m.0 (slices_ordered text from ts s).1)
+signatures_in_order text from ts s parts m =
+    in_order parts (parts_in_order parts (with_terminals text ts) m.0 (slices_ordered text from ts s).1)

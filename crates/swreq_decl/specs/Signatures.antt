@@ -29,7 +29,8 @@ stands_before s f = nat_lt f.name.start s.name.start
 -- that stand before it
 abbrev pub merged : List StructDecl → List FunctionDecl → List SignatureDecl
 merged [] fs = map (λ f. of_function f) fs
-merged (s ∷ ss) fs = map (λ f. of_function f) (filter (stands_before s) fs) ++ (with_functions s ++ merged ss (filter (λ f. not (stands_before s f)) fs))
+merged (s ∷ ss) fs =
+    map (λ f. of_function f) (filter (stands_before s) fs) ++ (with_functions s ++ merged ss (filter (λ f. not (stands_before s f)) fs))
 
 -- The signatures of a skeleton, whose lists keep structs and functions apart, in written order.
 abbrev pub signature_decls : Skeleton → List SignatureDecl

@@ -44,7 +44,12 @@ query_of _ = None
 
 -- The skeleton lists the parts of each kind in written order. The functions of a struct stand in it alone.
 abbrev pub skeleton_of : List Item → Skeleton
-skeleton_of parts = record { protocols = filter_map protocol_of parts; structs = filter_map struct_of parts; functions = filter_map function_of parts; queries = filter_map query_of parts }
+skeleton_of parts = record {
+  protocols = filter_map protocol_of parts;
+  structs = filter_map struct_of parts;
+  functions = filter_map function_of parts;
+  queries = filter_map query_of parts;
+}
 
 -- The skeleton stands for the tokens: they are a source of the grammar with these parts.
 abbrev pub IsSource : List (Token Terminal) → Skeleton → Type 0
@@ -69,7 +74,8 @@ refused_kind None (t ∷ rest) = kind_by_token t.terminal
 
 -- The tokens are refused at this place, for this kind; with no kind it is a syntax error.
 abbrev pub AreRefused : ℕ → List (Token Terminal) → ℕ → Option Kind → Type 0
-AreRefused end ts at kind = (fault : Fault Terminal Kind) × Refuses number source ts fault × (at ≡ start_of end fault.0) × (kind ≡ refused_kind fault.1 fault.0)
+AreRefused end ts at kind =
+    (fault : Fault Terminal Kind) × Refuses number source ts fault × (at ≡ start_of end fault.0) × (kind ≡ refused_kind fault.1 fault.0)
 
 -- The text has tokens, and they are refused at this place, for this kind.
 abbrev pub RefusedFor : List ℕ → ℕ → Option Kind → Type 0

@@ -96,7 +96,8 @@ plain_step s = steps.Plain s
 
 -- type = (name | "Self") ("." name)*, with at most 1,000 steps
 unfoldable pub written_type : Line TypeDecl
-written_type = mapped (λ p. record { head = p.0; steps = p.1 }) (sequence head (repetition (at_most 1000 LongType) (after (mark Dot) (mapped plain_step name))))
+written_type = mapped (λ p. record { head = p.0; steps = p.1 })
+    (sequence head (repetition (at_most 1000 LongType) (after (mark Dot) (mapped plain_step name))))
 
 -- args = "<" type ("," type)* ">"
 unfoldable pub args : Line (List TypeDecl)
@@ -111,7 +112,8 @@ any_object t = record { span = span t; layout = true; args = [] }
 
 -- entity = name args? | "AnyObject"
 unfoldable pub entity : Line Entity
-entity = alternative (mapped (λ p. record { span = p.0; layout = false; args = p.1 }) (sequence name arguments)) (mapped any_object (mark AnyObject))
+entity = alternative (mapped (λ p. record { span = p.0; layout = false; args = p.1 }) (sequence name arguments))
+    (mapped any_object (mark AnyObject))
 
 -- qentity = name | "AnyObject"
 unfoldable pub qentity : Line Entity
@@ -185,7 +187,8 @@ no_body = skipped (after (mark OpenBrace) (labelled Body (mark CloseBrace)))
 -- parenthesis is refused as parameters
 unfoldable pub function : Line FunctionDecl
 function = mapped (λ p. record { name = p.0; params = p.1.0; clause = p.1.1 })
-    (after (mark Func) (sequence name (sequence params (after (mark OpenParenthesis) (after (labelled Parameters (mark CloseParenthesis)) (before conditions no_body))))))
+    (after (mark Func) (sequence name
+    (sequence params (after (mark OpenParenthesis) (after (labelled Parameters (mark CloseParenthesis)) (before conditions no_body))))))
 
 -- function ";"?, with its access
 unfoldable pub inner_function : Line FunctionDecl
@@ -233,7 +236,8 @@ query = mapped (λ p. record { outer = p.0.0; function = p.0.1; ask = p.1 }) (af
 
 -- protocol | function | struct, without the access
 unfoldable pub declaration : Line Item
-declaration = alternative (mapped (λ p. items.Protocol p) protocol) (alternative (mapped (λ f. items.Function f) function) (mapped (λ s. items.Struct s) structure))
+declaration = alternative (mapped (λ p. items.Protocol p) protocol)
+    (alternative (mapped (λ f. items.Function f) function) (mapped (λ s. items.Struct s) structure))
 
 -- protocol | function | struct | query
 unfoldable pub bare_item : Line Item

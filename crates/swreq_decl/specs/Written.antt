@@ -54,13 +54,16 @@ member = mapped (λ p. record { name = p.0; inherits = p.1.0; clause = p.1.1 })
 
 -- protocol = access? "protocol" name primaries? inherit? where? "{" member* "}"
 abbrev pub protocol : Line ProtocolDecl
-protocol = after (skipped access) (mapped (λ p. record { name = p.0; primaries = p.1.0; inherits = p.1.1.0; clause = p.1.1.1.0; members = p.1.1.1.1 })
-    (after (mark Protocol) (sequence name (sequence primary_names (sequence (or_else [] inherit) (sequence (or_else [] where_clause) (in_braces member)))))))
+protocol = after (skipped access)
+    (mapped (λ p. record { name = p.0; primaries = p.1.0; inherits = p.1.1.0; clause = p.1.1.1.0; members = p.1.1.1.1 })
+    (after (mark Protocol)
+    (sequence name (sequence primary_names (sequence (or_else [] inherit) (sequence (or_else [] where_clause) (in_braces member)))))))
 
 -- function = access? "func" name generics? "(" ")" where? ("{" "}")?
 abbrev pub function : Line FunctionDecl
 function = after (skipped access) (mapped (λ p. record { name = p.0; params = p.1.0; clause = p.1.1 })
-    (after (mark Func) (sequence name (sequence params (after (mark OpenParenthesis) (after (labelled Parameters (mark CloseParenthesis)) (before (or_else [] where_clause) no_body)))))))
+    (after (mark Func) (sequence name (sequence params
+    (after (mark OpenParenthesis) (after (labelled Parameters (mark CloseParenthesis)) (before (or_else [] where_clause) no_body)))))))
 
 -- struct = access? "struct" name generics? where? "{" (function ";"?)* "}"
 abbrev pub structure : Line StructDecl

@@ -29,9 +29,12 @@ pub fn one_skeleton(text: &[u8])
 
 /// A text that has tokens has a skeleton or a refusal of the grammar, and one of them alone.
 pub fn one_verdict(text: &[u8])
-    ensures some { (ts : List lexed.Token) → HasTokens text.now ts → ((s : Skeleton) × StandsFor text.now s) ⊎ ((at : ℕ) × (kind : Option Kind) × RefusedFor text.now at kind) }
-    ensures one { (at place : ℕ) (kind other : Option Kind) → RefusedFor text.now at kind → RefusedFor text.now place other → (at ≡ place) × (kind ≡ other) }
-    ensures never_both { (s : Skeleton) (at : ℕ) (kind : Option Kind) → StandsFor text.now s → ¬ (RefusedFor text.now at kind) }
+    ensures some { (ts : List lexed.Token) → HasTokens text.now ts → ((s : Skeleton)
+        × StandsFor text.now s) ⊎ ((at : ℕ) × (kind : Option Kind) × RefusedFor text.now at kind) }
+    ensures one { (at place : ℕ) (kind other : Option Kind) → RefusedFor text.now at kind
+        → RefusedFor text.now place other → (at ≡ place) × (kind ≡ other) }
+    ensures never_both { (s : Skeleton) (at : ℕ) (kind : Option Kind) → StandsFor text.now s
+        → ¬ (RefusedFor text.now at kind) }
 {
     one_reading(text);
 }
@@ -43,7 +46,8 @@ pub fn source_as_written()
 
 /// The signatures that are read off the skeleton of a text are those of its parts, in written order.
 pub fn signatures_in_written_order(text: &[u8])
-    ensures { (parts : List Item) → HasParts text.now parts → signature_decls (skeleton_of parts) ≡ flat_map item_signatures parts }
+    ensures { (parts : List Item) → HasParts text.now parts
+        → signature_decls (skeleton_of parts) ≡ flat_map item_signatures parts }
 {
     tokens_are_slices(text);
 }

@@ -29,10 +29,12 @@ use swreq_text::Seq;
 /// is this language's own, a part of that of The Swift Programming Language.
 pub fn parse(alloc: Global, text: &[u8]) -> Result<Skeleton, ParseErr>
     requires { length text.now ≤ TEXT_LIMIT }
-    ensures ok { (skeleton : Skeleton) → Exactly (StandsFor text.now skeleton) (Ok skeleton) result }
+    ensures ok { (skeleton : Skeleton)
+        → Exactly (StandsFor text.now skeleton) (Ok skeleton) result }
     ensures lex { (fault : LexErr) → Exactly (HasRefusal text.now fault) (Err (Lex fault)) result }
     ensures syntax { (at : ℕ) → Exactly (RefusedFor text.now at None) (Err (Syntax at)) result }
-    ensures unsupported { (at : ℕ) (kind : Kind) → Exactly (RefusedFor text.now at (Some kind)) (Err (Unsupported at kind)) result }
+    ensures unsupported { (at : ℕ) (kind : Kind)
+        → Exactly (RefusedFor text.now at (Some kind)) (Err (Unsupported at kind)) result }
 {
     match tokens(alloc, text) {
         Ok(found) => parse_tokens(alloc, text, &found),

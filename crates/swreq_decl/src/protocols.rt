@@ -99,7 +99,8 @@ impl Part for Member {
 /// Reads the members of a protocol, in their braces.
 #[tactic(auto, unfolding(crate::specs::Source::member))]
 fn members(alloc: Global, tokens: &[Token<Terminal>]) -> Read<'_, Seq<AssocDecl>>
-    ensures { Gives (λ x. (x.0, x.1.now)) result (read number (lines.in_braces lines.member) tokens.now) }
+    ensures { Gives (λ x. (x.0, x.1.now)) result
+        (read number (lines.in_braces lines.member) tokens.now) }
 {
     let (_, rest) = mark(tokens, Terminal::OpenBrace)?;
     let (found, rest) = many::<Member>(alloc, rest)?;

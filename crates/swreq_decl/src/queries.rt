@@ -72,7 +72,8 @@ fn query_type(alloc: Global, tokens: &[Token<Terminal>]) -> Read<'_, TypeDecl>
 
 /// Reads the name of a protocol, or `AnyObject`, after `:`.
 fn entity_after_colon(alloc: Global, tokens: &[Token<Terminal>]) -> Read<'_, Entity>
-    ensures { Gives (λ x. (x.0, x.1.now)) result (read number (lines.after (lines.mark Colon) lines.qentity) tokens.now) }
+    ensures { Gives (λ x. (x.0, x.1.now)) result
+        (read number (lines.after (lines.mark Colon) lines.qentity) tokens.now) }
 {
     let (_, rest) = mark(tokens, Terminal::Colon)?;
     query_entity(alloc, rest)
@@ -80,7 +81,8 @@ fn entity_after_colon(alloc: Global, tokens: &[Token<Terminal>]) -> Read<'_, Ent
 
 /// Reads a type in a query after `==`.
 fn type_after_equals(alloc: Global, tokens: &[Token<Terminal>]) -> Read<'_, TypeDecl>
-    ensures { Gives (λ x. (x.0, x.1.now)) result (read number (lines.after (lines.mark EqualEqual) lines.qtype) tokens.now) }
+    ensures { Gives (λ x. (x.0, x.1.now)) result
+        (read number (lines.after (lines.mark EqualEqual) lines.qtype) tokens.now) }
 {
     let (_, rest) = mark(tokens, Terminal::EqualEqual)?;
     query_type(alloc, rest)
@@ -131,7 +133,8 @@ fn signature_name(tokens: &[Token<Terminal>]) -> Read<'_, (Option<Span>, Span)>
 
 /// Reads what a query asks, in its parentheses.
 fn in_parentheses(alloc: Global, tokens: &[Token<Terminal>]) -> Read<'_, Ask>
-    ensures { Gives (λ x. (x.0, x.1.now)) result (read number (lines.in_parentheses lines.asked) tokens.now) }
+    ensures { Gives (λ x. (x.0, x.1.now)) result
+        (read number (lines.in_parentheses lines.asked) tokens.now) }
 {
     let (_, rest) = mark(tokens, Terminal::OpenParenthesis)?;
     let (ask, rest) = asked(alloc, rest)?;

@@ -60,7 +60,8 @@ pub fn labelled(
     label: Kind,
     terminal: Terminal,
 ) -> Read<'_, Token<Terminal>>
-    ensures { Gives (λ x. (x.0, x.1.now)) result (read number (grammar.labelled label (lines.mark terminal)) tokens.now) }
+    ensures { Gives (λ x. (x.0, x.1.now)) result
+        (read number (grammar.labelled label (lines.mark terminal)) tokens.now) }
 {
     if begins(tokens, &[terminal]) {
         return mark(tokens, terminal);

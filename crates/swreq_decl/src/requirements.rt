@@ -18,7 +18,8 @@ use swreq_text::Seq;
 
 /// Reads a type after `==`.
 fn type_after_equals(alloc: Global, tokens: &[Token<Terminal>]) -> Read<'_, TypeDecl>
-    ensures { Gives (λ x. (x.0, x.1.now)) result (read number (lines.after (lines.mark EqualEqual) lines.written_type) tokens.now) }
+    ensures { Gives (λ x. (x.0, x.1.now)) result
+        (read number (lines.after (lines.mark EqualEqual) lines.written_type) tokens.now) }
 {
     let (_, rest) = mark(tokens, Terminal::EqualEqual)?;
     written_type(alloc, rest)

@@ -55,7 +55,8 @@ impl Part for InnerFunction {
 /// Reads the functions of a struct, in their braces.
 #[tactic(auto, unfolding(crate::specs::Source::inner_function, crate::specs::Source::access, crate::specs::Source::function))]
 fn functions(alloc: Global, tokens: &[Token<Terminal>]) -> Read<'_, Seq<FunctionDecl>>
-    ensures { Gives (λ x. (x.0, x.1.now)) result (read number (lines.in_braces lines.inner_function) tokens.now) }
+    ensures { Gives (λ x. (x.0, x.1.now)) result
+        (read number (lines.in_braces lines.inner_function) tokens.now) }
 {
     let (_, rest) = mark(tokens, Terminal::OpenBrace)?;
     let (found, rest) = many::<InnerFunction>(alloc, rest)?;

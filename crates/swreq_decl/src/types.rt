@@ -65,7 +65,8 @@ fn arguments(alloc: Global, tokens: &[Token<Terminal>]) -> Read<'_, Seq<TypeDecl
 
 /// `AnyObject`.
 fn any_object(alloc: Global, tokens: &[Token<Terminal>]) -> Read<'_, Entity>
-    ensures { Gives (λ x. (x.0, x.1.now)) result (read number (mapped lines.any_object (lines.mark AnyObject)) tokens.now) }
+    ensures { Gives (λ x. (x.0, x.1.now)) result
+        (read number (mapped lines.any_object (lines.mark AnyObject)) tokens.now) }
 {
     let (token, rest) = mark(tokens, Terminal::AnyObject)?;
     let found = Entity {
@@ -145,7 +146,8 @@ fn bounds(alloc: Global, tokens: &[Token<Terminal>]) -> Read<'_, Seq<Entity>>
 
 /// Reads bounds after `:`.
 pub fn bounds_after_colon(alloc: Global, tokens: &[Token<Terminal>]) -> Read<'_, Seq<Entity>>
-    ensures { Gives (λ x. (x.0, x.1.now)) result (read number (lines.after (lines.mark Colon) lines.bounds) tokens.now) }
+    ensures { Gives (λ x. (x.0, x.1.now)) result
+        (read number (lines.after (lines.mark Colon) lines.bounds) tokens.now) }
 {
     let (_, rest) = mark(tokens, Terminal::Colon)?;
     bounds(alloc, rest)

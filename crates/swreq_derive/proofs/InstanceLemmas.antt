@@ -23,7 +23,8 @@ use Rattle.swreq_orders.proofs.Elements.{get_map, get_of_map}
 
 -- ---- equal type parameters have equal ids
 
-pub same_requirement : (terms : List Term) (m : IdFacts) → AreDistinct terms → (a b : Requirement) → IsRequirementOver terms m a → IsRequirementOver terms m b
+pub same_requirement : (terms : List Term) (m : IdFacts) → AreDistinct terms → (a b : Requirement) → IsRequirementOver terms m a
+    → IsRequirementOver terms m b
     → requirement_of terms a ≡ requirement_of terms b → a ≡ b
 same_requirement terms m d (Conf x p) (Conf y q) h k e = let i : x ≡ y = d x y h.0 k.0 (cc) in let j : p ≡ q = cc in cc
 same_requirement terms m d (Conf x p) (Layout y) h k e = absurd cc
@@ -35,7 +36,8 @@ same_requirement terms m d (Same x w) (Conf y q) h k e = absurd cc
 same_requirement terms m d (Same x w) (Layout y) h k e = absurd cc
 same_requirement terms m d (Same x w) (Same y z) h k e = let i : x ≡ y = d x y h.0 k.0 (cc) in let j : w ≡ z = d w z h.1 k.1 (cc) in cc
 
-pub same_statement : (terms : List Term) (m : IdFacts) → AreDistinct terms → (a b : Statement) → IsStatementOver terms m a → IsStatementOver terms m b
+pub same_statement : (terms : List Term) (m : IdFacts) → AreDistinct terms → (a b : Statement) → IsStatementOver terms m a
+    → IsStatementOver terms m b
     → statement_of terms a ≡ statement_of terms b → a ≡ b
 same_statement terms m d (Valid x) (Valid y) h k e = ap Valid (d x y h k (cc))
 same_statement terms m d (Valid x) (Holds r) h k e = absurd cc
@@ -44,7 +46,8 @@ same_statement terms m d (Holds r) (Holds q) h k e = ap Holds (same_requirement 
 
 -- ---- shapes
 
-pub valid_shape : (terms : List Term) (a : Statement) (t : Term) → statement_of terms a ≡ IsValid t → (x : TermId) × (a ≡ Valid x) × (term_at terms x ≡ t)
+pub valid_shape : (terms : List Term) (a : Statement) (t : Term) → statement_of terms a ≡ IsValid t
+    → (x : TermId) × (a ≡ Valid x) × (term_at terms x ≡ t)
 valid_shape terms (Valid x) t e = (x, refl, cc)
 valid_shape terms (Holds r) t e = absurd cc
 
@@ -55,7 +58,8 @@ conf_shape terms (Holds (Conf x q)) t p e = let i : q ≡ p = cc in (x, ap (λ z
 conf_shape terms (Holds (Layout x)) t p e = absurd cc
 conf_shape terms (Holds (Same x y)) t p e = absurd cc
 
-pub layout_shape : (terms : List Term) (a : Statement) (t : Term) → statement_of terms a ≡ Requires (IsAnyObject t) → (x : TermId) × (a ≡ Holds (Layout x)) × (term_at terms x ≡ t)
+pub layout_shape : (terms : List Term) (a : Statement) (t : Term) → statement_of terms a ≡ Requires (IsAnyObject t)
+    → (x : TermId) × (a ≡ Holds (Layout x)) × (term_at terms x ≡ t)
 layout_shape terms (Valid x) t e = absurd cc
 layout_shape terms (Holds (Conf x q)) t e = absurd cc
 layout_shape terms (Holds (Layout x)) t e = (x, refl, cc)
@@ -70,7 +74,8 @@ same_shape terms (Holds (Same x y)) t u e = (x, y, refl, (cc), cc)
 
 -- ---- numbers in lists
 
-pub number_map : {A B : Type 0} (f : A → B) (n : ℕ) (xs : List A) (y : B) → HasNumber n (map f xs) y → (x : A) × HasNumber n xs x × (f x ≡ y)
+pub number_map : {A B : Type 0} (f : A → B) (n : ℕ) (xs : List A) (y : B) → HasNumber n (map f xs) y
+    → (x : A) × HasNumber n xs x × (f x ≡ y)
 number_map f n xs y h = let k = get_of_map f xs (n - 1) y h.1 in (k.0, (h.0, k.1), k.2)
 
 pub map_number : {A B : Type 0} (f : A → B) (n : ℕ) (xs : List A) (x : A) → HasNumber n xs x → HasNumber n (map f xs) (f x)
@@ -88,14 +93,17 @@ pub generic_given : (terms : List Term) (m : IdFacts) (t : TermId) (g : ParamId)
     → Contains (generic_params m.params) g ↔ IsGiven terms m Rule.Generic [] c
 generic_given terms m t g c e k = (
   (λ w. (g, refl, ap (statement_of terms) e ∙ ap IsValid k, w)),
-  λ w. (let i : g ≡ w.0 = inner (sym (ap (statement_of terms) e ∙ ap IsValid k) ∙ w.2) in subst (Contains (generic_params m.params)) (sym i) w.3),
+  λ w. (let i : g ≡ w.0 = inner (sym (ap (statement_of terms) e ∙ ap IsValid k) ∙ w.2) in
+      subst (Contains (generic_params m.params)) (sym i) w.3),
 )
   where
     inner : {g h : ParamId} → IsValid (Generic g) ≡ IsValid (Generic h) → g ≡ h
     inner e = cc
 
-pub member_given : (terms : List Term) (m : IdFacts) (t : TermId) (u : Term) (s : _) (c : Statement) → c ≡ Valid t → term_at terms t ≡ Member u s → IsGiven terms m Rule.Generic [] c → ⊥
-member_given terms m t u s c e k w = (let i : IsValid (Member u s) ≡ IsValid (Generic w.0) = sym (ap (statement_of terms) e ∙ ap IsValid k) ∙ w.2 in cc)
+pub member_given : (terms : List Term) (m : IdFacts) (t : TermId) (u : Term) (s : _) (c : Statement) → c ≡ Valid t
+    → term_at terms t ≡ Member u s → IsGiven terms m Rule.Generic [] c → ⊥
+member_given terms m t u s c e k w =
+    (let i : IsValid (Member u s) ≡ IsValid (Generic w.0) = sym (ap (statement_of terms) e ∙ ap IsValid k) ∙ w.2 in cc)
 
 -- ---- what is written in the list
 
@@ -110,7 +118,8 @@ listed terms m ws n c r d of h e w =
     let k = number_map (requirement_of terms) n ws r w in
     (k.0, k.1, same_statement terms m d c (Holds k.0) h (of k.0 (contains_number n ws k.0 k.1)) (e ∙ ap Requires (sym k.2)))
 
-unlisted : (terms : List Term) (ws : List Requirement) (n : ℕ) (c : Statement) (r : TermRequirement) → IsListed ws n c → statement_of terms c ≡ Requires r
+unlisted : (terms : List Term) (ws : List Requirement) (n : ℕ) (c : Statement) (r : TermRequirement) → IsListed ws n c
+    → statement_of terms c ≡ Requires r
     → HasNumber n (map (requirement_of terms) ws) r
 unlisted terms ws n c r w e =
     let i : requirement_of terms w.0 ≡ r = inner (ap (statement_of terms) (sym w.2) ∙ e) in
@@ -119,50 +128,75 @@ unlisted terms ws n c r w e =
     inner : {a b : TermRequirement} → Requires a ≡ Requires b → a ≡ b
     inner e = cc
 
-pub conf_given : (terms : List Term) (m : IdFacts) (n : ℕ) (c : Statement) (x : TermId) (p : ProtoId) → AreDistinct terms → AreFactsOf terms m → IsStatementOver terms m c
+pub conf_given : (terms : List Term) (m : IdFacts) (n : ℕ) (c : Statement) (x : TermId) (p : ProtoId) → AreDistinct terms
+    → AreFactsOf terms m → IsStatementOver terms m c
     → c ≡ Holds (Conf x p) → IsListed m.written n c ↔ IsGiven terms m (Rule.Conf n) [] c
 conf_given terms m n c x p d f h e = (
-  (λ w. (term_at terms x, p, refl, ap (statement_of terms) e, unlisted terms m.written n c (Conforms (term_at terms x) p) w (ap (statement_of terms) e))),
+  (λ w. (
+    term_at terms x,
+    p,
+    refl,
+    ap (statement_of terms) e,
+    unlisted terms m.written n c (Conforms (term_at terms x) p) w (ap (statement_of terms) e),
+  )),
   λ w. listed terms m m.written n c (Conforms w.0 w.1) d f.list h w.3 w.4,
 )
 
-pub same_given : (terms : List Term) (m : IdFacts) (n : ℕ) (c : Statement) (x y : TermId) → AreDistinct terms → AreFactsOf terms m → IsStatementOver terms m c
+pub same_given : (terms : List Term) (m : IdFacts) (n : ℕ) (c : Statement) (x y : TermId) → AreDistinct terms → AreFactsOf terms m
+    → IsStatementOver terms m c
     → c ≡ Holds (Same x y) → IsListed m.written n c ↔ IsGiven terms m (Rule.Same n) [] c
 same_given terms m n c x y d f h e = (
-  (λ w. (term_at terms x, term_at terms y, refl, ap (statement_of terms) e, unlisted terms m.written n c (Equals (term_at terms x) (term_at terms y)) w (ap (statement_of terms) e))),
+  (λ w. (
+    term_at terms x,
+    term_at terms y,
+    refl,
+    ap (statement_of terms) e,
+    unlisted terms m.written n c (Equals (term_at terms x) (term_at terms y)) w (ap (statement_of terms) e),
+  )),
   λ w. listed terms m m.written n c (Equals w.0 w.1) d f.list h w.3 w.4,
 )
 
-pub layout_given : (terms : List Term) (m : IdFacts) (n : ℕ) (c : Statement) (x : TermId) → AreDistinct terms → AreFactsOf terms m → IsStatementOver terms m c
+pub layout_given : (terms : List Term) (m : IdFacts) (n : ℕ) (c : Statement) (x : TermId) → AreDistinct terms → AreFactsOf terms m
+    → IsStatementOver terms m c
     → c ≡ Holds (Layout x) → IsListed m.written n c ↔ IsGiven terms m (Rule.Layout n) [] c
 layout_given terms m n c x d f h e = (
-  (λ w. (term_at terms x, refl, ap (statement_of terms) e, unlisted terms m.written n c (IsAnyObject (term_at terms x)) w (ap (statement_of terms) e))),
+  (λ w. (
+    term_at terms x,
+    refl,
+    ap (statement_of terms) e,
+    unlisted terms m.written n c (IsAnyObject (term_at terms x)) w (ap (statement_of terms) e),
+  )),
   λ w. listed terms m m.written n c (IsAnyObject w.0) d f.list h w.2 w.3,
 )
 
 -- ---- equality
 
-pub reflex_given : (terms : List Term) (m : IdFacts) (a c : Statement) (t : TermId) → AreDistinct terms → IsStatementOver terms m a → IsStatementOver terms m c
+pub reflex_given : (terms : List Term) (m : IdFacts) (a c : Statement) (t : TermId) → AreDistinct terms → IsStatementOver terms m a
+    → IsStatementOver terms m c
     → a ≡ Valid t → (c ≡ Holds (Same t t)) ↔ IsGiven terms m Rule.Reflex (a ∷ []) c
 reflex_given terms m a c t d h k e =
     let s : statement_of terms a ≡ IsValid (term_at terms t) = ap (statement_of terms) e in
     let o : IsStatementOver terms m (Valid t) = subst (λ z. IsStatementOver terms m z) e h in (
       (λ i. (term_at terms t, ap (λ z. z ∷ []) s, ap (statement_of terms) i)),
       λ w. same_statement terms m d c (Holds (Same t t)) k (o, o)
-          (let i : statement_of terms a ∷ [] ≡ IsValid w.0 ∷ [] = w.1 in let j : statement_of terms c ≡ Requires (Equals w.0 w.0) = w.2 in cc),
+          (let i : statement_of terms a ∷ [] ≡ IsValid w.0 ∷ [] = w.1 in
+          let j : statement_of terms c ≡ Requires (Equals w.0 w.0) = w.2 in cc),
     )
 
-pub symm_given : (terms : List Term) (m : IdFacts) (a c : Statement) (t u : TermId) → AreDistinct terms → IsStatementOver terms m a → IsStatementOver terms m c
+pub symm_given : (terms : List Term) (m : IdFacts) (a c : Statement) (t u : TermId) → AreDistinct terms → IsStatementOver terms m a
+    → IsStatementOver terms m c
     → a ≡ Holds (Same t u) → (c ≡ Holds (Same u t)) ↔ IsGiven terms m Rule.Symm (a ∷ []) c
 symm_given terms m a c t u d h k e =
     let s : statement_of terms a ≡ Requires (Equals (term_at terms t) (term_at terms u)) = ap (statement_of terms) e in
     let o : IsStatementOver terms m (Holds (Same t u)) = subst (λ z. IsStatementOver terms m z) e h in (
       (λ i. (term_at terms t, term_at terms u, ap (λ z. z ∷ []) s, ap (statement_of terms) i)),
       λ w. same_statement terms m d c (Holds (Same u t)) k (o.1, o.0)
-          (let i : statement_of terms a ∷ [] ≡ Requires (Equals w.0 w.1) ∷ [] = w.2 in let j : statement_of terms c ≡ Requires (Equals w.1 w.0) = w.3 in cc),
+          (let i : statement_of terms a ∷ [] ≡ Requires (Equals w.0 w.1) ∷ [] = w.2 in
+          let j : statement_of terms c ≡ Requires (Equals w.1 w.0) = w.3 in cc),
     )
 
-pub trans_given : (terms : List Term) (m : IdFacts) (a b c : Statement) (t u w v : TermId) → AreDistinct terms → IsStatementOver terms m a → IsStatementOver terms m b → IsStatementOver terms m c
+pub trans_given : (terms : List Term) (m : IdFacts) (a b c : Statement) (t u w v : TermId) → AreDistinct terms → IsStatementOver terms m a
+    → IsStatementOver terms m b → IsStatementOver terms m c
     → a ≡ Holds (Same t u) → b ≡ Holds (Same w v) → ((u ≡ w) × (c ≡ Holds (Same t v))) ↔ IsGiven terms m Rule.Trans (a ∷ b ∷ []) c
 trans_given terms m a b c t u w v d h k l e f =
     let s : statement_of terms a ≡ Requires (Equals (term_at terms t) (term_at terms u)) = ap (statement_of terms) e in
@@ -181,7 +215,8 @@ trans_given terms m a b c t u w v d h k l e f =
           (d u w o.1 n.0 (cc), same_statement terms m d c (Holds (Same t v)) l (o.0, n.1) (cc))),
     )
 
-pub same_conf_given : (terms : List Term) (m : IdFacts) (p : ProtoId) (a b c : Statement) (t u : TermId) → AreDistinct terms → IsStatementOver terms m a → IsStatementOver terms m b → IsStatementOver terms m c
+pub same_conf_given : (terms : List Term) (m : IdFacts) (p : ProtoId) (a b c : Statement) (t u : TermId) → AreDistinct terms
+    → IsStatementOver terms m a → IsStatementOver terms m b → IsStatementOver terms m c
     → b ≡ Holds (Same t u) → ((a ≡ Holds (Conf u p)) × (c ≡ Holds (Conf t p))) ↔ IsGiven terms m (Rule.SameConf p) (a ∷ b ∷ []) c
 same_conf_given terms m p a b c t u d h k l f =
     let r : statement_of terms b ≡ Requires (Equals (term_at terms t) (term_at terms u)) = ap (statement_of terms) f in
@@ -197,11 +232,14 @@ same_conf_given terms m p a b c t u d h k l f =
           let x = conf_shape terms a q.1 p (cc) in
           let y = conf_shape terms c q.0 p j in
           let ox : IsStatementOver terms m (Holds (Conf x.0 p)) = subst (λ z. IsStatementOver terms m z) x.1 h in
-          let oy : IsStatementOver terms m (Holds (Conf y.0 p)) = subst (λ z. IsStatementOver terms m z) y.1 l in
-          (x.1 ∙ ap (λ z. Holds (Conf z p)) (d x.0 u ox.0 n.1 (let z = x.2 in cc)), y.1 ∙ ap (λ z. Holds (Conf z p)) (d y.0 t oy.0 n.0 (let z = y.2 in cc)))),
+          let oy : IsStatementOver terms m (Holds (Conf y.0 p)) = subst (λ z. IsStatementOver terms m z) y.1 l in (
+            x.1 ∙ ap (λ z. Holds (Conf z p)) (d x.0 u ox.0 n.1 (let z = x.2 in cc)),
+            y.1 ∙ ap (λ z. Holds (Conf z p)) (d y.0 t oy.0 n.0 (let z = y.2 in cc)),
+          )),
     )
 
-pub same_layout_given : (terms : List Term) (m : IdFacts) (a b c : Statement) (t u : TermId) → AreDistinct terms → IsStatementOver terms m a → IsStatementOver terms m b → IsStatementOver terms m c
+pub same_layout_given : (terms : List Term) (m : IdFacts) (a b c : Statement) (t u : TermId) → AreDistinct terms → IsStatementOver terms m a
+    → IsStatementOver terms m b → IsStatementOver terms m c
     → b ≡ Holds (Same t u) → ((a ≡ Holds (Layout u)) × (c ≡ Holds (Layout t))) ↔ IsGiven terms m Rule.SameLayout (a ∷ b ∷ []) c
 same_layout_given terms m a b c t u d h k l f =
     let r : statement_of terms b ≡ Requires (Equals (term_at terms t) (term_at terms u)) = ap (statement_of terms) f in

@@ -10,7 +10,8 @@ use Rattle.swreq_derive.specs.Kept.Keeps.{nothing, left_out, kept}
 use Rattle.swreq_orders.proofs.Members.{first_member, later_member, member_cases, no_member, added_cases, added_later, added_first}
 
 -- Derivability grows with the requirements of the protocols, with the guard or without it.
-pub grows_with_protocols : {ds : List AssociatedType} {less more : ProtoId → List TermRequirement} {guarded : Bool} {s : Source} {st : TermStatement}
+pub grows_with_protocols : {ds : List AssociatedType} {less more : ProtoId → List TermRequirement} {guarded : Bool}
+    {s : Source} {st : TermStatement}
     → Derives (record { associated_types = ds; of_protocol = less }) guarded s st
     → ((p : ProtoId) (r : TermRequirement) → Contains (less p) r → Contains (more p) r)
     → Derives (record { associated_types = ds; of_protocol = more }) guarded s st
@@ -22,7 +23,8 @@ grows_with_protocols (assoc_name e d) g = assoc_name (grows_with_protocols e g) 
 grows_with_protocols (assoc_decl e d) g = assoc_decl (grows_with_protocols e g) d
 grows_with_protocols (assoc_bind e d) g = assoc_bind (grows_with_protocols e g) d
 grows_with_protocols (assoc_conf {p = p} e h v) g = assoc_conf (grows_with_protocols e g) (g p _ h) (λ i. grows_with_protocols (v i) g)
-grows_with_protocols (assoc_same {p = p} e h v w) g = assoc_same (grows_with_protocols e g) (g p _ h) (λ i. grows_with_protocols (v i) g) (λ i. grows_with_protocols (w i) g)
+grows_with_protocols (assoc_same {p = p} e h v w) g =
+    assoc_same (grows_with_protocols e g) (g p _ h) (λ i. grows_with_protocols (v i) g) (λ i. grows_with_protocols (w i) g)
 grows_with_protocols (assoc_layout {p = p} e h v) g = assoc_layout (grows_with_protocols e g) (g p _ h) (λ i. grows_with_protocols (v i) g)
 grows_with_protocols (reflex e) g = reflex (grows_with_protocols e g)
 grows_with_protocols (symm e) g = symm (grows_with_protocols e g)
@@ -34,26 +36,31 @@ grows_with_protocols (same_decl e h d) g = same_decl (grows_with_protocols e g) 
 
 -- ---- parts of a family
 
-pub owned_member : (os : List Owned) (p : ProtoId) (r : TermRequirement) → Contains (owned_by os p) r → (o : Owned) × Contains os o × (nat_eq o.proto.rank p.rank ≡ true) × (r ≡ o.requirement)
+pub owned_member : (os : List Owned) (p : ProtoId) (r : TermRequirement) → Contains (owned_by os p) r
+    → (o : Owned) × Contains os o × (nat_eq o.proto.rank p.rank ≡ true) × (r ≡ o.requirement)
 owned_member [] p r h = no_member r h
 owned_member (o ∷ os) p r h = elim (added_cases (nat_eq o.proto.rank p.rank) o.requirement (owned_by os p) r h) [
   | inl e ↦ (o, first_member o os, e.0, e.1)
   | inr k ↦ (let (x, m, n, i) = owned_member os p r k in (x, later_member o x os m, n, i))
 ]
 
-pub member_owned : (os : List Owned) (p : ProtoId) (o : Owned) → Contains os o → nat_eq o.proto.rank p.rank ≡ true → Contains (owned_by os p) o.requirement
+pub member_owned : (os : List Owned) (p : ProtoId) (o : Owned) → Contains os o → nat_eq o.proto.rank p.rank ≡ true
+    → Contains (owned_by os p) o.requirement
 member_owned [] p o h e = no_member o h
 member_owned (x ∷ os) p o h e = elim (member_cases x o os h) [
-  | inl i ↦ subst (λ z. Contains (owned_by (z ∷ os) p) o.requirement) i (added_first (nat_eq o.proto.rank p.rank) o.requirement (owned_by os p) e)
+  | inl i ↦
+      subst (λ z. Contains (owned_by (z ∷ os) p) o.requirement) i (added_first (nat_eq o.proto.rank p.rank) o.requirement (owned_by os p) e)
   | inr k ↦ added_later (nat_eq x.proto.rank p.rank) x.requirement (owned_by os p) o.requirement (member_owned os p o k e)
 ]
 
-owned_grows : (os ks : List Owned) → ((o : Owned) → Contains os o → Contains ks o) → (p : ProtoId) (r : TermRequirement) → Contains (owned_by os p) r → Contains (owned_by ks p) r
+owned_grows : (os ks : List Owned) → ((o : Owned) → Contains os o → Contains ks o) → (p : ProtoId) (r : TermRequirement)
+    → Contains (owned_by os p) r → Contains (owned_by ks p) r
 owned_grows os ks g p r h =
     let (o, m, e, i) = owned_member os p r h in subst (λ z. Contains (owned_by ks p) z) (sym i) (member_owned ks p o (g o m) e)
 
 -- A larger family derives what a smaller one does.
-pub family_grows : (ds : List AssociatedType) (os ks : List Owned) → ((o : Owned) → Contains os o → Contains ks o) → (p : ProtoId) (st : TermStatement)
+pub family_grows : (ds : List AssociatedType) (os ks : List Owned) → ((o : Owned) → Contains os o → Contains ks o)
+    → (p : ProtoId) (st : TermStatement)
     → Derivable (owned_facts ds os) (SelfOf p) st → Derivable (owned_facts ds ks) (SelfOf p) st
 family_grows ds os ks g p st e = grows_with_protocols e (owned_grows os ks g)
 
@@ -66,13 +73,16 @@ moved : (front rest : List Owned) (o : Owned) → (front ++ o ∷ []) ++ rest �
 moved front rest o = append_assoc front (o ∷ []) rest
 
 -- What is left, with what stands before it, derives what all derived.
-pub left_same : {ds : List AssociatedType} {front rest out : List Owned} → Keeps ds front rest out → DeriveTheSame ds (front ++ out) (front ++ rest)
+pub left_same : {ds : List AssociatedType} {front rest out : List Owned} → Keeps ds front rest out
+    → DeriveTheSame ds (front ++ out) (front ++ rest)
 left_same nothing = λ p st. ((λ e. e), λ e. e)
 left_same {ds = ds} (left_out {front = front} {rest = rest} {out = out} {o = o} k s) =
     same_through ds (front ++ out) (front ++ (o ∷ out)) (front ++ (o ∷ rest)) s
-    (subst (λ z. DeriveTheSame ds z (front ++ (o ∷ rest))) (moved front out o) (subst (λ z. DeriveTheSame ds ((front ++ o ∷ []) ++ out) z) (moved front rest o) (left_same k)))
+    (subst (λ z. DeriveTheSame ds z (front ++ (o ∷ rest))) (moved front out o)
+    (subst (λ z. DeriveTheSame ds ((front ++ o ∷ []) ++ out) z) (moved front rest o) (left_same k)))
 left_same {ds = ds} (kept {front = front} {rest = rest} {out = out} {o = o} k n) =
-    subst (λ z. DeriveTheSame ds z (front ++ (o ∷ rest))) (moved front out o) (subst (λ z. DeriveTheSame ds ((front ++ o ∷ []) ++ out) z) (moved front rest o) (left_same k))
+    subst (λ z. DeriveTheSame ds z (front ++ (o ∷ rest))) (moved front out o)
+    (subst (λ z. DeriveTheSame ds ((front ++ o ∷ []) ++ out) z) (moved front rest o) (left_same k))
 
 head_of : {x y : Owned} {u v : List Owned} → x ∷ u ≡ y ∷ v → x ≡ y
 head_of e = cc
@@ -98,7 +108,8 @@ none_left_out nothing some [] b o g e s = cc
 none_left_out nothing some (x ∷ a) b o g e s = cc
 none_left_out {ds = ds} (left_out {front = front} {rest = rest} {out = out} {o = x} k d) some a b o g e s =
     none_left_out k some a b o (λ y h. Contains-append_left front (x ∷ []) y (g y h)) e
-    (subst (λ z. DeriveTheSame ds (some ++ (a ++ b)) z) (sym (moved front out x)) (same_through ds (some ++ (a ++ b)) (front ++ out) (front ++ (x ∷ out)) s d))
+    (subst (λ z. DeriveTheSame ds (some ++ (a ++ b)) z) (sym (moved front out x))
+    (same_through ds (some ++ (a ++ b)) (front ++ out) (front ++ (x ∷ out)) s d))
 none_left_out {ds = ds} (kept {front = front} {rest = rest} {out = out} {o = x} k n) some [] b o g e s =
     n (λ p st. (
       family_grows ds (front ++ out) (front ++ (x ∷ out)) (within front [] out x) p st,
@@ -118,5 +129,6 @@ none_left_out {ds = ds} (kept {front = front} {rest = rest} {out = out} {o = x} 
 pub family_same : (ds : List AssociatedType) (all out : List Owned) → Keeps ds [] all out → DeriveTheSame ds out all
 family_same ds all out k = left_same k
 
-pub family_minimal : (ds : List AssociatedType) (all out a b : List Owned) (o : Owned) → Keeps ds [] all out → out ≡ a ++ (o ∷ b) → DeriveTheSame ds (a ++ b) out → ⊥
+pub family_minimal : (ds : List AssociatedType) (all out a b : List Owned) (o : Owned) → Keeps ds [] all out → out ≡ a ++ (o ∷ b)
+    → DeriveTheSame ds (a ++ b) out → ⊥
 family_minimal ds all out a b o k e s = none_left_out k [] a b o (λ x h. h) e s

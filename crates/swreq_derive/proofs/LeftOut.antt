@@ -19,19 +19,22 @@ with_or_without : (front out : List Owned) (o : Owned) (p : ProtoId) (r : TermRe
 with_or_without front out o p r h =
     let (x, m, e, i) = owned_member (front ++ (o ∷ out)) p r h in
     elim (Contains-append_cases front (o ∷ out) x m) [
-      | inl k ↦ inl (subst (λ z. Contains (owned_by (front ++ out) p) z) (sym i) (member_owned (front ++ out) p x (Contains-append_left front out x k) e))
+      | inl k ↦ inl (subst (λ z. Contains (owned_by (front ++ out) p) z) (sym i)
+          (member_owned (front ++ out) p x (Contains-append_left front out x k) e))
       | inr k ↦ elim (member_cases o x out k) [
         | inl j ↦ inr (let n = eqb-true x.proto.rank p.rank e in
             let q : x.proto ≡ p = λ y. record { rank = n y } in
             (sym q ∙ ap (λ (z : Owned). z.proto) j, i ∙ ap (λ (z : Owned). z.requirement) j))
-        | inr j ↦ inl (subst (λ z. Contains (owned_by (front ++ out) p) z) (sym i) (member_owned (front ++ out) p x (Contains-append_right front out x j) e))
+        | inr j ↦ inl (subst (λ z. Contains (owned_by (front ++ out) p) z) (sym i)
+            (member_owned (front ++ out) p x (Contains-append_right front out x j) e))
       ]
     ]
 
 -- With fewer requirements of the protocols, of which each that is left out is derivable, the same is derivable.
 without : {ds : List AssociatedType} {more : ProtoId → List TermRequirement} {s : Source} {st : TermStatement}
     → Derives (record { associated_types = ds; of_protocol = more }) true s st → (less : ProtoId → List TermRequirement)
-    → ((p : ProtoId) (r : TermRequirement) → Contains (more p) r → Contains (less p) r ⊎ Derivable (record { associated_types = ds; of_protocol = less }) (SelfOf p) (Requires r))
+    → ((p : ProtoId) (r : TermRequirement) → Contains (more p) r
+    → Contains (less p) r ⊎ Derivable (record { associated_types = ds; of_protocol = less }) (SelfOf p) (Requires r))
     → Derives (record { associated_types = ds; of_protocol = less }) true s st
 without (generic h) less k = generic h
 without (conf h v) less k = conf h (λ e. without (v e) less k)
@@ -60,7 +63,8 @@ without (same_layout e h) less k = same_layout (without e less k) (without h les
 without (same_name e h d) less k = same_name (without e less k) (without h less k) d
 without (same_decl e h d) less k = same_decl (without e less k) (without h less k) d
 
-pub can_go : (ds : List AssociatedType) (front out : List Owned) (o : Owned) → Derivable (owned_facts ds (front ++ out)) (SelfOf o.proto) (Requires o.requirement)
+pub can_go : (ds : List AssociatedType) (front out : List Owned) (o : Owned)
+    → Derivable (owned_facts ds (front ++ out)) (SelfOf o.proto) (Requires o.requirement)
     → DeriveTheSame ds (front ++ out) (front ++ (o ∷ out))
 can_go ds front out o k p st = (
   (λ e. family_grows ds (front ++ out) (front ++ (o ∷ out)) (within front [] out o) p st e),
@@ -72,6 +76,8 @@ can_go ds front out o k p st = (
 )
 
 -- Where the same is derivable without it, a requirement that is derivable with it is derivable without it.
-pub is_derived : (ds : List AssociatedType) (front out : List Owned) (o : Owned) → Derivable (owned_facts ds (front ++ (o ∷ out))) (SelfOf o.proto) (Requires o.requirement)
-    → DeriveTheSame ds (front ++ out) (front ++ (o ∷ out)) → Derivable (owned_facts ds (front ++ out)) (SelfOf o.proto) (Requires o.requirement)
+pub is_derived : (ds : List AssociatedType) (front out : List Owned) (o : Owned)
+    → Derivable (owned_facts ds (front ++ (o ∷ out))) (SelfOf o.proto) (Requires o.requirement)
+    → DeriveTheSame ds (front ++ out) (front ++ (o ∷ out))
+    → Derivable (owned_facts ds (front ++ out)) (SelfOf o.proto) (Requires o.requirement)
 is_derived ds front out o e alike = (alike o.proto (Requires o.requirement)).1 e

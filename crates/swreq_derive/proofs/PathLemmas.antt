@@ -33,7 +33,8 @@ named_member : {f : TermFacts} {s : Source} {t : Term} {a : NameId} → Derives 
 named_member (assoc_name {p = p} {d = d} e h) = record { proto = p; assoc = d; conforms = e; declares = h }
 
 -- Where T equals U, and U conforms to P, what is valid from [τ_0_0 : P] is equal with T and with U for `Self`.
-pub same_for_self : (f : TermFacts) (s : Source) (t u : Term) (p : ProtoId) (v : Term) → Derivable f s (Requires (Conforms u p)) → Derivable f s (Requires (Equals t u))
+pub same_for_self : (f : TermFacts) (s : Source) (t u : Term) (p : ProtoId) (v : Term) → Derivable f s (Requires (Conforms u p))
+    → Derivable f s (Requires (Equals t u))
     → Derivable f (SelfOf p) (IsValid v) → Derivable f s (Requires (Equals (for_self t v) (for_self u v)))
 same_for_self f s t u p (Generic g) c e h = e
 same_for_self f s t u p (Member v (Name a)) c e h =
@@ -50,7 +51,8 @@ number_of xs x h =
     let e : suc h.0 - 1 ≡ h.0 = omega arith in
     (suc h.0, (omega arith, subst (λ k. slice_get xs k ≡ Some x) (sym e) (slice_get-get_or xs h.0 x h.1 ∙ ap Some h.2)))
 
-leads_further : (f : TermFacts) (u t : Term) (q p : ProtoId) (ns : List ℕ) (n : ℕ) (v : Term) (r : ProtoId) → LeadsOn f u q ns t p → HasNumber n (f.of_protocol p) (Conforms v r)
+leads_further : (f : TermFacts) (u t : Term) (q p : ProtoId) (ns : List ℕ) (n : ℕ) (v : Term) (r : ProtoId) → LeadsOn f u q ns t p
+    → HasNumber n (f.of_protocol p) (Conforms v r)
     → LeadsOn f u q (ns ++ n ∷ []) (for_self t v) r
 leads_further f u t q p [] n v r h k =
     (v, r, subst (λ z. HasNumber n (f.of_protocol z) (Conforms v r)) (sym h.1) k, (ap (λ z. for_self z v) h.0, refl))
@@ -87,14 +89,35 @@ further f gs ws t u p q (first, steps, w) c h v =
 -- A path for [U : P] is one for [T : P] where T equals U.
 along : (f : TermFacts) (gs : List ParamId) (ws : List TermRequirement) (t u : Term) (p : ProtoId) → HasPath f gs ws u p
     → Derivable f (Written gs ws) (Requires (Equals t u)) → HasPath f gs ws t p
-along f gs ws t u p (first, steps, w) e =
-    (first, steps, record { start = w.start; proto = w.proto; is_written = w.is_written; subject = w.subject; leads = w.leads; equal = trans w.equal (symm e) })
+along f gs ws t u p (first, steps, w) e = (
+  first,
+  steps,
+  record {
+    start = w.start;
+    proto = w.proto;
+    is_written = w.is_written;
+    subject = w.subject;
+    leads = w.leads;
+    equal = trans w.equal (symm e);
+  },
+)
 
-says : {f : TermFacts} {s : Source} {st : TermStatement} → Derives f true s st → (gs : List ParamId) (ws : List TermRequirement) → s ≡ Written gs ws → Says f gs ws st
+says : {f : TermFacts} {s : Source} {st : TermStatement} → Derives f true s st → (gs : List ParamId) (ws : List TermRequirement)
+    → s ≡ Written gs ws → Says f gs ws st
 says (generic h) gs ws e = tt
 says {f = f} (conf {t = t} {p = p} h v) gs ws e =
-    let n = number_of ws (Conforms t p) (subst (λ z. HasRequirement z (Conforms t p)) e h) in
-    (n.0, [], record { start = t; proto = p; is_written = n.1; subject = t; leads = (refl, refl); equal = reflex (subst (λ z. Derivable f z (IsValid t)) e (v refl)) })
+    let n = number_of ws (Conforms t p) (subst (λ z. HasRequirement z (Conforms t p)) e h) in (
+      n.0,
+      [],
+      record {
+        start = t;
+        proto = p;
+        is_written = n.1;
+        subject = t;
+        leads = (refl, refl);
+        equal = reflex (subst (λ z. Derivable f z (IsValid t)) e (v refl));
+      },
+    )
 says (same h v w) gs ws e = tt
 says (layout h v) gs ws e = tt
 says (assoc_name d h) gs ws e = tt
@@ -113,23 +136,27 @@ says (same_layout d h) gs ws e = tt
 says (same_name d h k) gs ws e = tt
 says (same_decl d h k) gs ws e = tt
 
-pub has_path : (f : TermFacts) (gs : List ParamId) (ws : List TermRequirement) (t : Term) (p : ProtoId) → Derivable f (Written gs ws) (Requires (Conforms t p)) → HasPath f gs ws t p
+pub has_path : (f : TermFacts) (gs : List ParamId) (ws : List TermRequirement) (t : Term) (p : ProtoId)
+    → Derivable f (Written gs ws) (Requires (Conforms t p)) → HasPath f gs ws t p
 has_path f gs ws t p e = says e gs ws refl
 
 -- ---- what a path leads to is derivable, where the protocols are well formed
 
 led : (f : TermFacts) (s : Source) (u : Term) (q : ProtoId) (ns : List ℕ) (t : Term) (p : ProtoId) → AreProtocolsWellFormed f
     → Derivable f s (Requires (Conforms u q)) → LeadsOn f u q ns t p → Derivable f s (Requires (Conforms t p))
-led f s u q [] t p w e h = subst (λ z. Derivable f s (Requires (Conforms z p))) h.0 (subst (λ z. Derivable f s (Requires (Conforms u z))) h.1 e)
+led f s u q [] t p w e h =
+    subst (λ z. Derivable f s (Requires (Conforms z p))) h.0 (subst (λ z. Derivable f s (Requires (Conforms u z))) h.1 e)
 led f s u q (n ∷ ns) t p w e h =
     let k = contains_number n (f.of_protocol q) (Conforms h.0 h.1) h.2 in
     led f s (for_self u h.0) h.1 ns t p w (assoc_conf e k (λ i. w q (Conforms h.0 h.1) k)) h.3
 
-pub path_derives : (f : TermFacts) (gs : List ParamId) (ws : List TermRequirement) (first : ℕ) (steps : List ℕ) (t : Term) (p : ProtoId) → AreProtocolsWellFormed f
+pub path_derives : (f : TermFacts) (gs : List ParamId) (ws : List TermRequirement) (first : ℕ) (steps : List ℕ) (t : Term) (p : ProtoId)
+    → AreProtocolsWellFormed f
     → IsListWellFormed f (Written gs ws) → IsConformancePath f gs ws first steps t p → Derivable f (Written gs ws) (Requires (Conforms t p))
 path_derives f gs ws first steps t p w usable h =
     let k = contains_number first ws (Conforms h.start h.proto) h.is_written in
-    same_conf (led f (Written gs ws) h.start h.proto steps h.subject p w (conf k (λ i. usable (Conforms h.start h.proto) k)) h.leads) (symm h.equal)
+    same_conf (led f (Written gs ws) h.start h.proto steps h.subject p w (conf k (λ i. usable (Conforms h.start h.proto) k)) h.leads)
+    (symm h.equal)
 
 -- ---- the path that is given is one
 
@@ -145,7 +172,8 @@ one_before (x ∷ xs) (y ∷ ys) h = elim (cases_order x y) [
   | inr k ↦ elim k [ inl b ↦ inl (inl b) | inr b ↦ inr (inr (inl b)) ]
 ]
 
-pub given_once : (f : TermFacts) (gs : List ParamId) (ws : List TermRequirement) (t : Term) (p : ProtoId) (first other : ℕ) (steps others : List ℕ)
+pub given_once : (f : TermFacts) (gs : List ParamId) (ws : List TermRequirement) (t : Term) (p : ProtoId)
+    (first other : ℕ) (steps others : List ℕ)
     → IsGivenPath f gs ws first steps t p → IsGivenPath f gs ws other others t p → (first ≡ other) × (steps ≡ others)
 given_once f gs ws t p first other steps others a b =
     let short : length steps ≤ length others = a.shortest other others b.path in

@@ -33,23 +33,28 @@ assoc_name_given terms m p q a x f c t v e g k =
     let s : statement_of terms f ≡ Requires (Conforms (term_at terms t) q) = ap (statement_of terms) e in
     let r : statement_of terms c ≡ IsValid (term_at terms v) = ap (statement_of terms) g in (
       (λ i. (term_at terms t, x, (let j : q ≡ p = i.0 in cc), r ∙ ap IsValid i.1, k)),
-      λ w. (let i : statement_of terms f ∷ [] ≡ Requires (Conforms w.0 p) ∷ [] = w.2 in let j : statement_of terms c ≡ IsValid (Member w.0 (Name a)) = w.3 in ((cc), cc)),
+      λ w. (let i : statement_of terms f ∷ [] ≡ Requires (Conforms w.0 p) ∷ [] = w.2 in
+          let j : statement_of terms c ≡ IsValid (Member w.0 (Name a)) = w.3 in ((cc), cc)),
     )
 
-pub assoc_decl_given : (terms : List Term) (m : IdFacts) (p q : ProtoId) (a : NameId) (x : AssocId) (f c : Statement) (t v : TermId) → AreOneToOne m.associated_types
+pub assoc_decl_given : (terms : List Term) (m : IdFacts) (p q : ProtoId) (a : NameId) (x : AssocId) (f c : Statement) (t v : TermId)
+    → AreOneToOne m.associated_types
     → f ≡ Holds (Conf t q) → c ≡ Valid v → IsDeclared m p a x
     → ((q ≡ p) × (term_at terms v ≡ Member (term_at terms t) (Bound x))) ↔ IsGiven terms m (Rule.AssocDecl p a) (f ∷ []) c
 assoc_decl_given terms m p q a x f c t v one e g k =
     let s : statement_of terms f ≡ Requires (Conforms (term_at terms t) q) = ap (statement_of terms) e in
     let r : statement_of terms c ≡ IsValid (term_at terms v) = ap (statement_of terms) g in (
       (λ i. (term_at terms t, x, (let j : q ≡ p = i.0 in cc), r ∙ ap IsValid i.1, k)),
-      λ w. (let i : statement_of terms f ∷ [] ≡ Requires (Conforms w.0 p) ∷ [] = w.2 in let j : statement_of terms c ≡ IsValid (Member w.0 (Bound w.1)) = w.3 in
+      λ w. (let i : statement_of terms f ∷ [] ≡ Requires (Conforms w.0 p) ∷ [] = w.2 in
+          let j : statement_of terms c ≡ IsValid (Member w.0 (Bound w.1)) = w.3 in
           let y : x ≡ w.1 = one.of_pair p a x w.1 k w.4 in ((cc), cc)),
     )
 
-pub assoc_bind_given : (terms : List Term) (m : IdFacts) (p q : ProtoId) (a : NameId) (x : AssocId) (f c : Statement) (t l r : TermId) → AreOneToOne m.associated_types
+pub assoc_bind_given : (terms : List Term) (m : IdFacts) (p q : ProtoId) (a : NameId) (x : AssocId) (f c : Statement) (t l r : TermId)
+    → AreOneToOne m.associated_types
     → f ≡ Holds (Conf t q) → c ≡ Holds (Same l r) → IsDeclared m p a x
-    → ((q ≡ p) × (term_at terms l ≡ Member (term_at terms t) (Bound x)) × (term_at terms r ≡ Member (term_at terms t) (Name a))) ↔ IsGiven terms m (Rule.AssocBind p a) (f ∷ []) c
+    → ((q ≡ p) × (term_at terms l ≡ Member (term_at terms t) (Bound x)) × (term_at terms r ≡ Member (term_at terms t) (Name a)))
+    ↔ IsGiven terms m (Rule.AssocBind p a) (f ∷ []) c
 assoc_bind_given terms m p q a x f c t l r one e g k =
     let s : statement_of terms f ≡ Requires (Conforms (term_at terms t) q) = ap (statement_of terms) e in
     let h : statement_of terms c ≡ Requires (Equals (term_at terms l) (term_at terms r)) = ap (statement_of terms) g in (
@@ -60,13 +65,15 @@ assoc_bind_given terms m p q a x f c t l r one e g k =
         (let y = i.1 in let z = i.2 in cc),
         k,
       )),
-      λ w. (let i : statement_of terms f ∷ [] ≡ Requires (Conforms w.0 p) ∷ [] = w.2 in let j : statement_of terms c ≡ Requires (Equals (Member w.0 (Bound w.1)) (Member w.0 (Name a))) = w.3 in
+      λ w. (let i : statement_of terms f ∷ [] ≡ Requires (Conforms w.0 p) ∷ [] = w.2 in
+          let j : statement_of terms c ≡ Requires (Equals (Member w.0 (Bound w.1)) (Member w.0 (Name a))) = w.3 in
           let y : x ≡ w.1 = one.of_pair p a x w.1 k w.4 in ((cc), (cc), cc)),
     )
 
 pub assoc_conf_given : (terms : List Term) (m : IdFacts) (p q s z : ProtoId) (n : ℕ) (f c : Statement) (t u v : TermId)
     → f ≡ Holds (Conf t q) → c ≡ Holds (Conf v s) → HasNumber n (m.of_protocol p) (Conf u z)
-    → ((q ≡ p) × (s ≡ z) × (term_at terms v ≡ for_self (term_at terms t) (term_at terms u))) ↔ IsGiven terms m (Rule.AssocConf p n) (f ∷ []) c
+    → ((q ≡ p) × (s ≡ z) × (term_at terms v ≡ for_self (term_at terms t) (term_at terms u)))
+    ↔ IsGiven terms m (Rule.AssocConf p n) (f ∷ []) c
 assoc_conf_given terms m p q s z n f c t u v e g k =
     let h : statement_of terms f ≡ Requires (Conforms (term_at terms t) q) = ap (statement_of terms) e in
     let r : statement_of terms c ≡ Requires (Conforms (term_at terms v) s) = ap (statement_of terms) g in (
@@ -80,7 +87,8 @@ assoc_conf_given terms m p q s z n f c t u v e g k =
       )),
       λ w. (let i : statement_of terms f ∷ [] ≡ Requires (Conforms w.0 p) ∷ [] = w.3 in
           let j : statement_of terms c ≡ Requires (Conforms (for_self w.0 w.1) w.2) = w.4 in
-          let y : Conforms (term_at terms u) z ≡ Conforms w.1 w.2 = one_number n (map (requirement_of terms) (m.of_protocol p)) (Conforms (term_at terms u) z) (Conforms w.1 w.2) (map_number (requirement_of terms) n (m.of_protocol p) (Conf u z) k) w.5 in
+          let y : Conforms (term_at terms u) z ≡ Conforms w.1 w.2 = one_number n (map (requirement_of terms) (m.of_protocol p))
+          (Conforms (term_at terms u) z) (Conforms w.1 w.2) (map_number (requirement_of terms) n (m.of_protocol p) (Conf u z) k) w.5 in
           ((cc), (cc), cc)),
     )
 
@@ -99,13 +107,15 @@ assoc_layout_given terms m p q n f c t u v e g k =
       )),
       λ w. (let i : statement_of terms f ∷ [] ≡ Requires (Conforms w.0 p) ∷ [] = w.2 in
           let j : statement_of terms c ≡ Requires (IsAnyObject (for_self w.0 w.1)) = w.3 in
-          let y : IsAnyObject (term_at terms u) ≡ IsAnyObject w.1 = one_number n (map (requirement_of terms) (m.of_protocol p)) (IsAnyObject (term_at terms u)) (IsAnyObject w.1) (map_number (requirement_of terms) n (m.of_protocol p) (Layout u) k) w.4 in
+          let y : IsAnyObject (term_at terms u) ≡ IsAnyObject w.1 = one_number n (map (requirement_of terms) (m.of_protocol p))
+          (IsAnyObject (term_at terms u)) (IsAnyObject w.1) (map_number (requirement_of terms) n (m.of_protocol p) (Layout u) k) w.4 in
           ((cc), cc)),
     )
 
 pub assoc_same_given : (terms : List Term) (m : IdFacts) (p q : ProtoId) (n : ℕ) (f c : Statement) (t u v x y : TermId)
     → f ≡ Holds (Conf t q) → c ≡ Holds (Same x y) → HasNumber n (m.of_protocol p) (Same u v)
-    → ((q ≡ p) × (term_at terms x ≡ for_self (term_at terms t) (term_at terms u)) × (term_at terms y ≡ for_self (term_at terms t) (term_at terms v)))
+    → ((q ≡ p) × (term_at terms x ≡ for_self (term_at terms t) (term_at terms u))
+    × (term_at terms y ≡ for_self (term_at terms t) (term_at terms v)))
     ↔ IsGiven terms m (Rule.AssocSame p n) (f ∷ []) c
 assoc_same_given terms m p q n f c t u v x y e g k =
     let h : statement_of terms f ≡ Requires (Conforms (term_at terms t) q) = ap (statement_of terms) e in
@@ -120,15 +130,19 @@ assoc_same_given terms m p q n f c t u v x y e g k =
       )),
       λ w. (let i : statement_of terms f ∷ [] ≡ Requires (Conforms w.0 p) ∷ [] = w.3 in
           let j : statement_of terms c ≡ Requires (Equals (for_self w.0 w.1) (for_self w.0 w.2)) = w.4 in
-          let z : Equals (term_at terms u) (term_at terms v) ≡ Equals w.1 w.2 = one_number n (map (requirement_of terms) (m.of_protocol p)) (Equals (term_at terms u) (term_at terms v)) (Equals w.1 w.2) (map_number (requirement_of terms) n (m.of_protocol p) (Same u v) k) w.5 in
+          let z : Equals (term_at terms u) (term_at terms v) ≡ Equals w.1 w.2 =
+          one_number n (map (requirement_of terms) (m.of_protocol p)) (Equals (term_at terms u) (term_at terms v)) (Equals w.1 w.2)
+          (map_number (requirement_of terms) n (m.of_protocol p) (Same u v) k) w.5 in
           ((cc), (cc), cc)),
     )
 
 -- From [U : P] and [T == U] the members T.X and U.X are equal, where X is what P makes of a declared name.
-same_member_given : (terms : List Term) (m : IdFacts) (member : AssocId → Step) (p : ProtoId) (a : NameId) (x : AssocId) (f s c : Statement) (t u l r : TermId)
+same_member_given : (terms : List Term) (m : IdFacts) (member : AssocId → Step) (p : ProtoId) (a : NameId) (x : AssocId)
+    (f s c : Statement) (t u l r : TermId)
     → AreDistinct terms → IsStatementOver terms m f → IsOf terms u → s ≡ Holds (Same t u) → c ≡ Holds (Same l r)
     → IsDeclared m p a x → ((d : AssocId) → IsDeclared m p a d → member x ≡ member d)
-    → ((f ≡ Holds (Conf u p)) × (term_at terms l ≡ Member (term_at terms t) (member x)) × (term_at terms r ≡ Member (term_at terms u) (member x)))
+    → ((f ≡ Holds (Conf u p)) × (term_at terms l ≡ Member (term_at terms t) (member x))
+    × (term_at terms r ≡ Member (term_at terms u) (member x)))
     ↔ ((v : Term) × (w : Term) × (d : AssocId)
     × (map (statement_of terms) (f ∷ s ∷ []) ≡ Requires (Conforms w p) ∷ Requires (Equals v w) ∷ [])
     × (statement_of terms c ≡ Requires (Equals (Member v (member d)) (Member w (member d)))) × IsDeclared m p a d)
@@ -151,16 +165,21 @@ same_member_given terms m member p a x f s c t u l r d h o e g k one =
           (y.1 ∙ ap (λ z. Holds (Conf z p)) (d y.0 u oy.0 o (let z = y.2 in cc)), (cc), cc)),
     )
 
-pub same_name_given : (terms : List Term) (m : IdFacts) (p : ProtoId) (a : NameId) (x : AssocId) (f s c : Statement) (t u l r : TermId) → AreDistinct terms
+pub same_name_given : (terms : List Term) (m : IdFacts) (p : ProtoId) (a : NameId) (x : AssocId) (f s c : Statement) (t u l r : TermId)
+    → AreDistinct terms
     → IsStatementOver terms m f → IsOf terms u
     → s ≡ Holds (Same t u) → c ≡ Holds (Same l r) → IsDeclared m p a x
-    → ((f ≡ Holds (Conf u p)) × (term_at terms l ≡ Member (term_at terms t) (Name a)) × (term_at terms r ≡ Member (term_at terms u) (Name a))) ↔ IsGiven terms m (Rule.SameName p a) (f ∷ s ∷ []) c
-same_name_given terms m p a x f s c t u l r d h o e g k = same_member_given terms m (λ _. Name a) p a x f s c t u l r d h o e g k (λ y i. refl)
+    → ((f ≡ Holds (Conf u p)) × (term_at terms l ≡ Member (term_at terms t) (Name a))
+    × (term_at terms r ≡ Member (term_at terms u) (Name a))) ↔ IsGiven terms m (Rule.SameName p a) (f ∷ s ∷ []) c
+same_name_given terms m p a x f s c t u l r d h o e g k =
+    same_member_given terms m (λ _. Name a) p a x f s c t u l r d h o e g k (λ y i. refl)
 
-pub same_decl_given : (terms : List Term) (m : IdFacts) (p : ProtoId) (a : NameId) (x : AssocId) (f s c : Statement) (t u l r : TermId) → AreDistinct terms → AreOneToOne m.associated_types
+pub same_decl_given : (terms : List Term) (m : IdFacts) (p : ProtoId) (a : NameId) (x : AssocId) (f s c : Statement) (t u l r : TermId)
+    → AreDistinct terms → AreOneToOne m.associated_types
     → IsStatementOver terms m f → IsOf terms u
     → s ≡ Holds (Same t u) → c ≡ Holds (Same l r) → IsDeclared m p a x
-    → ((f ≡ Holds (Conf u p)) × (term_at terms l ≡ Member (term_at terms t) (Bound x)) × (term_at terms r ≡ Member (term_at terms u) (Bound x))) ↔ IsGiven terms m (Rule.SameDecl p a) (f ∷ s ∷ []) c
+    → ((f ≡ Holds (Conf u p)) × (term_at terms l ≡ Member (term_at terms t) (Bound x))
+    × (term_at terms r ≡ Member (term_at terms u) (Bound x))) ↔ IsGiven terms m (Rule.SameDecl p a) (f ∷ s ∷ []) c
 same_decl_given terms m p a x f s c t u l r d one h o e g k =
     same_member_given terms m Bound p a x f s c t u l r d h o e g k (λ y i. ap Bound (one.of_pair p a x y k i))
 
@@ -171,9 +190,11 @@ requirement_same e = cc
 
 pub used_is_of : (terms : List Term) (m : IdFacts) (p : ProtoId) (n : ℕ) (r x : Requirement) → AreFactsOf terms m → p.rank < m.protocols
     → HasNumber n (m.of_protocol p) r → Holds r ≡ Holds x → IsRequirementOver terms m x
-used_is_of terms m p n r x f h k e = subst (λ z. IsRequirementOver terms m z) (requirement_same e) (f.protocols p r h (contains_number n (m.of_protocol p) r k))
+used_is_of terms m p n r x f h k e =
+    subst (λ z. IsRequirementOver terms m z) (requirement_same e) (f.protocols p r h (contains_number n (m.of_protocol p) r k))
 
-pub number_used : (m : IdFacts) (p : ProtoId) (n : ℕ) (r x : Requirement) → HasNumber n (m.of_protocol p) r → Holds r ≡ Holds x → HasNumber n (m.of_protocol p) x
+pub number_used : (m : IdFacts) (p : ProtoId) (n : ℕ) (r x : Requirement) → HasNumber n (m.of_protocol p) r → Holds r ≡ Holds x
+    → HasNumber n (m.of_protocol p) x
 number_used m p n r x h e = subst (λ z. HasNumber n (m.of_protocol p) z) (requirement_same e) h
 
 pub no_requirement : (terms : List Term) (m : IdFacts) (p : ProtoId) (n : ℕ) → ((r : Requirement) → HasNumber n (m.of_protocol p) r → ⊥)
@@ -183,14 +204,16 @@ no_requirement terms m p n none x h = let k = number_map (requirement_of terms) 
 used : (terms : List Term) (m : IdFacts) (p : ProtoId) (n : ℕ) (r : Requirement) (x : TermRequirement) → HasNumber n (m.of_protocol p) r
     → HasNumber n (map (requirement_of terms) (m.of_protocol p)) x → statement_of terms (Holds r) ≡ Requires x
 used terms m p n r x h k =
-    ap Requires (one_number n (map (requirement_of terms) (m.of_protocol p)) (requirement_of terms r) x (map_number (requirement_of terms) n (m.of_protocol p) r h) k)
+    ap Requires (one_number n (map (requirement_of terms) (m.of_protocol p)) (requirement_of terms r) x
+    (map_number (requirement_of terms) n (m.of_protocol p) r h) k)
 
 pub no_conf : (terms : List Term) (m : IdFacts) (p : ProtoId) (n : ℕ) (r : Requirement) (f c : Statement) → HasNumber n (m.of_protocol p) r
     → ((x : TermId) (q : ProtoId) → Holds r ≡ Holds (Conf x q) → ⊥) → IsGiven terms m (Rule.AssocConf p n) (f ∷ []) c → ⊥
 no_conf terms m p n r f c h none w =
     let s = conf_shape terms (Holds r) w.1 w.2 (used terms m p n r (Conforms w.1 w.2) h w.5) in none s.0 w.2 s.1
 
-pub no_layout : (terms : List Term) (m : IdFacts) (p : ProtoId) (n : ℕ) (r : Requirement) (f c : Statement) → HasNumber n (m.of_protocol p) r
+pub no_layout : (terms : List Term) (m : IdFacts) (p : ProtoId) (n : ℕ) (r : Requirement) (f c : Statement)
+    → HasNumber n (m.of_protocol p) r
     → ((x : TermId) → Holds r ≡ Holds (Layout x) → ⊥) → IsGiven terms m (Rule.AssocLayout p n) (f ∷ []) c → ⊥
 no_layout terms m p n r f c h none w =
     let s = layout_shape terms (Holds r) w.1 (used terms m p n r (IsAnyObject w.1) h w.4) in none s.0 s.1

@@ -9,7 +9,8 @@ use Rattle.swreq_orders.proofs.Numbers.{last_or_below}
 has_depth : (d n : ℕ) (g : ParamId) → g.depth ≡ d → g.index < n → Contains (params_of_depth d n) g
 has_depth d zero g e h = absurd (omega arith)
 has_depth d (suc n) g e h = elim (last_or_below g.index n (omega (arith, h))) [
-  | inl k ↦ subst (Contains (params_of_depth d (suc n))) (λ i. record { depth = sym e i; index = sym k i }) (Contains-push (params_of_depth d n) (record { depth = d; index = n }))
+  | inl k ↦ subst (Contains (params_of_depth d (suc n))) (λ i. record { depth = sym e i; index = sym k i })
+      (Contains-push (params_of_depth d n) (record { depth = d; index = n }))
   | inr k ↦ Contains-append_left (params_of_depth d n) (record { depth = d; index = n } ∷ []) g (has_depth d n g e k)
 ]
 
@@ -20,7 +21,8 @@ within_depth d (suc n) g h = elim (Contains-push_cases (params_of_depth d n) (re
   | inr e ↦ (sym (ap (λ (z : ParamId). z.depth) e), omega (arith, ap (λ (z : ParamId). z.index) e))
 ]
 
-pub two_depths : (p : Params) (g : ParamId) → Contains (generic_params p) g ↔ (((g.depth ≡ 0) × (g.index < p.outer)) ⊎ ((g.depth ≡ 1) × (g.index < p.inner)))
+pub two_depths : (p : Params) (g : ParamId)
+    → Contains (generic_params p) g ↔ (((g.depth ≡ 0) × (g.index < p.outer)) ⊎ ((g.depth ≡ 1) × (g.index < p.inner)))
 two_depths p g = (
   (λ h. elim (Contains-append_cases (params_of_depth 0 p.outer) (params_of_depth 1 p.inner) g h) [
     | inl k ↦ inl (within_depth 0 p.outer g k)

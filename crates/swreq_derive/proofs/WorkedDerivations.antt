@@ -28,7 +28,8 @@ endless_next e = assoc_conf {u = self · Next} e (0, lit< tt, refl) (λ _. endle
 
 pub shared_has_no_same_type : HasNoSameType shared (of_one shared_f)
 shared_has_no_same_type =
-    none_listed (declared P A A_of_P ∷ declared Q A A_of_Q ∷ []) (param 0 ∷ []) shared_requirements shared_f (tt, (tt, tt)) (refl, (refl, tt))
+    none_listed (declared P A A_of_P ∷ declared Q A A_of_Q ∷ []) (param 0 ∷ []) shared_requirements shared_f
+    (tt, (tt, tt)) (refl, (refl, tt))
 
 pub shared_to_p : Derivable shared (of_one shared_f) (Requires (Conforms τ_0_0 P))
 shared_to_p = conf (0, lit< tt, refl) (λ _. generic (0, lit< tt, refl))

@@ -53,7 +53,8 @@ pub record IdFacts : Type 0 where
 
 -- Each declared pair of a protocol and a name has one associated type, and no two pairs have the same.
 pub record AreOneToOne (ds : List AssociatedType) : Type 0 where
-  pub of_pair : (p : ProtoId) (a : NameId) (d e : AssocId) → Contains ds (record { proto = p; name = a; assoc = d }) → Contains ds (record { proto = p; name = a; assoc = e }) → d ≡ e
+  pub of_pair : (p : ProtoId) (a : NameId) (d e : AssocId) → Contains ds (record { proto = p; name = a; assoc = d })
+      → Contains ds (record { proto = p; name = a; assoc = e }) → d ≡ e
   pub of_assoc : (b c : AssociatedType) → Contains ds b → Contains ds c → b.assoc ≡ c.assoc → b ≡ c
 
 -- the same over type parameters

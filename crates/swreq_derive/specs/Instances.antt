@@ -43,7 +43,8 @@ IsInstance f params written (Rule.AssocDecl p a) from gives =
     (t : Term) × (d : AssocId) × (from ≡ Requires (Conforms t p) ∷ []) × (gives ≡ IsValid (Member t (Bound d))) × Declares f p a d
 -- ASSOCBIND. From [T : P], where P declares A: [T.[P]A == T.A].
 IsInstance f params written (Rule.AssocBind p a) from gives =
-    (t : Term) × (d : AssocId) × (from ≡ Requires (Conforms t p) ∷ []) × (gives ≡ Requires (Equals (Member t (Bound d)) (Member t (Name a)))) × Declares f p a d
+    (t : Term) × (d : AssocId) × (from ≡ Requires (Conforms t p) ∷ [])
+    × (gives ≡ Requires (Equals (Member t (Bound d)) (Member t (Name a)))) × Declares f p a d
 -- ASSOCCONF. From [T : P], and the n-th requirement of P, [U : Q]: that one with T for `Self`.
 IsInstance f params written (Rule.AssocConf p n) from gives =
     (t : Term) × (u : Term) × (q : ProtoId)
@@ -51,11 +52,13 @@ IsInstance f params written (Rule.AssocConf p n) from gives =
 -- ASSOCSAME. From [T : P], and the n-th requirement of P, [U == V]: that one with T for `Self`.
 IsInstance f params written (Rule.AssocSame p n) from gives =
     (t : Term) × (u : Term) × (v : Term)
-    × (from ≡ Requires (Conforms t p) ∷ []) × (gives ≡ Requires (Equals (for_self t u) (for_self t v))) × HasNumber n (f.of_protocol p) (Equals u v)
+    × (from ≡ Requires (Conforms t p) ∷ []) × (gives ≡ Requires (Equals (for_self t u) (for_self t v)))
+    × HasNumber n (f.of_protocol p) (Equals u v)
 -- ASSOCLAYOUT. From [T : P], and the n-th requirement of P, [U : AnyObject]: that one with T for `Self`.
 IsInstance f params written (Rule.AssocLayout p n) from gives =
     (t : Term) × (u : Term)
-    × (from ≡ Requires (Conforms t p) ∷ []) × (gives ≡ Requires (IsAnyObject (for_self t u))) × HasNumber n (f.of_protocol p) (IsAnyObject u)
+    × (from ≡ Requires (Conforms t p) ∷ []) × (gives ≡ Requires (IsAnyObject (for_self t u)))
+    × HasNumber n (f.of_protocol p) (IsAnyObject u)
 -- REFLEX. From a valid T: [T == T].
 IsInstance f params written Rule.Reflex from gives =
     (t : Term) × (from ≡ IsValid t ∷ []) × (gives ≡ Requires (Equals t t))
@@ -74,11 +77,13 @@ IsInstance f params written Rule.SameLayout from gives =
 -- SAMENAME. From [U : P] and [T == U], where P declares A: [T.A == U.A].
 IsInstance f params written (Rule.SameName p a) from gives =
     (t : Term) × (u : Term) × (d : AssocId)
-    × (from ≡ Requires (Conforms u p) ∷ Requires (Equals t u) ∷ []) × (gives ≡ Requires (Equals (Member t (Name a)) (Member u (Name a)))) × Declares f p a d
+    × (from ≡ Requires (Conforms u p) ∷ Requires (Equals t u) ∷ [])
+    × (gives ≡ Requires (Equals (Member t (Name a)) (Member u (Name a)))) × Declares f p a d
 -- SAMEDECL. From [U : P] and [T == U], where P declares A: [T.[P]A == U.[P]A].
 IsInstance f params written (Rule.SameDecl p a) from gives =
     (t : Term) × (u : Term) × (d : AssocId)
-    × (from ≡ Requires (Conforms u p) ∷ Requires (Equals t u) ∷ []) × (gives ≡ Requires (Equals (Member t (Bound d)) (Member u (Bound d)))) × Declares f p a d
+    × (from ≡ Requires (Conforms u p) ∷ Requires (Equals t u) ∷ [])
+    × (gives ≡ Requires (Equals (Member t (Bound d)) (Member u (Bound d)))) × Declares f p a d
 
 -- ---- lines
 
@@ -96,7 +101,8 @@ AreStated earlier (n ∷ ns) [] = ⊥
 AreStated earlier (n ∷ ns) (st ∷ sts) = HasNumber n earlier st × AreStated earlier ns sts
 
 -- A line is an instance of its rule over what the lines before it state.
-pub record Follows (f : TermFacts) (params : List ParamId) (written : List TermRequirement) (earlier : List TermStatement) (l : TermLine) : Type 0 where
+pub record Follows (f : TermFacts) (params : List ParamId) (written : List TermRequirement) (earlier : List TermStatement) (l : TermLine) :
+    Type 0 where
   pub from : List TermStatement
   pub stated : AreStated earlier l.premises from
   pub instance : IsInstance f params written l.rule from l.statement

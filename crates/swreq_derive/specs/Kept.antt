@@ -20,11 +20,14 @@ owned_facts ds os = record { associated_types = ds; of_protocol = owned_by os }
 
 -- For every protocol P the same statements are derivable from [τ_0_0 : P] with the one family and with the other.
 abbrev pub DeriveTheSame : List AssociatedType → List Owned → List Owned → Type 0
-DeriveTheSame ds os ks = (p : ProtoId) (st : TermStatement) → Derivable (owned_facts ds os) (SelfOf p) st ↔ Derivable (owned_facts ds ks) (SelfOf p) st
+DeriveTheSame ds os ks =
+    (p : ProtoId) (st : TermStatement) → Derivable (owned_facts ds os) (SelfOf p) st ↔ Derivable (owned_facts ds ks) (SelfOf p) st
 
--- Going through a family from its last requirement to its first, each is left out without which the same is derivable. `Keeps ds front rest out`
--- says that `out` is left of `rest` where `front` stands before it and is still to come.
+-- Going through a family from its last requirement to its first, each is left out without which the same is derivable. `Keeps ds front rest
+-- out` says that `out` is left of `rest` where `front` stands before it and is still to come.
 pub data Keeps (ds : List AssociatedType) : List Owned → List Owned → List Owned → Type 0 where
   nothing : {front : List Owned} → Keeps ds front [] []
-  left_out : {front rest out : List Owned} {o : Owned} → Keeps ds (front ++ o ∷ []) rest out → DeriveTheSame ds (front ++ out) (front ++ (o ∷ out)) → Keeps ds front (o ∷ rest) out
-  kept : {front rest out : List Owned} {o : Owned} → Keeps ds (front ++ o ∷ []) rest out → (DeriveTheSame ds (front ++ out) (front ++ (o ∷ out)) → ⊥) → Keeps ds front (o ∷ rest) (o ∷ out)
+  left_out : {front rest out : List Owned} {o : Owned} → Keeps ds (front ++ o ∷ []) rest out
+      → DeriveTheSame ds (front ++ out) (front ++ (o ∷ out)) → Keeps ds front (o ∷ rest) out
+  kept : {front rest out : List Owned} {o : Owned} → Keeps ds (front ++ o ∷ []) rest out
+      → (DeriveTheSame ds (front ++ out) (front ++ (o ∷ out)) → ⊥) → Keeps ds front (o ∷ rest) (o ∷ out)

@@ -13,7 +13,8 @@ use Rattle.swreq_derive.specs.Instances.{TermLine, IsInstance, AreStated, Follow
 -- From these premises the rule gives this conclusion, over the facts.
 abbrev pub IsGiven : List Term → IdFacts → DerivRule → List Statement → Statement → Type 0
 IsGiven terms m rule from gives =
-    IsInstance (term_facts terms m) (generic_params m.params) (map (requirement_of terms) m.written) rule (map (statement_of terms) from) (statement_of terms gives)
+    IsInstance (term_facts terms m) (generic_params m.params) (map (requirement_of terms) m.written) rule (map (statement_of terms) from)
+    (statement_of terms gives)
 
 -- a line over type parameters
 abbrev pub line_of : List Term → Line → TermLine
@@ -21,14 +22,17 @@ line_of terms l = record { rule = l.rule; premises = l.premises; statement = sta
 
 -- A line follows from these earlier statements.
 abbrev pub IsNext : List Term → IdFacts → List Statement → Line → Type 0
-IsNext terms m earlier l = Follows (term_facts terms m) (generic_params m.params) (map (requirement_of terms) m.written) (map (statement_of terms) earlier) (line_of terms l)
+IsNext terms m earlier l = Follows (term_facts terms m) (generic_params m.params) (map (requirement_of terms) m.written)
+    (map (statement_of terms) earlier) (line_of terms l)
 
 -- The lines are a derivation.
 abbrev pub AreDerived : List Term → IdFacts → List Line → Type 0
-AreDerived terms m ls = IsDerivation (term_facts terms m) (generic_params m.params) (map (requirement_of terms) m.written) (map (line_of terms) ls)
+AreDerived terms m ls =
+    IsDerivation (term_facts terms m) (generic_params m.params) (map (requirement_of terms) m.written) (map (line_of terms) ls)
 
 abbrev pub IsFirstNotDerived : List Term → IdFacts → List Line → ℕ → Type 0
-IsFirstNotDerived terms m ls n = IsFirstBad (term_facts terms m) (generic_params m.params) (map (requirement_of terms) m.written) (map (line_of terms) ls) n
+IsFirstNotDerived terms m ls n =
+    IsFirstBad (term_facts terms m) (generic_params m.params) (map (requirement_of terms) m.written) (map (line_of terms) ls) n
 
 abbrev pub stated_by : List Line → List Statement
 stated_by ls = map (λ l. l.statement) ls

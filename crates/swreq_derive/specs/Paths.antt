@@ -17,7 +17,8 @@ LeadsOn f u q (n ∷ ns) t p = (v : Term) × (r : ProtoId) × HasNumber n (f.of_
 
 -- A conformance path for [T : P]: the number of a written conformance, and those of requirements that lead from it to P.
 -- Its subject is derivably equal to T.
-pub record IsConformancePath (f : TermFacts) (params : List ParamId) (written : List TermRequirement) (first : ℕ) (steps : List ℕ) (t : Term) (p : ProtoId) : Type 0 where
+pub record IsConformancePath (f : TermFacts) (params : List ParamId) (written : List TermRequirement) (first : ℕ) (steps : List ℕ)
+    (t : Term) (p : ProtoId) : Type 0 where
   pub start : Term
   pub proto : ProtoId
   pub is_written : HasNumber first written (Conforms start proto)
@@ -36,7 +37,9 @@ NumbersBefore (x ∷ xs) [] = ⊥
 NumbersBefore (x ∷ xs) (y ∷ ys) = (x < y) ⊎ ((x ≡ y) × NumbersBefore xs ys)
 
 -- The conformance path that is given for [T : P]: none is shorter, and none of the same length has numbers that come before its own.
-pub record IsGivenPath (f : TermFacts) (params : List ParamId) (written : List TermRequirement) (first : ℕ) (steps : List ℕ) (t : Term) (p : ProtoId) : Type 0 where
+pub record IsGivenPath (f : TermFacts) (params : List ParamId) (written : List TermRequirement) (first : ℕ) (steps : List ℕ) (t : Term)
+    (p : ProtoId) : Type 0 where
   pub path : IsConformancePath f params written first steps t p
   pub shortest : IsShortest f params written steps t p
-  pub least : (k : ℕ) (ns : List ℕ) → IsConformancePath f params written k ns t p → length ns ≡ length steps → NumbersBefore (k ∷ ns) (first ∷ steps) → ⊥
+  pub least : (k : ℕ) (ns : List ℕ) → IsConformancePath f params written k ns t p → length ns ≡ length steps
+      → NumbersBefore (k ∷ ns) (first ∷ steps) → ⊥

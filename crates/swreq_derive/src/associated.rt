@@ -27,7 +27,8 @@ pub(crate) fn assoc_name<F: Facts>(
     requires name { a.rank < (F.meaning facts.now).names }
     requires first { IsStatementOver table.now (F.meaning facts.now) first }
     requires conclusion { IsStatementOver table.now (F.meaning facts.now) conclusion }
-    ensures { IsTrue result ↔ IsGiven table.now (F.meaning facts.now) (Rule.AssocName p a) (first ∷ []) conclusion }
+    ensures { IsTrue result
+        ↔ IsGiven table.now (F.meaning facts.now) (Rule.AssocName p a) (first ∷ []) conclusion }
 {
     match first.as_conf() {
         None => false,
@@ -54,7 +55,8 @@ pub(crate) fn assoc_decl<F: Facts>(
     requires name { a.rank < (F.meaning facts.now).names }
     requires first { IsStatementOver table.now (F.meaning facts.now) first }
     requires conclusion { IsStatementOver table.now (F.meaning facts.now) conclusion }
-    ensures { IsTrue result ↔ IsGiven table.now (F.meaning facts.now) (Rule.AssocDecl p a) (first ∷ []) conclusion }
+    ensures { IsTrue result
+        ↔ IsGiven table.now (F.meaning facts.now) (Rule.AssocDecl p a) (first ∷ []) conclusion }
 {
     match first.as_conf() {
         None => false,
@@ -81,7 +83,8 @@ pub(crate) fn assoc_bind<F: Facts>(
     requires name { a.rank < (F.meaning facts.now).names }
     requires first { IsStatementOver table.now (F.meaning facts.now) first }
     requires conclusion { IsStatementOver table.now (F.meaning facts.now) conclusion }
-    ensures { IsTrue result ↔ IsGiven table.now (F.meaning facts.now) (Rule.AssocBind p a) (first ∷ []) conclusion }
+    ensures { IsTrue result
+        ↔ IsGiven table.now (F.meaning facts.now) (Rule.AssocBind p a) (first ∷ []) conclusion }
 {
     match first.as_conf() {
         None => false,
@@ -115,7 +118,8 @@ pub(crate) fn same_name<F: Facts>(
     requires proto { p.rank < (F.meaning facts.now).protocols }
     requires name { a.rank < (F.meaning facts.now).names }
     requires inference { IsInferenceOver table.now (F.meaning facts.now) i }
-    ensures { IsTrue result ↔ IsGiven table.now (F.meaning facts.now) (Rule.SameName p a) (i.first ∷ i.second ∷ []) i.conclusion }
+    ensures { IsTrue result ↔ IsGiven table.now (F.meaning facts.now) (Rule.SameName p a)
+        (i.first ∷ i.second ∷ []) i.conclusion }
 {
     match i.second.as_same() {
         None => false,
@@ -149,7 +153,8 @@ pub(crate) fn same_decl<F: Facts>(
     requires proto { p.rank < (F.meaning facts.now).protocols }
     requires name { a.rank < (F.meaning facts.now).names }
     requires inference { IsInferenceOver table.now (F.meaning facts.now) i }
-    ensures { IsTrue result ↔ IsGiven table.now (F.meaning facts.now) (Rule.SameDecl p a) (i.first ∷ i.second ∷ []) i.conclusion }
+    ensures { IsTrue result ↔ IsGiven table.now (F.meaning facts.now) (Rule.SameDecl p a)
+        (i.first ∷ i.second ∷ []) i.conclusion }
 {
     match i.second.as_same() {
         None => false,

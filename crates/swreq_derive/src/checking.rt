@@ -20,9 +20,11 @@ pub fn check<F: Facts>(facts: &F, table: &ParamTable, lines: &[Line]) -> Result<
     requires lines { AreLinesOf table.now (F.meaning facts.now) lines.now }
     requires facts { AreFactsOf table.now (F.meaning facts.now) }
     ensures ok { IsOk result ↔ AreDerived table.now (F.meaning facts.now) lines.now }
-    ensures bad { IfErr result (λ b. IsFirstNotDerived table.now (F.meaning facts.now) lines.now b.line) }
+    ensures bad { IfErr result
+        (λ b. IsFirstNotDerived table.now (F.meaning facts.now) lines.now b.line) }
     ensures derived { OnOk result ((k : ℕ) (l : Line) → slice_get lines.now k ≡ Some l
-        → BookDerivable (term_facts table.now (F.meaning facts.now)) (term_source table.now (F.meaning facts.now))
+        → BookDerivable (term_facts table.now (F.meaning facts.now))
+        (term_source table.now (F.meaning facts.now))
         (statement_of table.now l.statement)) }
 {
     // Where two type parameters are equal, so are their ids.
@@ -41,7 +43,8 @@ fn follows<F: Facts>(facts: &F, table: &ParamTable, earlier: &[Line], line: &Lin
     requires earlier { AreLinesOf table.now (F.meaning facts.now) earlier.now }
     requires line { IsLineOf table.now (F.meaning facts.now) line.now }
     requires facts { AreFactsOf table.now (F.meaning facts.now) }
-    ensures { IsTrue result ↔ IsNext table.now (F.meaning facts.now) (stated_by earlier.now) line.now }
+    ensures { IsTrue result
+        ↔ IsNext table.now (F.meaning facts.now) (stated_by earlier.now) line.now }
 {
     match read_premises(earlier, line.premises.items()) {
         Premises::Zero => gives_from_none(facts, table, line.rule, line.statement),

@@ -33,7 +33,8 @@ pub(crate) fn is_for_self(table: &ParamTable, t: TermId, u: TermId, v: TermId) -
     requires for_self { IsOf table.now t }
     requires from { IsOf table.now u }
     requires to { IsOf table.now v }
-    ensures { IsTrue result ↔ (term_at table.now v ≡ for_self (term_at table.now t) (term_at table.now u)) }
+    ensures { IsTrue result
+        ↔ (term_at table.now v ≡ for_self (term_at table.now t) (term_at table.now u)) }
 {
     let mut from = u;
     let mut to = v;
@@ -65,7 +66,8 @@ pub(crate) fn are_members(
     requires distinct { AreDistinct table.now }
     requires sides { AreSidesOf table.now sides }
     requires bases { AreSidesOf table.now bases }
-    ensures { IsTrue result ↔ ((term_at table.now sides.left ≡ Member (term_at table.now bases.left) first)
+    ensures { IsTrue result
+        ↔ ((term_at table.now sides.left ≡ Member (term_at table.now bases.left) first)
         × (term_at table.now sides.right ≡ Member (term_at table.now bases.right) second)) }
 {
     is_member(table, sides.left, bases.left, first)
@@ -78,8 +80,10 @@ pub(crate) fn are_for_self(table: &ParamTable, t: TermId, from: Sides, to: Sides
     requires for_self { IsOf table.now t }
     requires from { AreSidesOf table.now from }
     requires to { AreSidesOf table.now to }
-    ensures { IsTrue result ↔ ((term_at table.now to.left ≡ for_self (term_at table.now t) (term_at table.now from.left))
-        × (term_at table.now to.right ≡ for_self (term_at table.now t) (term_at table.now from.right))) }
+    ensures { IsTrue result ↔
+        ((term_at table.now to.left ≡ for_self (term_at table.now t) (term_at table.now from.left))
+        × (term_at table.now to.right
+        ≡ for_self (term_at table.now t) (term_at table.now from.right))) }
 {
     is_for_self(table, t, from.left, to.left) && is_for_self(table, t, from.right, to.right)
 }

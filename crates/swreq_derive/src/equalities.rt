@@ -44,7 +44,8 @@ pub(crate) fn symm(first: Statement, conclusion: Statement) -> bool
 
 pub(crate) fn trans(first: Statement, second: Statement, conclusion: Statement) -> bool
     ensures { (terms : List Term) (m : IdFacts) → AreDistinct terms
-        → IsStatementOver terms m first → IsStatementOver terms m second → IsStatementOver terms m conclusion
+        → IsStatementOver terms m first → IsStatementOver terms m second
+        → IsStatementOver terms m conclusion
         → IsTrue result ↔ IsGiven terms m Rule.Trans (first ∷ second ∷ []) conclusion }
 {
     match first.as_same() {
@@ -71,7 +72,8 @@ pub(crate) fn same_conf(
     conclusion: Statement,
 ) -> bool
     ensures { (terms : List Term) (m : IdFacts) → AreDistinct terms
-        → IsStatementOver terms m first → IsStatementOver terms m second → IsStatementOver terms m conclusion
+        → IsStatementOver terms m first → IsStatementOver terms m second
+        → IsStatementOver terms m conclusion
         → IsTrue result ↔ IsGiven terms m (Rule.SameConf p) (first ∷ second ∷ []) conclusion }
 {
     match second.as_same() {
@@ -100,7 +102,8 @@ pub(crate) fn same_conf(
 
 pub(crate) fn same_layout(first: Statement, second: Statement, conclusion: Statement) -> bool
     ensures { (terms : List Term) (m : IdFacts) → AreDistinct terms
-        → IsStatementOver terms m first → IsStatementOver terms m second → IsStatementOver terms m conclusion
+        → IsStatementOver terms m first → IsStatementOver terms m second
+        → IsStatementOver terms m conclusion
         → IsTrue result ↔ IsGiven terms m Rule.SameLayout (first ∷ second ∷ []) conclusion }
 {
     match second.as_same() {

@@ -83,7 +83,8 @@ pub(crate) fn gives_from_two<F: Facts>(
     requires facts { AreFactsOf table.now (F.meaning facts.now) }
     requires rule { IsRuleOf (F.meaning facts.now) rule }
     requires inference { IsInferenceOver table.now (F.meaning facts.now) i }
-    ensures { IsTrue result ↔ IsGiven table.now (F.meaning facts.now) rule (i.first ∷ i.second ∷ []) i.conclusion }
+    ensures { IsTrue result
+        ↔ IsGiven table.now (F.meaning facts.now) rule (i.first ∷ i.second ∷ []) i.conclusion }
 {
     match rule {
         DerivRule::Trans => trans(i.first, i.second, i.conclusion),

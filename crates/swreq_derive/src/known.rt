@@ -55,8 +55,10 @@ pub trait Facts {
         requires proto { p.rank < (meaning self.now).protocols }
         requires name { a.rank < (meaning self.now).names }
         ensures { MatchOption result
-            ((d : AssocId) → Contains (meaning self.now).associated_types (record { proto = p; name = a; assoc = d }) → ⊥)
-            (λ d. Contains (meaning self.now).associated_types (record { proto = p; name = a; assoc = d })) };
+            ((d : AssocId) → Contains (meaning self.now).associated_types
+            (record { proto = p; name = a; assoc = d }) → ⊥)
+            (λ d. Contains (meaning self.now).associated_types
+            (record { proto = p; name = a; assoc = d })) };
 
     ghost one_to_one: { (s : Self) → AreOneToOne (meaning s).associated_types };
 }

@@ -25,7 +25,8 @@ pub(crate) fn assoc_conf<F: Facts>(
     requires proto { p.rank < (F.meaning facts.now).protocols }
     requires first { IsStatementOver table.now (F.meaning facts.now) first }
     requires conclusion { IsStatementOver table.now (F.meaning facts.now) conclusion }
-    ensures { IsTrue result ↔ IsGiven table.now (F.meaning facts.now) (Rule.AssocConf p n) (first ∷ []) conclusion }
+    ensures { IsTrue result
+        ↔ IsGiven table.now (F.meaning facts.now) (Rule.AssocConf p n) (first ∷ []) conclusion }
 {
     match first.as_conf() {
         None => false,
@@ -55,7 +56,8 @@ pub(crate) fn assoc_same<F: Facts>(
     requires proto { p.rank < (F.meaning facts.now).protocols }
     requires first { IsStatementOver table.now (F.meaning facts.now) first }
     requires conclusion { IsStatementOver table.now (F.meaning facts.now) conclusion }
-    ensures { IsTrue result ↔ IsGiven table.now (F.meaning facts.now) (Rule.AssocSame p n) (first ∷ []) conclusion }
+    ensures { IsTrue result
+        ↔ IsGiven table.now (F.meaning facts.now) (Rule.AssocSame p n) (first ∷ []) conclusion }
 {
     match first.as_conf() {
         None => false,
@@ -93,7 +95,8 @@ pub(crate) fn assoc_layout<F: Facts>(
     requires proto { p.rank < (F.meaning facts.now).protocols }
     requires first { IsStatementOver table.now (F.meaning facts.now) first }
     requires conclusion { IsStatementOver table.now (F.meaning facts.now) conclusion }
-    ensures { IsTrue result ↔ IsGiven table.now (F.meaning facts.now) (Rule.AssocLayout p n) (first ∷ []) conclusion }
+    ensures { IsTrue result
+        ↔ IsGiven table.now (F.meaning facts.now) (Rule.AssocLayout p n) (first ∷ []) conclusion }
 {
     match first.as_conf() {
         None => false,

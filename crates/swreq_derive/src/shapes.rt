@@ -21,7 +21,8 @@ impl Statement {
     }
 
     pub(crate) fn as_requirement(self) -> Option<Requirement>
-        ensures { MatchOption result ((r : Requirement) → self ≡ Holds r → ⊥) (λ r. self ≡ Holds r) }
+        ensures { MatchOption result
+            ((r : Requirement) → self ≡ Holds r → ⊥) (λ r. self ≡ Holds r) }
     {
         match self {
             Statement::Valid { t: _ } => None,

@@ -15,7 +15,8 @@ use swreq_param::ParamTable;
 
 /// Whether the statement is the requirement of the list with this number.
 pub(crate) fn is_listed(list: &[Requirement], number: u32, conclusion: Statement) -> bool
-    ensures { IsTrue result ↔ ((r : Requirement) × HasNumber number list.now r × (conclusion ≡ Holds r)) }
+    ensures { IsTrue result
+        ↔ ((r : Requirement) × HasNumber number list.now r × (conclusion ≡ Holds r)) }
 {
     match requirement_at(list, number) {
         None => false,
@@ -64,7 +65,8 @@ pub(crate) fn layout<F: Facts>(facts: &F, table: &ParamTable, n: u32, conclusion
     requires distinct { AreDistinct table.now }
     requires facts { AreFactsOf table.now (F.meaning facts.now) }
     requires conclusion { IsStatementOver table.now (F.meaning facts.now) conclusion }
-    ensures { IsTrue result ↔ IsGiven table.now (F.meaning facts.now) (Rule.Layout n) [] conclusion }
+    ensures { IsTrue result
+        ↔ IsGiven table.now (F.meaning facts.now) (Rule.Layout n) [] conclusion }
 {
     match conclusion.as_layout() {
         None => false,

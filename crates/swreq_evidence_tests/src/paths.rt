@@ -69,7 +69,8 @@ fn put_asked(
     requires short { IsShort world.now }
     requires formed { AreProtocolsWellFormed (facts_of (world_by table.now world.now)) }
     requires rules { AreRulesOf (world_by table.now world.now) (last_rules protocols.now.rounds) }
-    requires query { HasQueryIdsOf table.now query × IsQueryOf (world_by table.now world.now) (query_by table.now query) }
+    requires query { HasQueryIdsOf table.now query
+        × IsQueryOf (world_by table.now world.now) (query_by table.now query) }
 {
     match query {
         Query::Conf { f, t, p } => {

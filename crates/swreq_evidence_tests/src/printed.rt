@@ -49,7 +49,8 @@ struct Own<'a, 'b> {
 
 /// The sides of a query of a requirement or a type. Where it has one side, both are this one.
 fn sides_of(query: Query) -> Option<(TermId, TermId)>
-    ensures { IfSome result (λ sides. (terms : List Term) → HasQueryIdsOf terms query → HasSides terms query sides) }
+    ensures { IfSome result
+        (λ sides. (terms : List Term) → HasQueryIdsOf terms query → HasSides terms query sides) }
 {
     match query {
         Query::Signature { .. } => None,
@@ -136,7 +137,8 @@ fn put_answers(own: &Own<'_, '_>, table: &ParamTable, out: &mut Vec<u8>) -> Resu
 /// Appends the line of the minimised list of the signature.
 fn put_minimised(own: &Own<'_, '_>, table: &mut ParamTable, out: &mut Vec<u8>) -> Result<(), Fail>
     requires text { IsTextOver table.old own.now.world.now }
-    requires rules { AreRulesOf (world_by table.old own.now.world.now) (last_rules own.now.protocols.now.rounds) }
+    requires rules { AreRulesOf (world_by table.old own.now.world.now)
+        (last_rules own.now.protocols.now.rounds) }
     requires machine { IsMachineFor table.old own.now.world.now own.now.f own.now.machine.now }
 {
     match minimised_line(
@@ -172,7 +174,8 @@ fn put_of(
     out: &mut Vec<u8>,
 ) -> Result<(), Fail>
     requires text { IsTextOver table.old own.now.world.now }
-    requires rules { AreRulesOf (world_by table.old own.now.world.now) (last_rules own.now.protocols.now.rounds) }
+    requires rules { AreRulesOf (world_by table.old own.now.world.now)
+        (last_rules own.now.protocols.now.rounds) }
     requires machine { IsMachineFor table.old own.now.world.now own.now.f own.now.machine.now }
 {
     match what {

@@ -53,8 +53,10 @@ pub(crate) fn protocols_of(
     table: &ParamTable,
 ) -> Result<Protocols, Fail>
     requires text { IsTextOver table.now world.now }
-    ensures formed { IfOk result (λ _. AreProtocolsWellFormed (facts_of (world_by table.now world.now))) }
-    ensures rules { IfOk result (λ p. AreRulesOf (world_by table.now world.now) (last_rules p.rounds)) }
+    ensures formed { IfOk result
+        (λ _. AreProtocolsWellFormed (facts_of (world_by table.now world.now))) }
+    ensures rules { IfOk result
+        (λ p. AreRulesOf (world_by table.now world.now) (last_rules p.rounds)) }
 {
     valid_sides_are_well_formed();
     match Protocols::build(alloc, world, table, LIMITS, &mut Quiet) {

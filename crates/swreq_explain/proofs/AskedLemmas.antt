@@ -17,7 +17,8 @@ use Rattle.swreq_rounds.specs.Presents.{AreListRules}
 use Rattle.swreq_unfold.proofs.Ends.{alike_back}
 use Rattle.swreq_complete.proofs.Alike.{linked_are_alike}
 
-module _ (m : Symbols) (f : TermFacts) (fit : AreSymbolsOf m f) (ranges : AreOfText m f) (rules : List Rule) (gs : List ParamId) (rs : List TermRequirement)
+module _ (m : Symbols) (f : TermFacts) (fit : AreSymbolsOf m f) (ranges : AreOfText m f) (rules : List Rule) (gs : List ParamId)
+    (rs : List TermRequirement)
     (are : AreListRules m f gs rs rules) (complete : IsComplete rules) (n : IsInText m (Written gs rs)) where
   abbrev L : Source
   L = Written gs rs
@@ -31,7 +32,8 @@ module _ (m : Symbols) (f : TermFacts) (fit : AreSymbolsOf m f) (ranges : AreOfT
   back : (u v : Word) → Linking (UsableEquation m f L) u v → ReduceAlike rules v u
   back u v h = alike_back rules u v (alike u v h)
 
-  pub asked_shown : (r : TermRequirement) → Derivable f L (Requires r) → ShowsUsable m f L (ReduceAlike rules) r × ReduceAlike rules (right_side m L r) (left_side m L r)
+  pub asked_shown : (r : TermRequirement) → Derivable f L (Requires r)
+      → ShowsUsable m f L (ReduceAlike rules) r × ReduceAlike rules (right_side m L r) (left_side m L r)
   asked_shown (Conforms t p) e =
       let h = shows (Conforms t p) e in
       (shown_by_more m f L (Linking (UsableEquation m f L)) (ReduceAlike rules) alike t h.1, back _ _ (h.2 []))

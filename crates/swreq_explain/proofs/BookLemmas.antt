@@ -91,8 +91,10 @@ module _ (m : Symbols) (terms : List Term) (o : Origin) where
 
 -- ---- the sides of a requirement that rules show
 
-module _ (g : Ground) (m : Symbols) (f : TermFacts) (are : AreSymbols g m f) (rules : List Rule) (list : List TermRequirement) (owner : Option ProtoId) where
-  shown_word : (t : Term) (w : Word) → ShowsValid m f (source_of g list owner) (ReduceAlike rules) t → w ≡ word_of m (source_of g list owner) t
+module _ (g : Ground) (m : Symbols) (f : TermFacts) (are : AreSymbols g m f) (rules : List Rule) (list : List TermRequirement)
+    (owner : Option ProtoId) where
+  shown_word : (t : Term) (w : Word) → ShowsValid m f (source_of g list owner) (ReduceAlike rules) t
+      → w ≡ word_of m (source_of g list owner) t
       → IsShown g owner rules t w
   shown_word t w h e = record { symbols = m; facts = f; list = list; are = are; shown = h; word = e }
 
@@ -142,7 +144,8 @@ module _ (terms : List Term) (o : Origin) (plan : Plan) (b : Book) (list : List 
         ap (map sides_of) h.given_are ∙ map-append sides_of h.basic h.more
         ∙ ap₂ (λ u w. u ++ w) (h.sides ∙ sym basic)
         (equations_sides plan.symbols terms o.course k (generic_params b.ground.params) list xs h.more h.are_of
-        ∙ ap (map (equation_of plan.symbols)) (sym (chosen_map item o.course.all is.round.used) ∙ ap (λ z. chosen z is.round.used) (sym all)))
+        ∙ ap (map (equation_of plan.symbols))
+        (sym (chosen_map item o.course.all is.round.used) ∙ ap (λ z. chosen z is.round.used) (sym all)))
 
     born_is : IsReachedRound plan is.round
         → (j : ℕ) (rule : Rule) → v.base ≤ j → slice_get v.rules j ≡ Some rule → IsBorn v.base (given_of v) v.rules j rule.birth
@@ -173,7 +176,8 @@ module _ (terms : List Term) (o : Origin) (plan : Plan) (b : Book) (list : List 
                 let (earlier, usable) = shown x s by in
                 subst (λ why. IsGivenBy b r why e.left e.right) (sym eq.reason.is) (
                   earlier,
-                  sides_are_shown b.ground plan.symbols plan.facts are (rules_at b s) list x.owner terms x eq.reason.requirement e.left e.right refl
+                  sides_are_shown b.ground plan.symbols plan.facts are
+                      (rules_at b s) list x.owner terms x eq.reason.requirement e.left e.right refl
                       eq.reason.stands eq.left eq.right usable,
                 ))
           ]
@@ -292,7 +296,8 @@ module _ (terms : List Term) (w : IdWorld) (fn : FuncId) (p : ProtocolsView) (m 
   below_shown : (k : ℕ) (x : Numbered) (s : ℕ) → IsShownBy below_origin.course k x s
       → (s < k) × AreShownByReduction below_plan (rules_at b s) (item x)
   below_shown k x s h =
-      let e = shown_before below_plan below_origin.course item below_all rounds.protocols.1 none_complete below_few h.round h.place x h.there
+      let e =
+      shown_before below_plan below_origin.course item below_all rounds.protocols.1 none_complete below_few h.round h.place x h.there
       h.first_use in
       let place : s ≡ 0 + h.round - 1 = h.system_is in
       let next : h.round ≡ suc e.before = e.next in
@@ -318,7 +323,8 @@ module _ (terms : List Term) (w : IdWorld) (fn : FuncId) (p : ProtocolsView) (m 
   own_shown : (k : ℕ) (x : Numbered) (s : ℕ) → IsShownBy own_origin.course k x s
       → (s < length is.below + k) × AreShownByReduction own_plan (rules_at b s) (item x)
   own_shown k x s h =
-      let e = shown_before own_plan own_origin.course item own_all rounds.list.1 base_complete own_few h.round h.place x h.there h.first_use in
+      let e =
+      shown_before own_plan own_origin.course item own_all rounds.list.1 base_complete own_few h.round h.place x h.there h.first_use in
       let place : s ≡ length p.rounds + h.round - 1 = h.system_is in
       let next : h.round ≡ suc e.before = e.next in
       let within : h.round ≤ k = h.within in
@@ -330,7 +336,8 @@ module _ (terms : List Term) (w : IdWorld) (fn : FuncId) (p : ProtocolsView) (m 
   -- the rules of the base are those of the last round of the protocols
   own_lower : (r k : ℕ) (v : System) → length is.below ≤ r → (made : IsSystemOf (symbols_of w.lexicon) terms own_origin k v)
       → IsReachedRound own_plan made.round
-      → (j : ℕ) (rule : Rule) → j < v.base → slice_get v.rules j ≡ Some rule → (v.below < r) × (slice_get (rules_at b v.below) j ≡ Some rule)
+      → (j : ℕ) (rule : Rule) → j < v.base → slice_get v.rules j ≡ Some rule
+      → (v.below < r) × (slice_get (rules_at b v.below) j ≡ Some rule)
   own_lower r k v above made reached j rule l e =
       let last_count : j < length (last_rules p.rounds) = subst (λ n. j < n) made.base l in
       let some = some_round rounds.protocols.1 in
@@ -374,7 +381,8 @@ module _ (terms : List Term) (w : IdWorld) (fn : FuncId) (p : ProtocolsView) (m 
 
   -- ---- facts
 
-  module _ (basis : Basis) (facts : basis.facts ≡ f) (params_are : basis.params ≡ generic_params m.params) (written : basis.written ≡ own_list) where
+  module _ (basis : Basis) (facts : basis.facts ≡ f) (params_are : basis.params ≡ generic_params m.params)
+      (written : basis.written ≡ own_list) where
     below_written : (j : ℕ) (x : Numbered) (q : Owned) (s : ℕ) → slice_get below_origin.course.all j ≡ Some x
         → requirement_by q ≡ requirement_of terms x.requirement → IsWritten basis (Required x.owner x.number q s)
     below_written j x q s e stands =
@@ -395,7 +403,8 @@ module _ (terms : List Term) (w : IdWorld) (fn : FuncId) (p : ProtocolsView) (m 
         subst (λ (z : Option ProtoId). IsWritten basis (Required z x.number q s)) (sym own)
         (omega (arith, n), ap (λ (z : List TermRequirement). slice_get z (x.number - 1)) written ∙ there ∙ ap Some (sym stands))
 
-    each_written : (r k : ℕ) (v : System) (e : Equation) → slice_get b.systems r ≡ Some v → slice_get v.given k ≡ Some e → IsWritten basis e.reason
+    each_written : (r k : ℕ) (v : System) (e : Equation) → slice_get b.systems r ≡ Some v → slice_get v.given k ≡ Some e
+        → IsWritten basis e.reason
     each_written r k v e at in_v = elim (get_either is.below is.own r v (ap (λ (z : List System). slice_get z r) (sym is.systems) ∙ at)) [
       | inl h ↦ written_by terms below_origin below_plan b own_list refl refl below_all (sym is.ground.members) book_symbols r v
           (is.of_protocols.each r v h) basis below_written k e in_v
@@ -439,7 +448,8 @@ module _ (terms : List Term) (w : IdWorld) (fn : FuncId) (p : ProtocolsView) (m 
         let count = ap length is.systems ∙ length-append is.below is.own in
         let own = own_length in
         omega (arith, some, count, own));
-    rules = subst (λ gs. AreListRules (symbols_of w.lexicon) f gs (written_list (signature_at (world_by terms w) fn)) (rules_at b (length b.systems - 1))) (sym params_now)
+    rules = subst (λ gs. AreListRules (symbols_of w.lexicon) f gs (written_list (signature_at (world_by terms w) fn))
+        (rules_at b (length b.systems - 1))) (sym params_now)
         (subst (λ rs. AreListRules (symbols_of w.lexicon) f (generic_params m.params) rs (rules_at b (length b.systems - 1))) (sym list_now)
         (subst (AreListRules (symbols_of w.lexicon) f (generic_params m.params) own_list) (sym last_rules_are) rounds.machine.rules));
     complete = subst IsComplete (sym last_rules_are) last_complete;

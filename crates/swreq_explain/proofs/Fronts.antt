@@ -35,7 +35,8 @@ front_derived terms m ls n d k l e =
     = ap (take k) (ap statements_of (map_front (line_of terms) n ls) ∙ map_front (λ (z : TermLine). z.statement) n (map (line_of terms) ls))
     ∙ front_of_front k n (statements_of (map (line_of terms) ls)) (omega (arith, below)) in
     subst (λ z. Follows (term_facts terms m) (generic_params m.params) (map (requirement_of terms) m.written) z l) (sym earlier)
-    (subst (Follows (term_facts terms m) (generic_params m.params) (map (requirement_of terms) m.written) (take k (statements_of (map (line_of terms) ls)))) same h)
+    (subst (Follows (term_facts terms m) (generic_params m.params) (map (requirement_of terms) m.written)
+    (take k (statements_of (map (line_of terms) ls)))) same h)
 
 pub front_ends : (ls : List Line) (n : ℕ) (l : Line) → HasNumber n ls l → EndIn (take n ls) l.statement
 front_ends ls n l (above, at) =

@@ -41,11 +41,13 @@ below_count test (suc n) = let h = below_count test n in let e = one (test n) in
     one false = omega arith
 
 -- A chain of written inheritance begins with a step to a direct parent.
-first_step : {f : TermFacts} {p r q : ProtoId} → LeadsTo f p r → InheritsDirectly f r q → (e : ProtoId) × InheritsDirectly f p e × LeadsTo f e q
+first_step : {f : TermFacts} {p r q : ProtoId} → LeadsTo f p r → InheritsDirectly f r q
+    → (e : ProtoId) × InheritsDirectly f p e × LeadsTo f e q
 first_step {f} {p} {r} {q} here i = (q, i, here)
 first_step {f} {p} {r} {q} (further l j) i = let s = first_step l j in (s.0, s.1, further s.2 i)
 
-module _ (terms : List Term) (w : IdWorld) (params : Params) (g : Ground) (is : IsGroundOf terms w params g) (closed : IsClosed (world_by terms w)) where
+module _ (terms : List Term) (w : IdWorld) (params : Params) (g : Ground) (is : IsGroundOf terms w params g)
+    (closed : IsClosed (world_by terms w)) where
   abbrev x : LexiconView
   x = w.lexicon
 
@@ -134,6 +136,7 @@ module _ (terms : List Term) (w : IdWorld) (params : Params) (g : Ground) (is : 
   fits_basis b same_facts same_params = record {
     associated = λ k n e. subst (λ (z : TermFacts). Declares z n.proto n.name (record { rank = k })) (sym same_facts)
         (from_rank x n.proto n.name (record { rank = k }) (of_declared k n e));
-    parents = λ e c. subst (λ (z : TermFacts). HasNumber e.number (z.of_protocol e.heir) (Conforms self e.proto)) (sym same_facts) (is.parents.written e c);
+    parents = λ e c. subst (λ (z : TermFacts). HasNumber e.number (z.of_protocol e.heir) (Conforms self e.proto)) (sym same_facts)
+        (is.parents.written e c);
     params = same_params ∙ sym (ap generic_params is.params_are);
   }

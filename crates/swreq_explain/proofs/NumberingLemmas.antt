@@ -90,7 +90,8 @@ module _ (m : Symbols) (terms : List Term) (c : Course) (n : ℕ) where
 
 -- ---- numbers
 
-pub numbered_is : (owner : Option ProtoId) (n : ℕ) (list : List Requirement) (k : ℕ) (x : Numbered) → slice_get (numbered_from owner n list) k ≡ Some x
+pub numbered_is : (owner : Option ProtoId) (n : ℕ) (list : List Requirement) (k : ℕ) (x : Numbered)
+    → slice_get (numbered_from owner n list) k ≡ Some x
     → (x.owner ≡ owner) × (x.number ≡ n + k) × (slice_get list k ≡ Some x.requirement)
 numbered_is owner n [] k x e = cc
 numbered_is owner n (r ∷ rs) zero x e =
@@ -119,7 +120,8 @@ pub numbered_all : (owner : Option ProtoId) (list : List Requirement) (k : ℕ) 
     → v ++ numbered_from owner (k + 1) (drop k list) ≡ all → v ≡ all
 numbered_all owner list k v all l h = sym (append-nil v) ∙ ap (λ z. v ++ z) (sym (ap (numbered_from owner (k + 1)) (drop_all k list l))) ∙ h
 
-pub numbered_items : (terms : List Term) (params : List ParamId) (all : List TermRequirement) (owner : Option ProtoId) (n : ℕ) (list : List Requirement)
+pub numbered_items : (terms : List Term) (params : List ParamId) (all : List TermRequirement) (owner : Option ProtoId) (n : ℕ)
+    (list : List Requirement)
     → map (item_by terms params all) (numbered_from owner n list)
     ≡ map (λ (r : TermRequirement). record { source = source_in params all owner; requirement = r }) (listed terms list)
 numbered_items terms params all owner n [] = refl
@@ -151,7 +153,8 @@ module _ (terms : List Term) (w : IdWorld) where
     | inr h ↦ protocol_number ps h.0 x h.2
   ]
 
-  pub written_of : (p : ProtoId) (n : ℕ) (r : Requirement) → HasNumber n (bare (requirements_of w p)) r → HasNumber n (f.of_protocol p) (requirement_of terms r)
+  pub written_of : (p : ProtoId) (n : ℕ) (r : Requirement) → HasNumber n (bare (requirements_of w p)) r
+      → HasNumber n (f.of_protocol p) (requirement_of terms r)
   written_of p n r (above, at) = (
     above,
     ap (λ (z : List TermRequirement). slice_get z (n - 1)) (own_requirements w terms p)
@@ -160,7 +163,8 @@ module _ (terms : List Term) (w : IdWorld) where
 
 -- ---- equations, one by one
 
-pub basic_more : (members : List Named) (es : List Equation) (e : Equation) → AreBasic members es → IsBasicBy members e.reason e.left e.right
+pub basic_more : (members : List Named) (es : List Equation) (e : Equation) → AreBasic members es
+    → IsBasicBy members e.reason e.left e.right
     → AreBasic members (es ++ e ∷ [])
 basic_more members es e h i k x at = elim (get_cases es e k x at) [
   | inl j ↦ h k x j
@@ -190,7 +194,8 @@ module _ {A : Type 0} where
   chosen_no (y ∷ xs) (true ∷ bs) (suc k) m = ap (λ zs. y ∷ zs) (chosen_no xs bs k m)
   chosen_no (y ∷ xs) (false ∷ bs) (suc k) m = chosen_no xs bs k m
 
-  pub chosen_all : (xs : List A) (bs : List Bool) (k : ℕ) → length bs ≡ length xs → length xs ≤ k → chosen (take k xs) (take k bs) ≡ chosen xs bs
+  pub chosen_all : (xs : List A) (bs : List Bool) (k : ℕ) → length bs ≡ length xs → length xs ≤ k
+      → chosen (take k xs) (take k bs) ≡ chosen xs bs
   chosen_all xs bs k c l = ap₂ chosen (take_all k xs l) (take_all k bs (omega (arith, c, l)))
 
 -- ---- ids of the text
@@ -201,12 +206,15 @@ module _ (terms : List Term) (w : IdWorld) (text : IsTextOver terms w) where
       let (k, at) = contains_get (numbered_in w ps) x c in
       let (p, own, number) = protocol_number terms w ps k x at in
       let (r, there, same) = get_of_map (λ (z : Written). z.requirement) (requirements_of w p) (x.number - 1) x.requirement number.1 in
-      subst (IsRequirementIn terms w.lexicon) same (protocol_written w terms text p r (get_contains (requirements_of w p) (x.number - 1) r there))
+      subst (IsRequirementIn terms w.lexicon) same
+      (protocol_written w terms text p r (get_contains (requirements_of w p) (x.number - 1) r there))
 
-  pub list_in_text : (fn : FuncId) → fn.place < length w.signatures → AreNumberedIn terms w.lexicon (numbered_from None 1 (bare (signature_at w fn).requirements))
+  pub list_in_text : (fn : FuncId) → fn.place < length w.signatures
+      → AreNumberedIn terms w.lexicon (numbered_from None 1 (bare (signature_at w fn).requirements))
   list_in_text fn l x c =
       let list = bare (signature_at w fn).requirements in
       let (k, at) = contains_get (numbered_from None 1 list) x c in
       let (own, number, there) = numbered_is None 1 list k x at in
       let (r, in_list, same) = get_of_map (λ (z : Written). z.requirement) (signature_at w fn).requirements k x.requirement there in
-      subst (IsRequirementIn terms w.lexicon) same (signature_written w terms text fn l r (get_contains (signature_at w fn).requirements k r in_list))
+      subst (IsRequirementIn terms w.lexicon) same
+      (signature_written w terms text fn l r (get_contains (signature_at w fn).requirements k r in_list))

@@ -24,27 +24,32 @@ use Rattle.swreq_world.specs.Worlds.{IdWorld, requirements_of}
 use Rattle.swreq_explain.specs.Grounded.{AreParentsUpTo, parent}
 
 -- A requirement of a protocol is over `Self`, and its ids are of the table.
-pub own_requirement : (w : IdWorld) (terms : List Term) → IsTextOver terms w → (p : ProtoId) (r : Written) → Contains (requirements_of w p) r
+pub own_requirement : (w : IdWorld) (terms : List Term) → IsTextOver terms w → (p : ProtoId) (r : Written)
+    → Contains (requirements_of w p) r
     → HasIdsOf terms r.requirement × IsOverSelf (requirement_of terms r.requirement)
 own_requirement w terms text p r c = elim (cases_lt p.rank (length w.requirements)) [
   | inl l ↦ (
-    All-contains (λ (q : Written). HasIdsOf terms q.requirement) (requirements_of w p) r (All-get_or (AreOf terms) w.requirements p.rank [] l text.table.requirements) c,
+    All-contains (λ (q : Written). HasIdsOf terms q.requirement) (requirements_of w p) r
+        (All-get_or (AreOf terms) w.requirements p.rank [] l text.table.requirements) c,
     (let within : p.rank < length (map (placed terms) w.requirements) = omega (arith, length-map w.requirements (placed terms), l) in
         let all = All-get_or (All (IsOfProtocol w.lexicon)) (map (placed terms) w.requirements) p.rank [] within text.closed.requirements in
         (All-contains (IsOfProtocol w.lexicon) (placed terms (requirements_of w p)) (placed_by terms r)
-        (subst (All (IsOfProtocol w.lexicon)) (requirements_by w terms p) all) (contains_map (placed_by terms) (requirements_of w p) r c)).1),
+        (subst (All (IsOfProtocol w.lexicon)) (requirements_by w terms p) all)
+        (contains_map (placed_by terms) (requirements_of w p) r c)).1),
   )
   | inr l ↦ no_member r (subst (λ z. Contains z r) (get_or_past w.requirements p.rank [] l) c)
 ]
 
 -- the requirements of a protocol are numbered by 32 bits
-pub short_list : (w : IdWorld) → All (λ (rs : List Written). length rs < 2 ^ 32) w.requirements → (p : ProtoId) → length (requirements_of w p) < 2 ^ 32
+pub short_list : (w : IdWorld) → All (λ (rs : List Written). length rs < 2 ^ 32) w.requirements → (p : ProtoId)
+    → length (requirements_of w p) < 2 ^ 32
 short_list w all p = elim (cases_lt p.rank (length w.requirements)) [
   | inl l ↦ All-get_or (λ (rs : List Written). length rs < 2 ^ 32) w.requirements p.rank [] l all
   | inr l ↦ subst (λ (z : List Written). length z < 2 ^ 32) (sym (get_or_past w.requirements p.rank [] l)) (omega arith)
 ]
 
-module _ (f : TermFacts) (p : ProtoId) (terms : List Term) (list : List Requirement) (of : f.of_protocol p ≡ map (requirement_of terms) list) where
+module _ (f : TermFacts) (p : ProtoId) (terms : List Term) (list : List Requirement)
+    (of : f.of_protocol p ≡ map (requirement_of terms) list) where
   required_at : (k : ℕ) (r : Requirement) → slice_get list k ≡ Some r → slice_get (f.of_protocol p) k ≡ Some (requirement_of terms r)
   required_at k r e = ap (λ (z : List TermRequirement). slice_get z k) of ∙ get_map (requirement_of terms) list k r e
 
@@ -60,7 +65,8 @@ module _ (f : TermFacts) (p : ProtoId) (terms : List Term) (list : List Requirem
       cc
 
   pub parents_none : (k : ℕ) (r : Requirement) (parents : List Parent) → slice_get list k ≡ Some r
-      → ((q : ProtoId) → requirement_of terms r ≡ Conforms self q → ⊥) → AreParentsUpTo f p.rank k parents → AreParentsUpTo f p.rank (k + 1) parents
+      → ((q : ProtoId) → requirement_of terms r ≡ Conforms self q → ⊥) → AreParentsUpTo f p.rank k parents
+      → AreParentsUpTo f p.rank (k + 1) parents
   parents_none k r parents e none h = record {
     written = h.written;
     all = λ q o n w number. elim w [
@@ -72,7 +78,8 @@ module _ (f : TermFacts) (p : ProtoId) (terms : List Term) (list : List Requirem
     ];
   }
 
-  pub parents_more : (k : ℕ) (r : Requirement) (q : ProtoId) (parents : List Parent) → slice_get list k ≡ Some r → requirement_of terms r ≡ Conforms self q
+  pub parents_more : (k : ℕ) (r : Requirement) (q : ProtoId) (parents : List Parent) → slice_get list k ≡ Some r
+      → requirement_of terms r ≡ Conforms self q
       → AreParentsUpTo f p.rank k parents → AreParentsUpTo f p.rank (k + 1) (parents ++ parent p (k + 1) q ∷ [])
   parents_more k r q parents e is h = record {
     written = λ x c. elim (Contains-append_cases parents (parent p (k + 1) q ∷ []) x c) [
@@ -105,7 +112,8 @@ module _ (f : TermFacts) (p : ProtoId) (terms : List Term) (list : List Requirem
       | inr i ↦ (elim w [
         | inl j ↦ (let same : q.rank ≡ p.rank = omega (arith, i, j) in
             let is : q ≡ p = λ z. record { rank = same z } in
-            let at : slice_get (f.of_protocol p) (n - 1) ≡ Some (Conforms self o) = subst (λ (z : ProtoId). slice_get (f.of_protocol z) (n - 1) ≡ Some (Conforms self o)) is number.1 in
+            let at : slice_get (f.of_protocol p) (n - 1) ≡ Some (Conforms self o) =
+            subst (λ (z : ProtoId). slice_get (f.of_protocol z) (n - 1) ≡ Some (Conforms self o)) is number.1 in
             let within = slice_get_within (f.of_protocol p) (n - 1) (Conforms self o) at in
             let count : length (f.of_protocol p) ≡ length list = ap length of ∙ length-map list (requirement_of terms) in
             let above = number.0 in

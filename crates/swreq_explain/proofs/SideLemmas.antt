@@ -64,7 +64,8 @@ front_of u y =
     let count : length (u ++ y ∷ []) - 1 ≡ length u = (let e = length-append u (y ∷ []) in omega (arith, e)) in
     ap (λ n. take n (u ++ y ∷ [])) count ∙ take-append_seam u (y ∷ [])
 
-module _ (g : Ground) (owner : Option ProtoId) (rules : List Rule) (t b : Term) (x : Step) (w : List Symbol) (is : t ≡ Member b x) (h : IsShown g owner rules t w) where
+module _ (g : Ground) (owner : Option ProtoId) (rules : List Rule) (t b : Term) (x : Step) (w : List Symbol) (is : t ≡ Member b x)
+    (h : IsShown g owner rules t w) where
   abbrev s : Source
   s = source_of g h.list owner
 
@@ -81,7 +82,8 @@ module _ (g : Ground) (owner : Option ProtoId) (rules : List Rule) (t b : Term) 
   pub base_shown : IsShown g owner rules b (take (length w - 1) w)
   base_shown = record { symbols = h.symbols; facts = h.facts; list = h.list; are = h.are; shown = of x member_shown; word = front_is }
     where
-      of : (y : Step) → ShowsValid h.symbols h.facts s (ReduceAlike rules) (Member b y) → ShowsValid h.symbols h.facts s (ReduceAlike rules) b
+      of : (y : Step) → ShowsValid h.symbols h.facts s (ReduceAlike rules) (Member b y)
+          → ShowsValid h.symbols h.facts s (ReduceAlike rules) b
       of (Name a) v = v.0
       of (Bound d) v = v.0
 

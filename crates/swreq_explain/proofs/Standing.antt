@@ -55,25 +55,31 @@ module _ (old new : List Term) (w : IdWorld) (f : FuncId) where
       }
 
 module _ (terms : List Term) (w : IdWorld) (f : FuncId) (text : IsTextOver terms w) (signature : f.place < length w.signatures) where
-  listed : (t : Term) (p : ProtoId) → Contains (map (requirement_of terms) (facts_at w f).written) (Conforms t p) → p.rank < length w.lexicon.protocols
+  listed : (t : Term) (p : ProtoId) → Contains (map (requirement_of terms) (facts_at w f).written) (Conforms t p)
+      → p.rank < length w.lexicon.protocols
   listed t p c =
       let (r, in_list, same) = contains_of_map (requirement_of terms) (facts_at w f).written (Conforms t p) c in
       by r ((are_facts w terms text f signature).list r in_list) same
     where
-      by : (r : Requirement) → IsRequirementOver terms (facts_at w f) r → Conforms t p ≡ requirement_of terms r → p.rank < length w.lexicon.protocols
+      by : (r : Requirement) → IsRequirementOver terms (facts_at w f) r → Conforms t p ≡ requirement_of terms r
+          → p.rank < length w.lexicon.protocols
       by (Conf u q) h e = let same : p ≡ q = cc in subst (λ (z : ProtoId). z.rank < length w.lexicon.protocols) (sym same) h.1
       by (Layout u) h e = cc
       by (Same u v) h e = cc
 
-  pub lines_of_text : (ls : List Line) → AreDerived terms (facts_at w f) ls → ((k : ℕ) (l : Line) → slice_get ls k ≡ Some l → AreIdsIn terms l.statement)
+  pub lines_of_text : (ls : List Line) → AreDerived terms (facts_at w f) ls
+      → ((k : ℕ) (l : Line) → slice_get ls k ≡ Some l → AreIdsIn terms l.statement)
       → AreLinesOf terms (facts_at w f) ls
   lines_of_text ls d ids =
       let m : IdFacts = facts_at w f in
-      lines_are_of (world_by terms w) text.closed m refl refl (generic_params m.params) (map (requirement_of terms) m.written) listed terms ls
-      (subst (λ (z : TermFacts). IsDerivation z (generic_params m.params) (map (requirement_of terms) m.written) (map (line_of terms) ls)) (facts_are w terms f) d) ids
+      lines_are_of (world_by terms w) text.closed m refl refl (generic_params m.params)
+      (map (requirement_of terms) m.written) listed terms ls
+      (subst (λ (z : TermFacts). IsDerivation z (generic_params m.params) (map (requirement_of terms) m.written) (map (line_of terms) ls))
+      (facts_are w terms f) d) ids
 
 -- The book still answers for the signature over a table that has grown.
-pub book_stays : (old new : List Term) (w : IdWorld) (f : FuncId) (b : Book) → Extends old new → IsOverTable old w → IsBookFor (world_by old w) f b
+pub book_stays : (old new : List Term) (w : IdWorld) (f : FuncId) (b : Book) → Extends old new → IsOverTable old w
+    → IsBookFor (world_by old w) f b
     → IsBookFor (world_by new w) f b
 book_stays old new w f b more over h = subst (λ (z : TextWorld). IsBookFor z f b) (sym (world_stays old new more w over)) h
 
@@ -92,6 +98,8 @@ written_over old s0 s book ls same none grows keeps part some = record {
 
     of : (b : Basis) (m : IdFacts) → IsBasisOver s.table m b → IsDerivedFrom b s → AreDerived s.table m s.lines.items
     of b m over d =
-        subst (λ (z : TermFacts). IsDerivation z (generic_params m.params) (map (requirement_of s.table) m.written) (map (line_of s.table) s.lines.items)) over.facts
-        (subst (λ (z : List ParamId). IsDerivation b.facts z (map (requirement_of s.table) m.written) (map (line_of s.table) s.lines.items)) over.params
+        subst (λ (z : TermFacts).
+        IsDerivation z (generic_params m.params) (map (requirement_of s.table) m.written) (map (line_of s.table) s.lines.items)) over.facts
+        (subst (λ (z : List ParamId). IsDerivation b.facts z (map (requirement_of s.table) m.written) (map (line_of s.table) s.lines.items))
+        over.params
         (subst (λ (z : List TermRequirement). IsDerivation b.facts b.params z (map (line_of s.table) s.lines.items)) over.written d))

@@ -30,7 +30,8 @@ use Rattle.swreq_world.specs.Closed.{IsClosed}
 use Rattle.swreq_world.specs.FactsAt.{facts_of}
 use Rattle.swreq_world.specs.Worlds.{TextWorld}
 
-module _ (w : TextWorld) (closed : IsClosed w) (m : IdFacts) (protocols : m.protocols ≡ length w.lexicon.protocols) (names : m.names ≡ length w.lexicon.names)
+module _ (w : TextWorld) (closed : IsClosed w) (m : IdFacts) (protocols : m.protocols ≡ length w.lexicon.protocols)
+    (names : m.names ≡ length w.lexicon.names)
     (params : List ParamId) (written : List TermRequirement)
     (listed : (t : Term) (p : ProtoId) → Contains written (Conforms t p) → IsProtocol w.lexicon p) where
   abbrev f : TermFacts
@@ -65,7 +66,8 @@ module _ (w : TextWorld) (closed : IsClosed w) (m : IdFacts) (protocols : m.prot
   inherited p n u q h =
       of_protocols q ((closed.ids.written_order q).0 (text.protocols p u q (get_contains (f.of_protocol p) (n - 1) (Conforms u q) h.1)))
 
-  instance_in : (rule : DerivRule) (from : List TermStatement) (gives : TermStatement) → IsInstance f params written rule from gives → AllStated from
+  instance_in : (rule : DerivRule) (from : List TermStatement) (gives : TermStatement)
+      → IsInstance f params written rule from gives → AllStated from
       → IsRuleOf m rule × IsStated gives
   instance_in Rule.Generic from gives i h = (tt, subst IsStated (sym i.2) tt)
   instance_in (Rule.Conf n) from gives (t, p, e, g, number) h =

@@ -52,8 +52,10 @@ fn doubled(alloc: Global, p: ProtoId) -> Result<Equation, AllocError>
 
 /// The equation `[P]·A = [P:A]`, where `[P:A]` has this rank.
 fn named(alloc: Global, p: ProtoId, a: NameId, rank: u64) -> Result<Equation, AllocError>
-    ensures left { IfOk result (λ e. e.left ≡ (basics.named p (record { proto = p; name = a }) rank).0) }
-    ensures right { IfOk result (λ e. e.right ≡ (basics.named p (record { proto = p; name = a }) rank).1) }
+    ensures left { IfOk result
+        (λ e. e.left ≡ (basics.named p (record { proto = p; name = a }) rank).0) }
+    ensures right { IfOk result
+        (λ e. e.right ≡ (basics.named p (record { proto = p; name = a }) rank).1) }
     ensures reason { IfOk result (λ e. e.reason ≡ reasons.Named rank) }
 {
     let left = word_of(alloc, &[Symbol::Proto(p.rank), Symbol::Name(a.rank)])?;
@@ -75,8 +77,10 @@ fn add_member(
 ) -> Result<(), AllocError>
     requires rank { rank < length world.now.lexicon.symbols }
     requires basic { AreBasic (members_in world.now) given.old.items }
-    ensures sides { OnOk result ((d : ProtocolName) → slice_get world.now.lexicon.symbols rank ≡ Some d → map sides_of given.new.items
-        ≡ map sides_of given.old.items ++ (if nat_eq d.proto.rank p.rank then basics.named p (member_name d) rank ∷ [] else [])) }
+    ensures sides { OnOk result ((d : ProtocolName)
+        → slice_get world.now.lexicon.symbols rank ≡ Some d → map sides_of given.new.items
+        ≡ map sides_of given.old.items
+        ++ (if nat_eq d.proto.rank p.rank then basics.named p (member_name d) rank ∷ [] else [])) }
     ensures basic { OnOk result (AreBasic (members_in world.now) given.new.items) }
 {
     let pair = world.member_at(rank);
@@ -97,7 +101,8 @@ fn add_protocol(
 ) -> Result<(), AllocError>
     requires { AreBasic (members_in world.now) given.old.items }
     ensures sides { OnOk result (map sides_of given.new.items
-        ≡ map sides_of given.old.items ++ (basics.doubled p ∷ basics.named_from p 0 (symbols_of world.now.lexicon).members)) }
+        ≡ map sides_of given.old.items
+        ++ (basics.doubled p ∷ basics.named_from p 0 (symbols_of world.now.lexicon).members)) }
     ensures basic { OnOk result (AreBasic (members_in world.now) given.new.items) }
 {
     let e = doubled(alloc, p)?;
@@ -111,7 +116,8 @@ fn add_protocol(
 /// The basic equations: for each protocol, in written order, the equation of its symbol and then those of its member names.
 pub(crate) fn basic(alloc: Global, world: &World) -> Result<Vec<Equation>, AllocError>
     requires { AreIds world.now.lexicon }
-    ensures sides { IfOk result (λ v. map sides_of v.items ≡ basics.basic_equations (symbols_of world.now.lexicon)) }
+    ensures sides { IfOk result
+        (λ v. map sides_of v.items ≡ basics.basic_equations (symbols_of world.now.lexicon)) }
     ensures basic { IfOk result (λ v. AreBasic (members_in world.now) v.items) }
 {
     let mut given = Vec::new(alloc);
@@ -181,9 +187,11 @@ pub(crate) fn add_used(
     requires flags { HaveFlags (length makings.all.now) makings.rounds.now }
     requires round { round < length makings.rounds.now }
     requires room { makings.first + round < 2 ^ 64 }
-    ensures { OnOk result ((r : RoundView) → slice_get makings.entry.rounds.now round ≡ Some r → (more : List EquationView)
+    ensures { OnOk result ((r : RoundView) → slice_get makings.entry.rounds.now round ≡ Some r
+        → (more : List EquationView)
         × (given.new.items ≡ given.old.items ++ more)
-        × AreEquationsOf (symbols_of makings.entry.world.now.lexicon) makings.entry.table.now (course_of makings.entry) round
+        × AreEquationsOf (symbols_of makings.entry.world.now.lexicon) makings.entry.table.now
+        (course_of makings.entry) round
         (chosen makings.entry.all.now r.used) more) }
 {
     let used = makings.rounds.used(round);

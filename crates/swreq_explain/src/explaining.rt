@@ -58,7 +58,8 @@ fn derive(
     requires text { IsTextOver table.old world.now }
     requires ids { IsRequirementIn table.old world.now.lexicon r }
     requires derivable { (f : FuncId) × IsBookFor (world_by table.old world.now) f book.now
-        × Derivable (facts_of (world_by table.old world.now)) (source_of (signature_at (world_by table.old world.now) f))
+        × Derivable (facts_of (world_by table.old world.now))
+        (source_of (signature_at (world_by table.old world.now) f))
         (Requires (requirement_of table.old r)) }
     ensures written { IfOk result (λ v. AreWritten table.old table.new book.now v.items) }
     ensures last { IfOk result (λ v. EndIn v.items (Holds r)) }
@@ -86,14 +87,17 @@ pub fn explain_by(
     query: &Query,
 ) -> Result<Vec<Line>, AllocError>
     requires text { IsTextOver table.old world.now }
-    requires yes { (f : FuncId) × (f.place < length world.now.signatures) × IsBookFor (world_by table.old world.now) f book.now
+    requires yes { (f : FuncId) × (f.place < length world.now.signatures)
+        × IsBookFor (world_by table.old world.now) f book.now
         × IsYes table.old world.now f query.now }
     ensures derived { IfOk result (λ v. (f : FuncId) (r : RequirementView) → Asks query.now f r
         → AreDerived table.new (facts_at world.now f) v.items) }
-    ensures last { IfOk result (λ v. (f : FuncId) (r : RequirementView) → Asks query.now f r → EndIn v.items (Holds r)) }
+    ensures last { IfOk result
+        (λ v. (f : FuncId) (r : RequirementView) → Asks query.now f r → EndIn v.items (Holds r)) }
     ensures lines { IfOk result (λ v. (f : FuncId) (r : RequirementView) → Asks query.now f r
         → AreLinesOf table.new (facts_at world.now f) v.items) }
-    ensures ids { IfOk result (λ v. (l : LineView) → Contains v.items l → HasLineIds world.now.lexicon table.new l) }
+    ensures ids { IfOk result
+        (λ v. (l : LineView) → Contains v.items l → HasLineIds world.now.lexicon table.new l) }
     ensures extends { Extends table.old table.new }
 {
     match asked(query) {
@@ -124,9 +128,11 @@ pub fn explain(
     requires rounds { AreRoundsFor table.old world.now f protocols.now machine.now }
     requires yes { IsYes table.old world.now f query.now }
     ensures derived { IfOk result (λ v. AreDerived table.new (facts_at world.now f) v.items) }
-    ensures last { IfOk result (λ v. (r : RequirementView) → Asks query.now f r → EndIn v.items (Holds r)) }
+    ensures last { IfOk result
+        (λ v. (r : RequirementView) → Asks query.now f r → EndIn v.items (Holds r)) }
     ensures lines { IfOk result (λ v. AreLinesOf table.new (facts_at world.now f) v.items) }
-    ensures ids { IfOk result (λ v. (l : LineView) → Contains v.items l → HasLineIds world.now.lexicon table.new l) }
+    ensures ids { IfOk result
+        (λ v. (l : LineView) → Contains v.items l → HasLineIds world.now.lexicon table.new l) }
     ensures extends { Extends table.old table.new }
 {
     let book = book_of(alloc, world, table, protocols, machine, f)?;

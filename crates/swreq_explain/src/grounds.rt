@@ -80,8 +80,10 @@ fn add_parents(
     requires text { IsTextOver table.now world.now }
     requires short { length (requirements_of world.now p) < 2 ^ 32 }
     requires p { p.rank < length world.now.lexicon.protocols }
-    requires before { AreParentsUpTo (facts_of (world_by table.now world.now)) p.rank 0 parents.old.items }
-    ensures { OnOk result (AreParentsUpTo (facts_of (world_by table.now world.now)) (p.rank + 1) 0 parents.new.items) }
+    requires before { AreParentsUpTo (facts_of (world_by table.now world.now))
+        p.rank 0 parents.old.items }
+    ensures { OnOk result (AreParentsUpTo (facts_of (world_by table.now world.now))
+        (p.rank + 1) 0 parents.new.items) }
 {
     let list = world.bare_requirements(p);
     for k in 0..list.len() {
@@ -101,7 +103,8 @@ fn add_parents(
 fn parents_of(alloc: Global, world: &World, table: &ParamTable) -> Result<Vec<Parent>, AllocError>
     requires text { IsTextOver table.now world.now }
     requires short { IsShort world.now }
-    ensures { IfOk result (λ v. AreParentsOf (facts_of (world_by table.now world.now)) (length world.now.lexicon.protocols) v.items) }
+    ensures { IfOk result (λ v. AreParentsOf (facts_of (world_by table.now world.now))
+        (length world.now.lexicon.protocols) v.items) }
 {
     let mut parents = Vec::new(alloc);
     for rank in 0..world.protocols() {

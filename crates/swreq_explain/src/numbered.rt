@@ -25,7 +25,8 @@ pub(crate) fn add_numbered(
     numbered: &mut Vec<Numbered>,
 ) -> Result<(), AllocError>
     requires { length list.now < 2 ^ 32 }
-    ensures { OnOk result (numbered.new.items ≡ numbered.old.items ++ numbered_from owner 1 list.now) }
+    ensures { OnOk result
+        (numbered.new.items ≡ numbered.old.items ++ numbered_from owner 1 list.now) }
 {
     for k in 0..list.len() {
         let requirement = list[k];

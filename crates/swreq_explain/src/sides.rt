@@ -44,9 +44,11 @@ pub(crate) fn read_side(
 ) -> Result<ReadAs, AllocError>
     requires ready { IsReady desk sheet.old }
     requires side { IsSide desk side }
-    ensures read { IfOk result (IsReadAt desk.entry side.entry (term_at sheet.old.table desk.entry.t) sheet.new) }
+    ensures read { IfOk result
+        (IsReadAt desk.entry side.entry (term_at sheet.old.table desk.entry.t) sheet.new) }
     ensures grows { Grows sheet.old sheet.new }
-    ensures derives { OnOk result ((b : Basis) → FitsBook desk.entry.book.now b → Keeps b sheet.old sheet.new) }
+    ensures derives { OnOk result
+        ((b : Basis) → FitsBook desk.entry.book.now b → Keeps b sheet.old sheet.new) }
 {
     let scope = Scope {
         system: desk.system,

@@ -29,9 +29,11 @@ pub(crate) fn conform(
     requires ready { IsReady desk sheet.old }
     requires side { IsSide desk side }
     requires vanishes { Vanishes desk side (Proto p.rank) longer.now }
-    ensures says { OnOk result (Says sheet.new (Requires (Conforms (as_term side.entry.param.now) p))) }
+    ensures says { OnOk result
+        (Says sheet.new (Requires (Conforms (as_term side.entry.param.now) p))) }
     ensures grows { Grows sheet.old sheet.new }
-    ensures derives { OnOk result ((b : Basis) → FitsBook desk.entry.book.now b → Keeps b sheet.old sheet.new) }
+    ensures derives { OnOk result
+        ((b : Basis) → FitsBook desk.entry.book.now b → Keeps b sheet.old sheet.new) }
 {
     let ids = read_side(desk, sheet, side)?;
     link(desk.book, sheet, desk.system, desk.t, side.word, longer)?;
@@ -49,9 +51,11 @@ pub(crate) fn be_object(
     requires ready { IsReady desk sheet.old }
     requires side { IsSide desk side }
     requires vanishes { Vanishes desk side Layout longer.now }
-    ensures says { OnOk result (Says sheet.new (Requires (IsAnyObject (as_term side.entry.param.now)))) }
+    ensures says { OnOk result
+        (Says sheet.new (Requires (IsAnyObject (as_term side.entry.param.now)))) }
     ensures grows { Grows sheet.old sheet.new }
-    ensures derives { OnOk result ((b : Basis) → FitsBook desk.entry.book.now b → Keeps b sheet.old sheet.new) }
+    ensures derives { OnOk result
+        ((b : Basis) → FitsBook desk.entry.book.now b → Keeps b sheet.old sheet.new) }
 {
     let ids = read_side(desk, sheet, side)?;
     link(desk.book, sheet, desk.system, desk.t, side.word, longer)?;
@@ -73,9 +77,11 @@ pub(crate) fn equate(
     ensures ids { IfOk result (λ r. IsOf sheet.new.table r.0 × IsOf sheet.new.table r.1) }
     ensures first { IfOk result (λ r. term_at sheet.new.table r.0 ≡ as_term left.entry.param.now) }
     ensures last { IfOk result (λ r. term_at sheet.new.table r.1 ≡ as_term right.entry.param.now) }
-    ensures equal { OnOk result (AreSaidEqual sheet.new (as_term left.entry.param.now) (as_term right.entry.param.now)) }
+    ensures equal { OnOk result
+        (AreSaidEqual sheet.new (as_term left.entry.param.now) (as_term right.entry.param.now)) }
     ensures grows { Grows sheet.old sheet.new }
-    ensures derives { OnOk result ((b : Basis) → FitsBook desk.entry.book.now b → Keeps b sheet.old sheet.new) }
+    ensures derives { OnOk result
+        ((b : Basis) → FitsBook desk.entry.book.now b → Keeps b sheet.old sheet.new) }
 {
     let first = read_side(desk, sheet, left)?;
     let last = read_side(desk, sheet, right)?;
@@ -97,9 +103,11 @@ fn be_equal(
     requires left { IsSide desk left }
     requires right { IsSide desk right }
     requires alike { ReduceAlike (rules_of desk) right.word.now left.word.now }
-    ensures says { OnOk result (Says sheet.new (Requires (Equals (as_term left.entry.param.now) (as_term right.entry.param.now)))) }
+    ensures says { OnOk result (Says sheet.new
+        (Requires (Equals (as_term left.entry.param.now) (as_term right.entry.param.now)))) }
     ensures grows { Grows sheet.old sheet.new }
-    ensures derives { OnOk result ((b : Basis) → FitsBook desk.entry.book.now b → Keeps b sheet.old sheet.new) }
+    ensures derives { OnOk result
+        ((b : Basis) → FitsBook desk.entry.book.now b → Keeps b sheet.old sheet.new) }
 {
     let (t, u) = equate(desk, sheet, left, right)?;
     if are_one(sheet, t, u) {
@@ -121,7 +129,8 @@ pub(crate) fn state(
     requires alike { ReduceAlike (rules_of desk) right.now left.now }
     ensures says { OnOk result (Says sheet.new (Requires (requirement_by r.now))) }
     ensures grows { Grows sheet.old sheet.new }
-    ensures derives { OnOk result ((b : Basis) → FitsBook desk.entry.book.now b → Keeps b sheet.old sheet.new) }
+    ensures derives { OnOk result
+        ((b : Basis) → FitsBook desk.entry.book.now b → Keeps b sheet.old sheet.new) }
 {
     match r {
         Owned::Conf { subject, proto } => {

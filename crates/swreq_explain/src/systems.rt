@@ -36,8 +36,10 @@ fn system_of(
     requires flags { HaveFlags (length makings.all.now) makings.rounds.now }
     requires round { round < length makings.rounds.now }
     requires room { makings.first + round < 2 ^ 64 }
-    ensures { IfOk result (λ v. (o : Origin) → IsBegun o base below (course_of makings.entry) basic.items
-        → IsSystemOf (symbols_of makings.entry.world.now.lexicon) makings.entry.table.now o round v) }
+    ensures { IfOk result
+        (λ v. (o : Origin) → IsBegun o base below (course_of makings.entry) basic.items
+        → IsSystemOf (symbols_of makings.entry.world.now.lexicon)
+        makings.entry.table.now o round v) }
 {
     let mut given = basic;
     add_used(makings, round, &mut given)?;
@@ -53,11 +55,13 @@ fn system_of(
 /// The systems of the rounds of the protocols.
 fn protocols_systems(makings: Makings<'_>) -> Result<Vec<System>, AllocError>
     requires text { IsTextOver makings.table.now makings.world.now }
-    requires all { makings.all.now ≡ numbered_in makings.world.now makings.world.now.lexicon.written_order }
+    requires all { makings.all.now
+        ≡ numbered_in makings.world.now makings.world.now.lexicon.written_order }
     requires in_text { AreNumberedIn makings.table.now makings.world.now.lexicon makings.all.now }
     requires flags { HaveFlags (length makings.all.now) makings.rounds.now }
     requires first { makings.first ≡ 0 }
-    ensures { IfOk result (λ v. AreSystemsOf (symbols_of makings.entry.world.now.lexicon) makings.entry.table.now
+    ensures { IfOk result
+        (λ v. AreSystemsOf (symbols_of makings.entry.world.now.lexicon) makings.entry.table.now
         (protocols_origin makings.entry.world.now makings.entry.rounds.now) v.items) }
 {
     let mut systems = Vec::new(makings.alloc);
@@ -80,7 +84,8 @@ fn add_list_systems(
     requires in_text { AreNumberedIn makings.table.now makings.world.now.lexicon makings.all.now }
     requires flags { HaveFlags (length makings.all.now) makings.rounds.now }
     requires first { makings.first ≡ length systems.old.items }
-    ensures { OnOk result ((o : Origin) → IsBegun o base below (course_of makings.entry) [] → (own : List SystemView)
+    ensures { OnOk result
+        ((o : Origin) → IsBegun o base below (course_of makings.entry) [] → (own : List SystemView)
         × (systems.new.items ≡ systems.old.items ++ own)
         × AreSystemsOf (symbols_of makings.entry.world.now.lexicon) makings.entry.table.now o own) }
 {
@@ -103,7 +108,8 @@ fn world_systems(
 ) -> Result<Vec<System>, AllocError>
     requires text { IsTextOver table.now world.now }
     requires short { IsShort world.now }
-    requires flags { HaveFlags (length (protocols_origin world.now protocols.now.rounds).course.all) protocols.now.rounds }
+    requires flags { HaveFlags (length (protocols_origin world.now protocols.now.rounds).course.all)
+        protocols.now.rounds }
     ensures { IfOk result (λ v. AreSystemsOf (symbols_of world.now.lexicon) table.now
         (protocols_origin world.now protocols.now.rounds) v.items) }
 {
@@ -138,9 +144,11 @@ fn add_machine(
     requires text { IsTextOver table.now world.now }
     requires short { IsShort world.now }
     requires signature { own.f.place < length world.now.signatures }
-    requires flags { HaveFlags (length (list_origin world.now own.f protocols.now own.machine.now).course.all) own.machine.now.rounds }
+    requires flags { HaveFlags (length (list_origin world.now own.f protocols.now
+        own.machine.now).course.all) own.machine.now.rounds }
     requires first { length systems.old.items ≡ length protocols.now.rounds }
-    ensures { OnOk result ((more : List SystemView) × (systems.new.items ≡ systems.old.items ++ more)
+    ensures { OnOk result
+        ((more : List SystemView) × (systems.new.items ≡ systems.old.items ++ more)
         × AreSystemsOf (symbols_of world.now.lexicon) table.now
         (list_origin world.now own.entry.f protocols.now own.entry.machine.now) more) }
 {

@@ -20,7 +20,8 @@ use swreq_unfold::{Scope, declare};
 
 /// The type parameter without its last step, and that step, or None for a generic parameter.
 fn split(alloc: Global, t: &TypeParam) -> Result<Option<(TypeParam, Step)>, AllocError>
-    ensures { IfOk result (λ o. MatchOption o (as_term t.now ≡ Generic t.now.head) (λ b. as_term t.now ≡ Member (as_term b.0) b.1)) }
+    ensures { IfOk result (λ o. MatchOption o (as_term t.now ≡ Generic t.now.head)
+        (λ b. as_term t.now ≡ Member (as_term b.0) b.1)) }
 {
     match t.steps.items() {
         [] => Ok(None),
@@ -46,13 +47,18 @@ fn validate_member(
 ) -> Result<TermId, AllocError>
     requires ready { IsReady desk sheet.old }
     requires ids { IsOf sheet.old.table base.itself × IsOf sheet.old.table base.word }
-    requires given { IsGiven (ground_at desk) sheet.old (term_at sheet.old.table base.word) step named }
-    requires equal { AreSaidEqual sheet.old (term_at sheet.old.table base.itself) (term_at sheet.old.table base.word) }
+    requires given { IsGiven (ground_at desk) sheet.old
+        (term_at sheet.old.table base.word) step named }
+    requires equal { AreSaidEqual sheet.old (term_at sheet.old.table base.itself)
+        (term_at sheet.old.table base.word) }
     ensures is_of { IfOk result (IsOf sheet.new.table) }
-    ensures stands { IfOk result (λ v. term_at sheet.new.table v ≡ Member (term_at sheet.old.table base.itself) step) }
-    ensures says { OnOk result (Says sheet.new (IsValid (Member (term_at sheet.old.table base.itself) step))) }
+    ensures stands { IfOk result
+        (λ v. term_at sheet.new.table v ≡ Member (term_at sheet.old.table base.itself) step) }
+    ensures says { OnOk result
+        (Says sheet.new (IsValid (Member (term_at sheet.old.table base.itself) step))) }
     ensures grows { Grows sheet.old sheet.new }
-    ensures derives { OnOk result ((b : Basis) → FitsBook desk.entry.book.now b → Keeps b sheet.old sheet.new) }
+    ensures derives { OnOk result
+        ((b : Basis) → FitsBook desk.entry.book.now b → Keeps b sheet.old sheet.new) }
 {
     let v = member(sheet, base.itself, step)?;
     same_conf(sheet, base.itself, base.word, named.proto)?;
@@ -72,7 +78,8 @@ fn validate(desk: Desk<'_>, sheet: &mut Sheet, side: Side<'_>) -> Result<TermId,
     ensures stands { IfOk result (λ v. term_at sheet.new.table v ≡ as_term side.entry.param.now) }
     ensures says { OnOk result (Says sheet.new (IsValid (as_term side.entry.param.now))) }
     ensures grows { Grows sheet.old sheet.new }
-    ensures derives { OnOk result ((b : Basis) → FitsBook desk.entry.book.now b → Keeps b sheet.old sheet.new) }
+    ensures derives { OnOk result
+        ((b : Basis) → FitsBook desk.entry.book.now b → Keeps b sheet.old sheet.new) }
 {
     match split(desk.alloc, side.param)? {
         None => {
@@ -103,9 +110,11 @@ fn validate(desk: Desk<'_>, sheet: &mut Sheet, side: Side<'_>) -> Result<TermId,
 pub(crate) fn reflect(desk: Desk<'_>, sheet: &mut Sheet, side: Side<'_>) -> Result<(), AllocError>
     requires ready { IsReady desk sheet.old }
     requires side { IsSide desk side }
-    ensures says { OnOk result (Says sheet.new (Requires (Equals (as_term side.entry.param.now) (as_term side.entry.param.now)))) }
+    ensures says { OnOk result (Says sheet.new
+        (Requires (Equals (as_term side.entry.param.now) (as_term side.entry.param.now)))) }
     ensures grows { Grows sheet.old sheet.new }
-    ensures derives { OnOk result ((b : Basis) → FitsBook desk.entry.book.now b → Keeps b sheet.old sheet.new) }
+    ensures derives { OnOk result
+        ((b : Basis) → FitsBook desk.entry.book.now b → Keeps b sheet.old sheet.new) }
 {
     let t = validate(desk, sheet, side)?;
     reflex(sheet, t)?;

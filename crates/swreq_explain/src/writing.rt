@@ -33,11 +33,14 @@ fn write(
 ) -> Result<(), AllocError>
     requires book { IsBook book.now × (0 < length book.now.systems) }
     requires sheet { IsSheet sheet.old }
-    requires sides { HasShownSides book.now.ground None (rules_at book.now (length book.now.systems - 1)) r.now left.now right.now }
-    requires alike { ReduceAlike (rules_at book.now (length book.now.systems - 1)) right.now left.now }
+    requires sides { HasShownSides book.now.ground None
+        (rules_at book.now (length book.now.systems - 1)) r.now left.now right.now }
+    requires alike { ReduceAlike (rules_at book.now
+        (length book.now.systems - 1)) right.now left.now }
     ensures says { OnOk result (Says sheet.new (Requires (requirement_by r.now))) }
     ensures grows { Grows sheet.old sheet.new }
-    ensures derives { OnOk result ((b : Basis) → FitsBook book.now b → Keeps b sheet.old sheet.new) }
+    ensures derives { OnOk result
+        ((b : Basis) → FitsBook book.now b → Keeps b sheet.old sheet.new) }
 {
     let system = book.systems.items().len() - 1;
     let t = param(sheet, ParamId { depth: 0, index: 0 })?;
@@ -56,7 +59,8 @@ fn finish(alloc: Global, sheet: &Sheet, r: Requirement) -> Result<Vec<Line>, All
     requires sheet { IsSheet sheet.now }
     requires ids { AreIdsIn sheet.now.table (Holds r) }
     requires says { Says sheet.now (Requires (requirement_of sheet.now.table r)) }
-    ensures derived { IfOk result (λ v. (m : IdFacts) → AreDerived sheet.now.table m sheet.now.lines.items
+    ensures derived { IfOk result
+        (λ v. (m : IdFacts) → AreDerived sheet.now.table m sheet.now.lines.items
         → AreDerived sheet.now.table m v.items) }
     ensures last { IfOk result (λ v. EndIn v.items (Holds r)) }
     ensures some { IfOk result (λ v. AreSomeOf v.items sheet.now.lines.items) }
@@ -85,15 +89,19 @@ fn lines_on(
     requires book { IsBook book.now × (0 < length book.now.systems) }
     requires sheet { IsSheet sheet.old × AreIdsIn sheet.old.table (Holds r) }
     requires by_itself { requirement_by by_itself.now ≡ requirement_of sheet.old.table r }
-    requires sides { HasShownSides book.now.ground None (rules_at book.now (length book.now.systems - 1)) by_itself.now
+    requires sides { HasShownSides book.now.ground None
+        (rules_at book.now (length book.now.systems - 1)) by_itself.now
         sides.0.now sides.1.now }
-    requires alike { ReduceAlike (rules_at book.now (length book.now.systems - 1)) sides.1.now sides.0.now }
-    ensures derived { IfOk result (λ v. (m : IdFacts) → AreDerived sheet.new.table m sheet.new.lines.items
+    requires alike { ReduceAlike (rules_at book.now (length book.now.systems - 1))
+        sides.1.now sides.0.now }
+    ensures derived { IfOk result
+        (λ v. (m : IdFacts) → AreDerived sheet.new.table m sheet.new.lines.items
         → AreDerived sheet.new.table m v.items) }
     ensures last { IfOk result (λ v. EndIn v.items (Holds r)) }
     ensures some { IfOk result (λ v. AreSomeOf v.items sheet.new.lines.items) }
     ensures grows { Grows sheet.old sheet.new }
-    ensures derives { OnOk result ((b : Basis) → FitsBook book.now b → Keeps b sheet.old sheet.new) }
+    ensures derives { OnOk result
+        ((b : Basis) → FitsBook book.now b → Keeps b sheet.old sheet.new) }
 {
     write(alloc, book, sheet, by_itself, sides.0, sides.1)?;
     let lines = finish(alloc, sheet, r)?;
@@ -112,9 +120,11 @@ pub(crate) fn lines_over(
     requires book { IsBook book.now × (0 < length book.now.systems) }
     requires ids { AreIdsIn table.old (Holds r) }
     requires by_itself { requirement_by by_itself.now ≡ requirement_of table.old r }
-    requires sides { HasShownSides book.now.ground None (rules_at book.now (length book.now.systems - 1)) by_itself.now
+    requires sides { HasShownSides book.now.ground None
+        (rules_at book.now (length book.now.systems - 1)) by_itself.now
         sides.0.now sides.1.now }
-    requires alike { ReduceAlike (rules_at book.now (length book.now.systems - 1)) sides.1.now sides.0.now }
+    requires alike { ReduceAlike (rules_at book.now (length book.now.systems - 1))
+        sides.1.now sides.0.now }
     ensures written { IfOk result (λ v. AreWritten table.old table.new book.now v.items) }
     ensures last { IfOk result (λ v. EndIn v.items (Holds r)) }
     ensures extends { Extends table.old table.new }

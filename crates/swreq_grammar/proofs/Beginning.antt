@@ -14,11 +14,13 @@ module _ {T L A : Type 0} (number : T → ℕ) (g : Grammar T L A) where
   pub no_text_begins : (ts : List (Token T)) → begins number (first_set g) ts ≡ false → ¬ (BeginsText number g ts)
   no_text_begins ts e b = let yes = text_begins ts b in cc
 
-  pub begins_text : is_predictive number g ≡ true → begins_labelled g ≡ false → (ts : List (Token T)) → begins number (first_set g) ts ≡ true → BeginsText number g ts
+  pub begins_text : is_predictive number g ≡ true → begins_labelled g ≡ false → (ts : List (Token T))
+      → begins number (first_set g) ts ≡ true → BeginsText number g ts
   begins_text p q [] e = absurd cc
   begins_text p q (t ∷ ts) e = first_begins number g p q t e
 
-  pub begins_no_text : is_predictive number g ≡ true → begins_labelled g ≡ false → (ts : List (Token T)) → ¬ (BeginsText number g ts) → begins number (first_set g) ts ≡ false
+  pub begins_no_text : is_predictive number g ≡ true → begins_labelled g ≡ false → (ts : List (Token T)) → ¬ (BeginsText number g ts)
+      → begins number (first_set g) ts ≡ false
   begins_no_text p q ts n = go (begins number (first_set g) ts) refl
     where
       go : (b : Bool) → begins number (first_set g) ts ≡ b → b ≡ false

@@ -95,7 +95,8 @@ module _ {T : Type 0} (number : T → ℕ) where
   -- parts while one begins, at most this many more
   unfoldable pub read_parts : {L A : Type 0} → (List (Token T) → Read T L A) → List T → Limit L → ℕ → List (Token T) → Read T L (List A)
   read_parts r firsts limit zero ts = read_no_more limit firsts ts
-  read_parts r firsts limit (suc n) ts = cond (begins firsts ts) (r ts >>= λ x. read_parts r firsts limit n x.1 >>= λ y. Ok (x.0 ∷ y.0, y.1)) (Ok ([], ts))
+  read_parts r firsts limit (suc n) ts =
+      cond (begins firsts ts) (r ts >>= λ x. read_parts r firsts limit n x.1 >>= λ y. Ok (x.0 ∷ y.0, y.1)) (Ok ([], ts))
 
   abbrev pub read : {L A : Type 0} → Grammar T L A → List (Token T) → Read T L A
   read (terminal terminals) ts = read_terminal terminals ts

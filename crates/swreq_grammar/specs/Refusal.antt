@@ -38,10 +38,12 @@ module _ {T : Type 0} (number : T → ℕ) where
   HasLabel label (empty v) before rest = ⊥
   HasLabel label (mapped f g) before rest = HasLabel label g before rest
   HasLabel label (sequence {A} g h) before rest =
-      HasLabel label g before rest ⊎ ((first mid : List (Token T)) × (v : A) × (before ≡ first ++ mid) × Matches number g first v × HasLabel label h mid rest)
+      HasLabel label g before rest
+      ⊎ ((first mid : List (Token T)) × (v : A) × (before ≡ first ++ mid) × Matches number g first v × HasLabel label h mid rest)
   HasLabel label (alternative g h) before rest = HasLabel label g before rest ⊎ HasLabel label h before rest
   HasLabel label (repetition {A} limit g) before rest =
-      ((first mid : List (Token T)) × (vs : List A) × (before ≡ first ++ mid) × Parts (Matches number g) first vs × HasLabel label g mid rest × Within limit (suc (length vs)))
+      ((first mid : List (Token T)) × (vs : List A) × (before ≡ first ++ mid) × Parts (Matches number g) first vs
+      × HasLabel label g mid rest × Within limit (suc (length vs)))
       ⊎ ((vs : List A) × Parts (Matches number g) before vs × IsFull limit (length vs) label × BeginsText g rest)
   HasLabel label (labelled other g) before rest = ((before ≡ []) × (other ≡ label) × ¬ (BeginsText g rest)) ⊎ HasLabel label g before rest
 

@@ -41,7 +41,8 @@ pub fn many<P: Part>(
     alloc: Global,
     tokens: &[Token<P::Terminal>],
 ) -> Result<(Vec<P::Value>, &[Token<P::Terminal>]), Stop<'_, P::Terminal, P::Label>>
-    ensures { Gives (λ x. (x.0.items, x.1.now)) result (read_parts P.number P.reads P.first_set unlimited (length tokens.now) tokens.now) }
+    ensures { Gives (λ x. (x.0.items, x.1.now)) result
+        (read_parts P.number P.reads P.first_set unlimited (length tokens.now) tokens.now) }
 {
     let mut found = Vec::new(alloc);
     let mut rest = tokens;
@@ -64,7 +65,8 @@ pub fn at_most<P: Part>(
     label: P::Label,
     tokens: &[Token<P::Terminal>],
 ) -> Result<(Vec<P::Value>, &[Token<P::Terminal>]), Stop<'_, P::Terminal, P::Label>>
-    ensures { Gives (λ x. (x.0.items, x.1.now)) result (read_parts P.number P.reads P.first_set (at_most limit label) limit tokens.now) }
+    ensures { Gives (λ x. (x.0.items, x.1.now)) result
+        (read_parts P.number P.reads P.first_set (at_most limit label) limit tokens.now) }
 {
     let mut found = Vec::new(alloc);
     let mut rest = tokens;

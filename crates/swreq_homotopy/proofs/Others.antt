@@ -25,7 +25,8 @@ module _ (keep : List Bool) (n : ℕ) where
       subst (AreOfOthers keep n) (sym (inverse_more x xs))
       (others_join (inverse xs) (inverse_step x ∷ []) (others_inverse xs (λ k. a (suc k))) (one_other (inverse_step x) (a zero x refl)))
 
-  pub others_round : (forward : Bool) (steps : List RewriteStep) (at : ℕ) → AreOfOthers keep n (take at steps) → AreOfOthers keep n (drop (suc at) steps)
+  pub others_round : (forward : Bool) (steps : List RewriteStep) (at : ℕ) → AreOfOthers keep n (take at steps)
+      → AreOfOthers keep n (drop (suc at) steps)
       → AreOfOthers keep n (way_round forward steps at)
   others_round true steps at a b = others_inverse (rest_of steps at) (others_join (drop (suc at) steps) (take at steps) b a)
   others_round false steps at a b = others_join (drop (suc at) steps) (take at steps) b a
@@ -45,7 +46,8 @@ past_seam [] ys y = refl
 past_seam (x ∷ xs) ys y = past_seam xs ys y
 
 -- a step that shows its rule, by its place and by what stands on both sides of it
-pub shows_by : (keep may : List Bool) (round : Loop) (at : ℕ) → (s : ShowsAt keep may round.path.steps at) → Shows keep may round s.bare.step.rule
+pub shows_by : (keep may : List Bool) (round : Loop) (at : ℕ) → (s : ShowsAt keep may round.path.steps at)
+    → Shows keep may round s.bare.step.rule
 shows_by keep may round at s = record {
   kept = s.kept;
   may_go = s.may_go;
@@ -75,9 +77,11 @@ shows_at keep may round n s =
         kept = subst (IsMarked keep) e s.kept;
         may_go = subst (IsMarked may) e s.may_go;
         front_others = subst (λ xs. AreOfOthers keep s.step.rule (take (length s.front) xs)) c
-            (subst (AreOfOthers keep s.step.rule) (sym (take-append_seam s.front (s.step ∷ s.back))) (subst (λ m. AreOfOthers keep m s.front) e s.front_others));
+            (subst (AreOfOthers keep s.step.rule) (sym (take-append_seam s.front (s.step ∷ s.back)))
+            (subst (λ m. AreOfOthers keep m s.front) e s.front_others));
         back_others = subst (λ xs. AreOfOthers keep s.step.rule (drop (suc (length s.front)) xs)) c
-            (subst (AreOfOthers keep s.step.rule) (sym (past_seam s.front s.back s.step)) (subst (λ m. AreOfOthers keep m s.back) e s.back_others));
+            (subst (AreOfOthers keep s.step.rule) (sym (past_seam s.front s.back s.step))
+            (subst (λ m. AreOfOthers keep m s.back) e s.back_others));
       },
     )
 
@@ -88,13 +92,17 @@ same_item xs j k x y e f g = let h : slice_get xs j ≡ Some y = subst (λ i. sl
 pub same_step : (steps : List RewriteStep) (at : ℕ) (x y : RewriteStep) → slice_get steps at ≡ Some x → slice_get steps at ≡ Some y → x ≡ y
 same_step steps at x y e f = cc
 
-pub front_of : (keep may : List Bool) (steps : List RewriteStep) (at : ℕ) (x : RewriteStep) → slice_get steps at ≡ Some x → ShowsAt keep may steps at
+pub front_of : (keep may : List Bool) (steps : List RewriteStep) (at : ℕ) (x : RewriteStep) → slice_get steps at ≡ Some x
+    → ShowsAt keep may steps at
     → AreOfOthers keep x.rule (take at steps)
-front_of keep may steps at x e s = subst (λ (z : RewriteStep). AreOfOthers keep z.rule (take at steps)) (same_step steps at s.bare.step x s.bare.is_step e) s.front_others
+front_of keep may steps at x e s =
+    subst (λ (z : RewriteStep). AreOfOthers keep z.rule (take at steps)) (same_step steps at s.bare.step x s.bare.is_step e) s.front_others
 
-pub back_of : (keep may : List Bool) (steps : List RewriteStep) (at : ℕ) (x : RewriteStep) → slice_get steps at ≡ Some x → ShowsAt keep may steps at
+pub back_of : (keep may : List Bool) (steps : List RewriteStep) (at : ℕ) (x : RewriteStep) → slice_get steps at ≡ Some x
+    → ShowsAt keep may steps at
     → AreOfOthers keep x.rule (drop (suc at) steps)
-back_of keep may steps at x e s = subst (λ (z : RewriteStep). AreOfOthers keep z.rule (drop (suc at) steps)) (same_step steps at s.bare.step x s.bare.is_step e) s.back_others
+back_of keep may steps at x e s = subst (λ (z : RewriteStep). AreOfOthers keep z.rule (drop (suc at) steps))
+    (same_step steps at s.bare.step x s.bare.is_step e) s.back_others
 
 pub no_symbols : (xs ys : List Symbol) → ys ≡ xs → length ys ≡ 0 → xs ≡ []
 no_symbols xs [] e l = sym e

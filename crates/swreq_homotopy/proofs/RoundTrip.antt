@@ -32,27 +32,33 @@ leads_round rules round at step over b is =
     let same : b.step ≡ step = same_step steps at b.step step b.is_step is in
     let before : step.before ≡ [] = ap (λ (s : RewriteStep). s.before) (sym same) ∙ b.none_before in
     let after : step.after ≡ [] = ap (λ (s : RewriteStep). s.after) (sym same) ∙ b.none_after in
-    let r = lead_parts rules (take at steps) (step ∷ drop (suc at) steps) u u (subst (λ xs. StepsLead rules xs u u) (cut_at steps at step is) over) in
+    let r = lead_parts rules (take at steps) (step ∷ drop (suc at) steps) u u
+    (subst (λ xs. StepsLead rules xs u u) (cut_at steps at step is) over) in
     let l = r.2.1 in
     let front : StepsLead rules (take at steps) u (replaced_side step.forward l.rule) =
-    subst (λ z. StepsLead rules (take at steps) u z) (bare step.before step.after (replaced_side step.forward l.rule) r.0 before after l.source) r.1 in
+    subst (λ z. StepsLead rules (take at steps) u z)
+    (bare step.before step.after (replaced_side step.forward l.rule) r.0 before after l.source) r.1 in
     let back : StepsLead rules (drop (suc at) steps) (put_side step.forward l.rule) u =
-    subst (λ z. StepsLead rules (drop (suc at) steps) z u) (bare step.before step.after (put_side step.forward l.rule) r.2.0 before after l.target) r.2.2 in
+    subst (λ z. StepsLead rules (drop (suc at) steps) z u)
+    (bare step.before step.after (put_side step.forward l.rule) r.2.0 before after l.target) r.2.2 in
     record {
       rule = l.rule;
       is_rule = l.is_rule;
-      leads = lead_on rules (drop (suc at) steps) (take at steps) (put_side step.forward l.rule) u (replaced_side step.forward l.rule) back front;
+      leads = lead_on rules (drop (suc at) steps) (take at steps) (put_side step.forward l.rule) u
+          (replaced_side step.forward l.rule) back front;
     }
 
 -- the step that is read there
-pub step_read : (round : Loop) (given : List RewriteStep) (at : ℕ) (x : RewriteStep) → IsBareAt round.path.steps at → given ≡ round.path.steps
+pub step_read : (round : Loop) (given : List RewriteStep) (at : ℕ) (x : RewriteStep) → IsBareAt round.path.steps at
+    → given ≡ round.path.steps
     → x ≡ get_or given at x → slice_get round.path.steps at ≡ Some x
 step_read round given at x b same e =
     let steps = round.path.steps in
     slice_get_read steps (length steps) at x refl (slice_get_within steps at b.step b.is_step) (e ∙ ap (λ xs. get_or xs at x) same)
 
 -- where the step goes forward, the rest leads from its right side to its left side, and its inverse back
-pub forward_leads : (rules : List Rule) (steps : List RewriteStep) (at : ℕ) (step : RewriteStep) (rule : Rule) → step.forward ≡ true → RuleAt rules step.rule rule
+pub forward_leads : (rules : List Rule) (steps : List RewriteStep) (at : ℕ) (step : RewriteStep) (rule : Rule) → step.forward ≡ true
+    → RuleAt rules step.rule rule
     → LeadsRound rules steps at step → StepsLead rules (rest_of steps at) rule.right rule.left
 forward_leads rules steps at step rule forward is l =
     let same = one_rule rules step.rule l.rule rule l.is_rule is in
@@ -60,7 +66,8 @@ forward_leads rules steps at step rule forward is l =
     (subst (λ b. StepsLead rules (rest_of steps at) (put_side b l.rule) (replaced_side b l.rule)) forward l.leads)
 
 -- where it goes back, from its left side to its right side
-pub backward_leads : (rules : List Rule) (steps : List RewriteStep) (at : ℕ) (step : RewriteStep) (rule : Rule) → step.forward ≡ false → RuleAt rules step.rule rule
+pub backward_leads : (rules : List Rule) (steps : List RewriteStep) (at : ℕ) (step : RewriteStep) (rule : Rule) → step.forward ≡ false
+    → RuleAt rules step.rule rule
     → LeadsRound rules steps at step → StepsLead rules (rest_of steps at) rule.left rule.right
 backward_leads rules steps at step rule backward is l =
     let same = one_rule rules step.rule l.rule rule l.is_rule is in
@@ -84,5 +91,6 @@ module _ (rules : List Rule) (keep may : List Bool) (round : Loop) (at : ℕ) (e
         is_rule = subst (λ n. RuleAt rules n g.rule) (sym g.names) g.is_rule;
         start = g.start;
         target = g.target;
-        others = subst₂ (AreOfOthers keep) (sym g.names) (sym g.steps_are) (others_round keep g.step.rule g.step.forward steps at front back);
+        others =
+            subst₂ (AreOfOthers keep) (sym g.names) (sym g.steps_are) (others_round keep g.step.rule g.step.forward steps at front back);
       }

@@ -19,28 +19,36 @@ use Rattle.swreq_homotopy.specs.Loops.{SidesReduceToOne, ReducesThrough, IsLoopO
 use Rattle.swreq_homotopy.proofs.PairSteps.{side_is, both_put}
 
 module _ (rules : List Rule) where
-  pub through_leads : (steps : List RewriteStep) (at number : ℕ) (w side end : List Symbol) → ReducesThrough rules steps at number w side end → StepsLead rules steps w end
+  pub through_leads : (steps : List RewriteStep) (at number : ℕ) (w side end : List Symbol)
+      → ReducesThrough rules steps at number w side end → StepsLead rules steps w end
   through_leads steps at number w side end r =
       subst (λ xs. StepsLead rules xs w end) (sym r.steps_are) (side, r.goes_to_side.leads, reduce_lead rules r.others side end r.reduces)
 
   -- the target of such a path, which begins at this word
-  pub through_target : (path : Path) (at number : ℕ) (w side end : List Symbol) → path.start ≡ w → ReducesThrough rules path.steps at number w side end → HasTarget rules path end
-  through_target path at number w side end e r = subst (λ u. StepsLead rules path.steps u end) (sym e) (through_leads path.steps at number w side end r)
+  pub through_target : (path : Path) (at number : ℕ) (w side end : List Symbol) → path.start ≡ w
+      → ReducesThrough rules path.steps at number w side end → HasTarget rules path end
+  through_target path at number w side end e r =
+      subst (λ u. StepsLead rules path.steps u end) (sym e) (through_leads path.steps at number w side end r)
 
-  pub target_is : (path : Path) (at number : ℕ) (w side end v : List Symbol) → path.start ≡ w → ReducesThrough rules path.steps at number w side end → HasTarget rules path v → v ≡ end
+  pub target_is : (path : Path) (at number : ℕ) (w side end v : List Symbol) → path.start ≡ w
+      → ReducesThrough rules path.steps at number w side end → HasTarget rules path v → v ≡ end
   target_is path at number w side end v e r h = one_end rules path.steps path.start v end h (through_target path at number w side end e r)
 
-  through_reduces : (steps : List RewriteStep) (at number : ℕ) (w side end : List Symbol) → ReducesThrough rules steps at number w side end → Reduces rules side end
-  through_reduces steps at number w side end r = record { steps = reduce_chain rules r.others side end r.reduces; irreducible = r.irreducible }
+  through_reduces : (steps : List RewriteStep) (at number : ℕ) (w side end : List Symbol) → ReducesThrough rules steps at number w side end
+      → Reduces rules side end
+  through_reduces steps at number w side end r =
+      record { steps = reduce_chain rules r.others side end r.reduces; irreducible = r.irreducible }
 
   -- the two paths through the sides of a pair
   module _ (place : Place) (left right w : List Symbol) (p : IsPair rules place left right) (is : IsPairWord rules place w)
-      (out back : List RewriteStep) (l r m n : List Symbol) (a : ReducesThrough rules out 0 place.i w l m) (b : ReducesThrough rules back place.at place.j w r n) where
+      (out back : List RewriteStep) (l r m n : List Symbol) (a : ReducesThrough rules out 0 place.i w l m)
+      (b : ReducesThrough rules back place.at place.j w r n) where
     left_is : l ≡ left
     left_is = side_is rules a.first place.i 0 p.first w left l p.first_at (both_put rules place left right w p is).0 a.goes_to_side
 
     right_is : r ≡ right
-    right_is = side_is rules b.first place.j place.at p.second w right r p.second_at (both_put rules place left right w p is).1 b.goes_to_side
+    right_is =
+        side_is rules b.first place.j place.at p.second w right r p.second_at (both_put rules place left right w p is).1 b.goes_to_side
 
     -- where the sides reduce to one word, both paths end with it
     pub one_word : SidesReduceToOne rules place → m ≡ n
@@ -48,7 +56,8 @@ module _ (rules : List Rule) where
         let e = one_pair rules place s.0 s.1 left right s.3 p in
         let f = subst (λ x. Reduces rules x s.2) (e.0 ∙ sym left_is) s.4 in
         let g = subst (λ x. Reduces rules x s.2) (e.1 ∙ sym right_is) s.5 in
-        one_result rules l m s.2 (through_reduces out 0 place.i w l m a) f ∙ one_result rules r s.2 n g (through_reduces back place.at place.j w r n b)
+        one_result rules l m s.2 (through_reduces out 0 place.i w l m a) f
+        ∙ one_result rules r s.2 n g (through_reduces back place.at place.j w r n b)
 
     -- where both paths end with one word, the one and then the inverse of the other make the loop of the pair
     pub loop_is : m ≡ n → (round : Loop) → round.path.start ≡ w → round.path.steps ≡ out ++ inverse back → IsLoopOfPair rules place round
@@ -61,6 +70,7 @@ module _ (rules : List Rule) where
       sides = p;
       word_is = subst (IsPairWord rules place) (sym start) is;
       through_left = subst₂ (λ u x. ReducesThrough rules out 0 place.i u x m) (sym start) left_is a;
-      through_right = subst₂ (λ u x. ReducesThrough rules back place.at place.j u x m) (sym start) right_is (subst (λ x. ReducesThrough rules back place.at place.j w r x) (sym e) b);
+      through_right = subst₂ (λ u x. ReducesThrough rules back place.at place.j u x m) (sym start) right_is
+          (subst (λ x. ReducesThrough rules back place.at place.j w r x) (sym e) b);
       steps_are = steps;
     }

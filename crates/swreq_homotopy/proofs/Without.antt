@@ -25,13 +25,15 @@ without rules keep evidence rule {R} d is place each =
     let path = evidence.path in
     subst (λ (x : Rule). Linked R x.left x.right) same
     (subst (λ u. Linked R u d.rule.right) d.start
-    (steps_link rules (λ step. (step.rule ≢ evidence.rule) × IsMarked keep step.rule) place (λ step other o at. each step.rule other at o.1 o.0)
+    (steps_link rules (λ step. (step.rule ≢ evidence.rule) × IsMarked keep step.rule) place
+    (λ step other o at. each step.rule other at o.1 o.0)
     path.steps path.start d.rule.right d.others d.target))
 
 pub evidence_links : (rules : List Rule) (keep : List Bool) → EvidenceLinks rules keep
 evidence_links rules keep evidence others rule d is has =
     without rules keep evidence rule d is (λ u v l r s k. Linked-in-place s k)
-    (λ k other at m ne. let h = has k other at m ne in forth (record { rule = other; number = h.0 + 1; is_rule = rule_at others h.0 other h.1; at = Replaced-whole }) here)
+    (λ k other at m ne. let h = has k other at m ne in
+    forth (record { rule = other; number = h.0 + 1; is_rule = rule_at others h.0 other h.1; at = Replaced-whole }) here)
 
 pub evidence_is_congruent : (rules : List Rule) (keep : List Bool) → EvidenceIsCongruent rules keep
 evidence_is_congruent rules keep evidence equations rule d is each =

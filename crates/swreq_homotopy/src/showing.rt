@@ -68,7 +68,8 @@ fn shows_at(keep: &[bool], may: &[bool], steps: &[RewriteStep], at: usize) -> bo
 
 // The first place at which a step shows its rule.
 fn place_in(keep: &[bool], may: &[bool], steps: &[RewriteStep]) -> Option<usize>
-    ensures { MatchOption result (NoneShows keep.now may.now steps.now) (ShowsAt keep.now may.now steps.now) }
+    ensures { MatchOption result (NoneShows keep.now may.now steps.now)
+        (ShowsAt keep.now may.now steps.now) }
 {
     for at in 0..steps.len() {
         if shows_at(keep, may, steps, at) {
@@ -89,7 +90,8 @@ fn shown_by(
     requires { IsLoop rules.now round.now }
     ensures { IfOk result (λ found. MatchOption found
         ((n : ℕ) → Shows keep.now may.now round.now n → ⊥)
-        (λ evidence. Shows keep.now may.now round.now evidence.rule × DoesWithout rules.now keep.now evidence)) }
+        (λ evidence.
+        Shows keep.now may.now round.now evidence.rule × DoesWithout rules.now keep.now evidence)) }
 {
     match place_in(keep, may, round.path.steps.items()) {
         Some(at) => Ok(Some(round_from(alloc, rules, round, at)?)),

@@ -59,7 +59,8 @@ same_head e = cc
 same_tail : {x y : ℕ} {xs ys : List ℕ} → x ∷ xs ≡ y ∷ ys → xs ≡ ys
 same_tail e = cc
 
-without_space : (cs after : List ℕ) {inside : List ℕ} → IsInside inside → 32 ∷ cs ≡ inside ++ after → (i : List ℕ) × IsInside i × (cs ≡ i ++ after)
+without_space : (cs after : List ℕ) {inside : List ℕ} → IsInside inside → 32 ∷ cs ≡ inside ++ after
+    → (i : List ℕ) × IsInside i × (cs ≡ i ++ after)
 without_space cs after closing e = let k : ◌≡◌ {A = ℕ} 32 42 = same_head e in absurd (omega arith)
 without_space cs after (character {d = d} {cs = ds} o h i) e = (d ∷ ds, i, same_tail e)
 without_space cs after (nested i a p) e = let k : ◌≡◌ {A = ℕ} 32 47 = same_head e in absurd (omega arith)
@@ -68,23 +69,32 @@ forget_space : {rest : List ℕ} {n : ℕ} (cs : List ℕ) → Insides rest n (3
 forget_space {rest} cs (last i e) = let w = without_space cs rest i e in last w.1 w.2
 forget_space cs (more {after = after} i e l) = let w = without_space cs after i e in more w.1 w.2 l
 
-with_character : (b c : ℕ) (cs after : List ℕ) {inside : List ℕ} → is_opening b c ≡ false → is_closing b c ≡ false → c ∷ cs ≡ inside ++ after → IsInside inside → IsInside (b ∷ inside)
-with_character b c cs after o h e closing = let same : c ≡ 42 = same_head e in character (subst (λ d. is_opening b d ≡ false) same o) (subst (λ d. is_closing b d ≡ false) same h) closing
-with_character b c cs after o h e (character {c = x} p q i) = let same : c ≡ x = same_head e in character (subst (λ d. is_opening b d ≡ false) same o) (subst (λ d. is_closing b d ≡ false) same h) (character p q i)
-with_character b c cs after o h e (nested i a p) = let same : c ≡ 47 = same_head e in character (subst (λ d. is_opening b d ≡ false) same o) (subst (λ d. is_closing b d ≡ false) same h) (nested i a p)
+with_character : (b c : ℕ) (cs after : List ℕ) {inside : List ℕ} → is_opening b c ≡ false → is_closing b c ≡ false
+    → c ∷ cs ≡ inside ++ after → IsInside inside → IsInside (b ∷ inside)
+with_character b c cs after o h e closing = let same : c ≡ 42 = same_head e in
+    character (subst (λ d. is_opening b d ≡ false) same o) (subst (λ d. is_closing b d ≡ false) same h) closing
+with_character b c cs after o h e (character {c = x} p q i) = let same : c ≡ x = same_head e in
+    character (subst (λ d. is_opening b d ≡ false) same o) (subst (λ d. is_closing b d ≡ false) same h) (character p q i)
+with_character b c cs after o h e (nested i a p) = let same : c ≡ 47 = same_head e in
+    character (subst (λ d. is_opening b d ≡ false) same o) (subst (λ d. is_closing b d ≡ false) same h) (nested i a p)
 
-one_more : {rest : List ℕ} {n : ℕ} (b c : ℕ) (cs : List ℕ) → is_opening b c ≡ false → is_closing b c ≡ false → Insides rest n (c ∷ cs) → Insides rest n (b ∷ c ∷ cs)
+one_more : {rest : List ℕ} {n : ℕ} (b c : ℕ) (cs : List ℕ) → is_opening b c ≡ false → is_closing b c ≡ false → Insides rest n (c ∷ cs)
+    → Insides rest n (b ∷ c ∷ cs)
 one_more {rest} b c cs o h (last i e) = last (with_character b c cs rest o h e i) (ap (λ (ds : List ℕ). b ∷ ds) e)
 one_more b c cs o h (more {after = after} i e l) = more (with_character b c cs after o h e i) (ap (λ (ds : List ℕ). b ∷ ds) e) l
 
-joined : {rest : List ℕ} {n : ℕ} (inside cs after : List ℕ) → IsInside inside → cs ≡ inside ++ after → Insides rest n after → Insides rest n (47 ∷ 42 ∷ cs)
-joined {rest} inside cs after i e (last {inside = second} j p) = last (nested i j refl) (ap (λ (ds : List ℕ). 47 ∷ 42 ∷ ds) (e ∙ (ap (λ (ds : List ℕ). inside ++ ds) p ∙ sym (append_assoc inside second rest))))
-joined inside cs after i e (more {inside = second} {after = later} j p l) = more (nested i j refl) (ap (λ (ds : List ℕ). 47 ∷ 42 ∷ ds) (e ∙ (ap (λ (ds : List ℕ). inside ++ ds) p ∙ sym (append_assoc inside second later)))) l
+joined : {rest : List ℕ} {n : ℕ} (inside cs after : List ℕ) → IsInside inside → cs ≡ inside ++ after → Insides rest n after
+    → Insides rest n (47 ∷ 42 ∷ cs)
+joined {rest} inside cs after i e (last {inside = second} j p) = last (nested i j refl)
+    (ap (λ (ds : List ℕ). 47 ∷ 42 ∷ ds) (e ∙ (ap (λ (ds : List ℕ). inside ++ ds) p ∙ sym (append_assoc inside second rest))))
+joined inside cs after i e (more {inside = second} {after = later} j p l) = more (nested i j refl)
+    (ap (λ (ds : List ℕ). 47 ∷ 42 ∷ ds) (e ∙ (ap (λ (ds : List ℕ). inside ++ ds) p ∙ sym (append_assoc inside second later)))) l
 
 opened : {rest : List ℕ} {n : ℕ} (cs : List ℕ) → Insides rest (suc n) cs → Insides rest n (47 ∷ 42 ∷ cs)
 opened cs (more {inside = inside} {after = after} i e l) = joined inside cs after i e l
 
-after_closing : {rest : List ℕ} (n : ℕ) (cs : List ℕ) → closed n cs ≡ Some rest → ((m : ℕ) → past_comment m forgotten cs ≡ Some rest → Insides rest m (32 ∷ cs)) → Insides rest n (42 ∷ 47 ∷ cs)
+after_closing : {rest : List ℕ} (n : ℕ) (cs : List ℕ) → closed n cs ≡ Some rest
+    → ((m : ℕ) → past_comment m forgotten cs ≡ Some rest → Insides rest m (32 ∷ cs)) → Insides rest n (42 ∷ 47 ∷ cs)
 after_closing zero cs e go = last closing (cc)
 after_closing (suc n) cs e go = more closing refl (forget_space cs (go n e))
 
@@ -99,7 +109,8 @@ passed (c ∷ cs) {rest} n b e =
       | false ↦ λ o. elim (is_closing b c) as (λ h. is_closing b c ≡ h → Insides rest n (b ∷ c ∷ cs)) [
         | true ↦ λ h.
             let parts = and_parts (nat_eq b 42) (nat_eq c 47) h in
-            rw (eqb-true b 42 parts.0, eqb-true c 47 parts.1) (after_closing n cs (sym (at_closing n b c cs o h) ∙ e) (λ m p. passed cs m 32 p))
+            rw (eqb-true b 42 parts.0, eqb-true c 47 parts.1)
+            (after_closing n cs (sym (at_closing n b c cs o h) ∙ e) (λ m p. passed cs m 32 p))
         | false ↦ λ h. one_more b c cs o h (passed cs n c (sym (at_other n b c cs o h) ∙ e))
       ] refl
     ] refl

@@ -40,20 +40,26 @@ not_true : (b : Bool) → not b ≡ true → b ≡ true → ⊥
 not_true true h k = absurd (cc)
 not_true false h k = absurd (cc)
 
-none_begins : (marks : List (List ℕ)) (mark : List ℕ) → list_all (λ later. not (starts_with nat_eq later mark)) marks ≡ true → (m : ℕ) (other : List ℕ) → slice_get marks m ≡ Some other → Begins other mark → ⊥
+none_begins : (marks : List (List ℕ)) (mark : List ℕ) → list_all (λ later. not (starts_with nat_eq later mark)) marks ≡ true
+    → (m : ℕ) (other : List ℕ) → slice_get marks m ≡ Some other → Begins other mark → ⊥
 none_begins [] mark h m other e b = absurd (cc)
 none_begins (later ∷ marks) mark h zero other e b =
     let same : later ≡ other = cc in
-    not_true (starts_with nat_eq later mark) (and_parts (not (starts_with nat_eq later mark)) (list_all (λ k. not (starts_with nat_eq k mark)) marks) h).0 (rw same b)
-none_begins (later ∷ marks) mark h (suc m) other e b = none_begins marks mark (and_parts (not (starts_with nat_eq later mark)) (list_all (λ k. not (starts_with nat_eq k mark)) marks) h).1 m other e b
+    not_true (starts_with nat_eq later mark)
+    (and_parts (not (starts_with nat_eq later mark)) (list_all (λ k. not (starts_with nat_eq k mark)) marks) h).0 (rw same b)
+none_begins (later ∷ marks) mark h (suc m) other e b = none_begins marks mark
+    (and_parts (not (starts_with nat_eq later mark)) (list_all (λ k. not (starts_with nat_eq k mark)) marks) h).1 m other e b
 
-apart : (marks : List (List ℕ)) → are_apart marks ≡ true → (k m : ℕ) (one other : List ℕ) → k < m → slice_get marks k ≡ Some one → slice_get marks m ≡ Some other → Begins other one → ⊥
+apart : (marks : List (List ℕ)) → are_apart marks ≡ true → (k m : ℕ) (one other : List ℕ) → k < m → slice_get marks k ≡ Some one
+    → slice_get marks m ≡ Some other → Begins other one → ⊥
 apart [] a k m one other l e f b = absurd (cc)
 apart (mark ∷ marks) a k zero one other l e f b = absurd (omega arith)
 apart (mark ∷ marks) a zero (suc m) one other l e f b =
     let same : mark ≡ one = cc in
-    none_begins marks mark (and_parts (list_all (λ later. not (starts_with nat_eq later mark)) marks) (are_apart marks) a).0 m other f (rw same b)
-apart (mark ∷ marks) a (suc k) (suc m) one other l e f b = apart marks (and_parts (list_all (λ later. not (starts_with nat_eq later mark)) marks) (are_apart marks) a).1 k m one other (omega arith) e f b
+    none_begins marks mark
+    (and_parts (list_all (λ later. not (starts_with nat_eq later mark)) marks) (are_apart marks) a).0 m other f (rw same b)
+apart (mark ∷ marks) a (suc k) (suc m) one other l e f b = apart marks
+    (and_parts (list_all (λ later. not (starts_with nat_eq later mark)) marks) (are_apart marks) a).1 k m one other (omega arith) e f b
 
 order : (k m : ℕ) → (k < m) ⊎ ((k ≡ m) ⊎ (m < k))
 order zero zero = inr (inl refl)
@@ -61,14 +67,17 @@ order zero (suc m) = inl (omega arith)
 order (suc k) zero = inr (inr (omega arith))
 order (suc k) (suc m) = elim (order k m) as (λ o. (suc k < suc m) ⊎ ((suc k ≡ suc m) ⊎ (suc m < suc k))) [
   | inl l ↦ inl (omega arith)
-  | inr o ↦ elim o as (λ o. (suc k < suc m) ⊎ ((suc k ≡ suc m) ⊎ (suc m < suc k))) [ inl e ↦ inr (inl (ap suc e)) | inr l ↦ inr (inr (omega arith)) ]
+  | inr o ↦ elim o
+      as (λ o. (suc k < suc m) ⊎ ((suc k ≡ suc m) ⊎ (suc m < suc k))) [ inl e ↦ inr (inl (ap suc e)) | inr l ↦ inr (inr (omega arith)) ]
 ]
 
 -- a mark that begins there has a place from the first one on, and is not longer
-not_longer : (cs : List ℕ) (n : ℕ) (piece : List ℕ) → mark_at cs ≡ Some n → slice_get spellings n ≡ Some piece → (m : ℕ) (other : List ℕ) → slice_get spellings m ≡ Some other → Begins cs other → (m ≡ n) ⊎ ((n < m) × (length other ≤ length piece))
+not_longer : (cs : List ℕ) (n : ℕ) (piece : List ℕ) → mark_at cs ≡ Some n → slice_get spellings n ≡ Some piece → (m : ℕ) (other : List ℕ)
+    → slice_get spellings m ≡ Some other → Begins cs other → (m ≡ n) ⊎ ((n < m) × (length other ≤ length piece))
 not_longer cs n piece e s m other f b = go (order m n)
   where
-    here : (n < length spellings) × (starts_with nat_eq cs (get_or spellings n []) ≡ true) × ((k : ℕ) → k < n → starts_with nat_eq cs (get_or spellings k []) ≡ false)
+    here : (n < length spellings) × (starts_with nat_eq cs (get_or spellings n []) ≡ true)
+        × ((k : ℕ) → k < n → starts_with nat_eq cs (get_or spellings k []) ≡ false)
     here = position-Some (λ (mark : List ℕ). starts_with nat_eq cs mark) spellings n [] e
 
     front : Begins cs piece
@@ -79,27 +88,33 @@ not_longer cs n piece e s m other f b = go (order m n)
     later l (inr k) = inr (l, k)
 
     lengths : (a b : ℕ) → (a < b) ⊎ (b ≤ a)
-    lengths a b = elim (order a b) as (λ o. (a < b) ⊎ (b ≤ a)) [ inl l ↦ inl l | inr o ↦ inr (elim o as (λ o. b ≤ a) [ inl e ↦ omega arith | inr l ↦ omega arith ]) ]
+    lengths a b = elim (order a b)
+        as (λ o. (a < b) ⊎ (b ≤ a)) [ inl l ↦ inl l | inr o ↦ inr (elim o as (λ o. b ≤ a) [ inl e ↦ omega arith | inr l ↦ omega arith ]) ]
 
     go : (m < n) ⊎ ((m ≡ n) ⊎ (n < m)) → (m ≡ n) ⊎ ((n < m) × (length other ≤ length piece))
-    go (inl l) = absurd (let no = here.2 m l in let yes = subst (λ (mark : List ℕ). Begins cs mark) (sym (get_or_from_slice_get spellings m other [] f)) b in cc)
+    go (inl l) = absurd (let no = here.2 m l in
+        let yes = subst (λ (mark : List ℕ). Begins cs mark) (sym (get_or_from_slice_get spellings m other [] f)) b in cc)
     go (inr (inl e)) = inl e
     go (inr (inr l)) = later l (lengths (length piece) (length other))
 
 -- ---- the mark
 
-pub first_is_longest : (n : ℕ) (piece rest : List ℕ) → slice_get spellings n ≡ Some piece → mark_at (piece ++ rest) ≡ Some n → IsMark n piece rest
+pub first_is_longest : (n : ℕ) (piece rest : List ℕ) → slice_get spellings n ≡ Some piece
+    → mark_at (piece ++ rest) ≡ Some n → IsMark n piece rest
 first_is_longest n piece rest s e = record { spelled = s; longest = longest }
   where
-    longest : (m : ℕ) (other after : List ℕ) → slice_get spellings m ≡ Some other → piece ++ rest ≡ other ++ after → length other ≤ length piece
+    longest : (m : ℕ) (other after : List ℕ) → slice_get spellings m ≡ Some other → piece ++ rest ≡ other ++ after
+        → length other ≤ length piece
     longest m other after f split = go (not_longer (piece ++ rest) n piece e s m other f (rw split (begins other after)))
       where
         go : (m ≡ n) ⊎ ((n < m) × (length other ≤ length piece)) → length other ≤ length piece
-        go (inl same) = let equal : Some other ≡ Some piece = sym f ∙ ap (slice_get spellings) same ∙ s in let is : other ≡ piece = cc in rw is (omega arith)
+        go (inl same) = let equal : Some other ≡ Some piece = sym f ∙ ap (slice_get spellings) same ∙ s in
+            let is : other ≡ piece = cc in rw is (omega arith)
         go (inr l) = l.1
 
 -- what passes is found
-passes_within : (p : List ℕ → Bool) (xs : List (List ℕ)) (n : ℕ) (x : List ℕ) → slice_get xs n ≡ Some x → p x ≡ true → position_or_len p xs < length xs
+passes_within : (p : List ℕ → Bool) (xs : List (List ℕ)) (n : ℕ) (x : List ℕ) → slice_get xs n ≡ Some x → p x ≡ true
+    → position_or_len p xs < length xs
 passes_within p [] n x e h = absurd (cc)
 passes_within p (y ∷ xs) zero x e h =
     let same : y ≡ x = cc in
@@ -109,7 +124,8 @@ passes_within p (y ∷ xs) (suc n) x e h =
     let later = passes_within p xs n x e h in
     elim (p y) as (λ b. cond (not b) (1 + position_or_len p xs) 0 < suc (length xs)) [ true ↦ omega arith | false ↦ omega arith ]
 
-passes_found : (p : List ℕ → Bool) (xs : List (List ℕ)) (n : ℕ) (x : List ℕ) → slice_get xs n ≡ Some x → p x ≡ true → position p xs ≡ Some (position_or_len p xs)
+passes_found : (p : List ℕ → Bool) (xs : List (List ℕ)) (n : ℕ) (x : List ℕ) → slice_get xs n ≡ Some x → p x ≡ true
+    → position p xs ≡ Some (position_or_len p xs)
 passes_found p xs n x e h =
     let l = passes_within p xs n x e h in
     let t : nat_lt (position_or_len p xs) (length xs) ≡ true = grind (arith, nat_tests) in
@@ -124,14 +140,17 @@ longest_is_first n piece rest mark = subst (λ m. mark_at (piece ++ rest) ≡ So
     found : mark_at (piece ++ rest) ≡ Some k
     found = passes_found (λ (m : List ℕ). starts_with nat_eq (piece ++ rest) m) spellings n piece mark.spelled (begins piece rest)
 
-    here : (k < length spellings) × (starts_with nat_eq (piece ++ rest) (get_or spellings k []) ≡ true) × ((j : ℕ) → j < k → starts_with nat_eq (piece ++ rest) (get_or spellings j []) ≡ false)
+    here : (k < length spellings) × (starts_with nat_eq (piece ++ rest) (get_or spellings k []) ≡ true)
+        × ((j : ℕ) → j < k → starts_with nat_eq (piece ++ rest) (get_or spellings j []) ≡ false)
     here = position-Some (λ (m : List ℕ). starts_with nat_eq (piece ++ rest) m) spellings k [] found
 
     at : slice_get spellings k ≡ Some (get_or spellings k [])
     at = slice_get-get_or spellings k [] here.0
 
     go : (n < k) ⊎ ((n ≡ k) ⊎ (k < n)) → n ≡ k
-    go (inl l) = absurd (let no = here.2 n l in let yes = subst (λ (m : List ℕ). Begins (piece ++ rest) m) (sym (get_or_from_slice_get spellings n piece [] mark.spelled)) (begins piece rest) in cc)
+    go (inl l) = absurd (let no = here.2 n l in let yes = subst (λ (m : List ℕ). Begins (piece ++ rest) m)
+        (sym (get_or_from_slice_get spellings n piece [] mark.spelled)) (begins piece rest) in cc)
     go (inr (inl e)) = e
     go (inr (inr l)) = absurd (apart spellings spellings_are_apart k n (get_or spellings k []) piece l at mark.spelled
-        (shorter (piece ++ rest) (get_or spellings k []) piece here.1 (begins piece rest) (mark.longest k (get_or spellings k []) (drop (length (get_or spellings k [])) (piece ++ rest)) at (starts-split (get_or spellings k []) (piece ++ rest) here.1))))
+        (shorter (piece ++ rest) (get_or spellings k []) piece here.1 (begins piece rest) (mark.longest k (get_or spellings k [])
+        (drop (length (get_or spellings k [])) (piece ++ rest)) at (starts-split (get_or spellings k []) (piece ++ rest) here.1))))

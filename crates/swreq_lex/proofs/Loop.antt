@@ -21,7 +21,8 @@ regroup : (xs : List Token) (t : Token) (r : Result (List Token) LexErr) → wit
 regroup xs t (Ok ts) = ap (λ (zs : List Token). Ok zs) (simp append_assoc)
 regroup xs t (Err e) = refl
 
-module _ (k n end : ℕ) (xs : List Token) (cs : List ℕ) (total : Result (List Token) LexErr) (z : k ≡ suc n) (so_far : with_front xs (read k end cs) ≡ total) where
+module _ (k n end : ℕ) (xs : List Token) (cs : List ℕ) (total : Result (List Token) LexErr) (z : k ≡ suc n)
+    (so_far : with_front xs (read k end cs) ≡ total) where
   opened : (f : Front) → front cs ≡ f → with_front xs (read_at f (read n end) end cs) ≡ total
   unfolding read
   opened f e = let one : read k end cs ≡ read_at f (read n end) end cs = rw (z, e) refl in rw (← one) so_far
@@ -29,11 +30,16 @@ module _ (k n end : ℕ) (xs : List Token) (cs : List ℕ) (total : Result (List
   pub on_gap : (rest : List ℕ) → front cs ≡ gap rest → with_front xs (read n end rest) ≡ total
   on_gap rest e = opened (gap rest) e
 
-  pub on_word : (bs : List ℕ) (a b : ℕ) (kd : TokenKind) (rest : List ℕ) → kd ≡ kind_of_bytes (take (a - b) bs) → encodes cs ≡ bs → byte_length cs ≡ a → byte_length rest ≡ b → front cs ≡ word rest → with_front (xs ++ record { kind = kd; start = end - a; end = end - b } ∷ []) (read n end rest) ≡ total
-  on_word bs a b kd rest s r p q e = rw (s, ← r, ← p, ← q) (sym (regroup xs (token_of (kind_of_bytes (word_bytes cs rest)) end cs rest) (read n end rest)) ∙ opened (word rest) e)
+  pub on_word : (bs : List ℕ) (a b : ℕ) (kd : TokenKind) (rest : List ℕ) → kd ≡ kind_of_bytes (take (a - b) bs)
+      → encodes cs ≡ bs → byte_length cs ≡ a → byte_length rest ≡ b → front cs ≡ word rest
+      → with_front (xs ++ record { kind = kd; start = end - a; end = end - b } ∷ []) (read n end rest) ≡ total
+  on_word bs a b kd rest s r p q e = rw (s, ← r, ← p, ← q)
+      (sym (regroup xs (token_of (kind_of_bytes (word_bytes cs rest)) end cs rest) (read n end rest)) ∙ opened (word rest) e)
 
-  pub on_mark : (a b m : ℕ) (rest : List ℕ) → byte_length cs ≡ a → byte_length rest ≡ b → front cs ≡ mark m rest → with_front (xs ++ record { kind = kinds.Mark m; start = end - a; end = end - b } ∷ []) (read n end rest) ≡ total
-  on_mark a b m rest p q e = rw (← p, ← q) (sym (regroup xs (token_of (kinds.Mark m) end cs rest) (read n end rest)) ∙ opened (mark m rest) e)
+  pub on_mark : (a b m : ℕ) (rest : List ℕ) → byte_length cs ≡ a → byte_length rest ≡ b → front cs ≡ mark m rest
+      → with_front (xs ++ record { kind = kinds.Mark m; start = end - a; end = end - b } ∷ []) (read n end rest) ≡ total
+  on_mark a b m rest p q e =
+      rw (← p, ← q) (sym (regroup xs (token_of (kinds.Mark m) end cs rest) (read n end rest)) ∙ opened (mark m rest) e)
 
   pub on_nothing : front cs ≡ nothing → total ≡ Ok xs
   on_nothing e = sym (opened nothing e) ∙ ap (λ (zs : List Token). Ok zs) (append-nil xs)
@@ -44,7 +50,8 @@ module _ (k n end : ℕ) (xs : List Token) (cs : List ℕ) (total : Result (List
   pub on_open : front cs ≡ open_comment → total ≡ Err (errors.OpenComment (offset end cs))
   on_open e = sym (opened open_comment e)
 
-pub on_last : (k end : ℕ) (xs : List Token) (cs : List ℕ) (total : Result (List Token) LexErr) → k ≡ 0 → with_front xs (read k end cs) ≡ total → total ≡ Ok xs
+pub on_last : (k end : ℕ) (xs : List Token) (cs : List ℕ) (total : Result (List Token) LexErr) → k ≡ 0
+    → with_front xs (read k end cs) ≡ total → total ≡ Ok xs
 unfolding read
 on_last k end xs cs total z so_far = sym so_far ∙ rw z (ap (λ (zs : List Token). Ok zs) (append-nil xs))
 

@@ -29,7 +29,8 @@ unfolding past
 past_run test [] [] r = refl
 past_run test [] (c ∷ cs) r = rw r.ended refl
 past_run test (d ∷ ds) rest r =
-    rw (All-head (λ c. test c ≡ true) d ds r.passes) (past_run test ds rest (record { passes = All-tail (λ c. test c ≡ true) d ds r.passes; ended = r.ended }))
+    rw (All-head (λ c. test c ≡ true) d ds r.passes)
+    (past_run test ds rest (record { passes = All-tail (λ c. test c ≡ true) d ds r.passes; ended = r.ended }))
 
 -- the run before what is left
 pub record Run (test : ℕ → Bool) (cs : List ℕ) : Type 0 where
@@ -47,7 +48,8 @@ run_of test (c ∷ cs) = elim (test c) as (λ t. test c ≡ t → Run test (c �
       record {
         run = c ∷ later.run;
         is = rw left (ap (λ (ds : List ℕ). c ∷ ds) later.is);
-        longest = rw left (record { passes = All-cons (λ d. test d ≡ true) c later.run h later.longest.passes; ended = later.longest.ended });
+        longest =
+            rw left (record { passes = All-cons (λ d. test d ≡ true) c later.run h later.longest.passes; ended = later.longest.ended });
       }
   | false ↦ λ h.
       let left : past test (c ∷ cs) ≡ c ∷ cs = rw h refl in
@@ -74,7 +76,8 @@ begins_mark (c ∷ cs) = nat_lt c 128 && (not (is_white_space c) && (not (is_asc
 each_begins_mark : list_all begins_mark spellings ≡ true
 each_begins_mark = refl
 
-pub test_at : (test : List ℕ → Bool) (xs : List (List ℕ)) (n : ℕ) (x : List ℕ) → slice_get xs n ≡ Some x → list_all test xs ≡ true → test x ≡ true
+pub test_at : (test : List ℕ → Bool) (xs : List (List ℕ)) (n : ℕ) (x : List ℕ) → slice_get xs n ≡ Some x
+    → list_all test xs ≡ true → test x ≡ true
 test_at test [] n x e h = absurd (cc)
 test_at test (y ∷ ys) zero x e h = let same : y ≡ x = cc in rw (← same) (and_parts (test y) (list_all test ys) h).0
 test_at test (y ∷ ys) (suc n) x e h = test_at test ys n x e (and_parts (test y) (list_all test ys) h).1
@@ -124,17 +127,20 @@ front_comment cs = front_slash (42 ∷ cs)
 front_word : (c : ℕ) (cs rest : List ℕ) → starts_word c ≡ true → IsLongestRun continues_word cs rest → front (c ∷ (cs ++ rest)) ≡ word rest
 unfolding front
 front_word c cs rest s r =
-    let white : is_white_space c ≡ false = elim (is_white_space c) as (λ b. is_white_space c ≡ b → b ≡ false) [ true ↦ λ h. absurd (let k = white_is_no_word c h in cc) | false ↦ λ h. refl ] refl in
+    let white : is_white_space c ≡ false = elim (is_white_space c)
+    as (λ b. is_white_space c ≡ b → b ≡ false) [ true ↦ λ h. absurd (let k = white_is_no_word c h in cc) | false ↦ λ h. refl ] refl in
     rw (white, s) (ap (λ (ds : List ℕ). word ds) (past_run continues_word cs rest r))
 
-front_other : (c : ℕ) (cs : List ℕ) → is_white_space c ≡ false → starts_word c ≡ false → nat_eq c 47 ≡ false → front (c ∷ cs) ≡ at_mark (mark_at (c ∷ cs)) (c ∷ cs)
+front_other : (c : ℕ) (cs : List ℕ) → is_white_space c ≡ false → starts_word c ≡ false → nat_eq c 47 ≡ false
+    → front (c ∷ cs) ≡ at_mark (mark_at (c ∷ cs)) (c ∷ cs)
 unfolding front
 front_other c cs w s k = rw (w, s, k) refl
 
 pub front_gap : (cs piece rest : List ℕ) → cs ≡ piece ++ rest → IsGap piece rest → front cs ≡ gap rest
 front_gap cs piece rest e (pieces.white_space {c} h) = rw e (front_white c rest h)
 front_gap cs piece rest e (pieces.line_comment (comments.line_comment {line} r)) = rw e (front_line line rest r)
-front_gap cs piece rest e (pieces.comment (comments.comment {inside} i)) = rw e (front_comment (inside ++ rest) ∙ ap after_comment (passes i 0 rest))
+front_gap cs piece rest e (pieces.comment (comments.comment {inside} i)) =
+    rw e (front_comment (inside ++ rest) ∙ ap after_comment (passes i 0 rest))
 
 pub front_of_word : (cs piece rest : List ℕ) → cs ≡ piece ++ rest → words.IsWord piece rest → front cs ≡ word rest
 front_of_word cs piece rest e (words.word {c} {cs = ds} s r) = rw e (front_word c ds rest s r)
@@ -143,9 +149,11 @@ pub front_of_mark : (n : ℕ) (cs piece rest : List ℕ) → cs ≡ piece ++ res
 front_of_mark n cs [] rest e m = absurd (let k = test_at begins_mark spellings n [] m.spelled each_begins_mark in cc)
 front_of_mark n cs (c ∷ ds) rest e m =
     let h = head_of_mark c ds (test_at begins_mark spellings n (c ∷ ds) m.spelled each_begins_mark) in
-    let found = front_other c (ds ++ rest) h.not_white h.not_word h.not_slash ∙ ap (λ (o : Option ℕ). at_mark o (c ∷ (ds ++ rest))) (longest_is_first n (c ∷ ds) rest m) in
+    let found = front_other c (ds ++ rest) h.not_white h.not_word h.not_slash
+    ∙ ap (λ (o : Option ℕ). at_mark o (c ∷ (ds ++ rest))) (longest_is_first n (c ∷ ds) rest m) in
     let spelled : unwrap_or (slice_get spellings n) [] ≡ c ∷ ds = ap (λ (o : Option (List ℕ)). unwrap_or o []) m.spelled in
-    rw e (found ∙ ap (λ (ds : List ℕ). mark n ds) (ap (λ (m : List ℕ). drop (length m) (c ∷ (ds ++ rest))) spelled ∙ drop-append_seam (c ∷ ds) rest))
+    rw e (found
+    ∙ ap (λ (ds : List ℕ). mark n ds) (ap (λ (m : List ℕ). drop (length m) (c ∷ (ds ++ rest))) spelled ∙ drop-append_seam (c ∷ ds) rest))
 
 pub mark_has_character : (n : ℕ) (piece rest : List ℕ) → IsMark n piece rest → 0 < length piece
 mark_has_character n [] rest m = absurd (let k = test_at begins_mark spellings n [] m.spelled each_begins_mark in cc)
@@ -176,7 +184,8 @@ unfolding after_slash
 shown_slash [] = λ e. cc
 shown_slash (c ∷ cs) =
     shown_if (47 ∷ c ∷ cs) (nat_eq c 47) (gap (past continues_line cs)) _
-    (λ h. let r = run_of continues_line cs in rw (eqb-true c 47 h) (47 ∷ 47 ∷ r.run, ap (λ (ds : List ℕ). 47 ∷ 47 ∷ ds) r.is, pieces.line_comment (comments.line_comment r.longest)))
+    (λ h. let r = run_of continues_line cs in
+    rw (eqb-true c 47 h) (47 ∷ 47 ∷ r.run, ap (λ (ds : List ℕ). 47 ∷ 47 ∷ ds) r.is, pieces.line_comment (comments.line_comment r.longest)))
     (λ k. shown_if (47 ∷ c ∷ cs) (nat_eq c 42) (after_comment (past_comment 0 forgotten cs)) bad_character
     (λ h. rw (eqb-true c 42 h) (shown_comment cs (past_comment 0 forgotten cs) refl))
     (λ h e. cc))
@@ -186,10 +195,15 @@ shown_mark c cs None e = λ h. cc
 shown_mark c cs (Some n) e =
     let p = position-Some (λ (m : List ℕ). starts_with nat_eq (c ∷ cs) m) spellings n [] e in
     let spelled : slice_get spellings n ≡ Some (get_or spellings n []) = slice_get-get_or spellings n [] p.0 in
-    let split : c ∷ cs ≡ get_or spellings n [] ++ drop (length (get_or spellings n [])) (c ∷ cs) = starts-split (get_or spellings n []) (c ∷ cs) p.1 in
+    let split : c ∷ cs ≡ get_or spellings n [] ++ drop (length (get_or spellings n [])) (c ∷ cs) =
+    starts-split (get_or spellings n []) (c ∷ cs) p.1 in
     let same : unwrap_or (slice_get spellings n) [] ≡ get_or spellings n [] = ap (λ (o : Option (List ℕ)). unwrap_or o []) spelled in
-    subst (λ (m : List ℕ). Shown (c ∷ cs) (mark n (drop (length m) (c ∷ cs)))) (sym same)
-    (get_or spellings n [], split, first_is_longest n (get_or spellings n []) (drop (length (get_or spellings n [])) (c ∷ cs)) spelled (subst (λ (ds : List ℕ). mark_at ds ≡ Some n) split e))
+    subst (λ (m : List ℕ). Shown (c ∷ cs) (mark n (drop (length m) (c ∷ cs)))) (sym same) (
+      get_or spellings n [],
+      split,
+      first_is_longest n (get_or spellings n []) (drop (length (get_or spellings n [])) (c ∷ cs)) spelled
+          (subst (λ (ds : List ℕ). mark_at ds ≡ Some n) split e),
+    )
 
 pub shown : (cs : List ℕ) → Shown cs (front cs)
 unfolding front
@@ -204,7 +218,8 @@ shown (c ∷ cs) =
 
 -- ---- faults
 
-no_token_at : (cs : List ℕ) (f : Front) → front cs ≡ f → (kind : TokenKind) (piece rest : List ℕ) → cs ≡ piece ++ rest → IsToken kind piece rest → (f ≡ word rest) ⊎ ((n : ℕ) × (f ≡ mark n rest))
+no_token_at : (cs : List ℕ) (f : Front) → front cs ≡ f → (kind : TokenKind) (piece rest : List ℕ) → cs ≡ piece ++ rest
+    → IsToken kind piece rest → (f ≡ word rest) ⊎ ((n : ℕ) × (f ≡ mark n rest))
 no_token_at cs f e kind piece rest p (pieces.word w) = inl (sym e ∙ front_of_word cs piece rest p w)
 no_token_at cs f e kind piece rest p (pieces.mark {n} m) = inr (n, sym e ∙ front_of_mark n cs piece rest p m)
 

@@ -19,7 +19,8 @@ use Rattle.swreq_lex.proofs.ReadLemmas.{Outcome, outcome, tokens_read, bad_chara
 
 starts_after_mark : (cs : List ℕ) → first_offset cs + byte_length (after_byte_order_mark cs) ≡ byte_length cs
 starts_after_mark [] = refl
-starts_after_mark (c ∷ cs) = elim (is_byte_order_mark c) as (λ b. cond b (len_utf8 c) 0 + byte_length (cond b cs (c ∷ cs)) ≡ byte_length (c ∷ cs)) [ true ↦ refl | false ↦ omega arith ]
+starts_after_mark (c ∷ cs) = elim (is_byte_order_mark c)
+    as (λ b. cond b (len_utf8 c) 0 + byte_length (cond b cs (c ∷ cs)) ≡ byte_length (c ∷ cs)) [ true ↦ refl | false ↦ omega arith ]
 
 no_more_characters : (bs : List ℕ) → IsUtf8 bs → length (chars bs) ≤ length bs
 no_more_characters bs u = subst (λ (zs : List ℕ). length (chars bs) ≤ length zs) (encodes-chars bs u) (length-le-encodes (chars bs))
@@ -34,10 +35,11 @@ module _ (text : List ℕ) (from : ℕ) (within : from ≤ length text) where
   read_of n = read n (length text) read_chars
 
   pub begins : IsUtf8 (drop from text) → begin_from text from + byte_length read_chars ≡ length text
-  begins u = elim from as (λ k. k ≤ length text → IsUtf8 (drop k text) → begin_from text k + byte_length (characters_from text k) ≡ length text) [
-    | zero ↦ λ _ v. starts_after_mark (chars text) ∙ byte_length_chars text v
-    | suc k ↦ λ l v. let b = byte_length_chars (drop (suc k) text) v in let d = length-drop (suc k) text in omega arith
-  ] within u
+  begins u =
+      elim from as (λ k. k ≤ length text → IsUtf8 (drop k text) → begin_from text k + byte_length (characters_from text k) ≡ length text) [
+        | zero ↦ λ _ v. starts_after_mark (chars text) ∙ byte_length_chars text v
+        | suc k ↦ λ l v. let b = byte_length_chars (drop (suc k) text) v in let d = length-drop (suc k) text in omega arith
+      ] within u
 
   -- ---- what the text has is read
 
@@ -56,10 +58,13 @@ module _ (text : List ℕ) (from : ℕ) (within : from ≤ length text) where
   Has (Ok ts) = HasTokensFrom text from ts
   Has (Err e) = HasRefusalFrom text from e
 
-  has_outcome : IsUtf8 (drop from text) → (r : Result (List Token) LexErr) → Outcome (length text) (begin_from text from) read_chars r → Has r
+  has_outcome : IsUtf8 (drop from text) → (r : Result (List Token) LexErr)
+      → Outcome (length text) (begin_from text from) read_chars r → Has r
   has_outcome u (Ok ts) o = record { utf8 = u; reads = o }
-  has_outcome u (Err (errors.BadCharacter at)) o = record { tokens = o.tokens; left = o.left; before = record { utf8 = u; reads = o.before }; fault = o.fault }
-  has_outcome u (Err (errors.OpenComment at)) o = record { tokens = o.tokens; left = o.left; before = record { utf8 = u; reads = o.before }; fault = o.fault }
+  has_outcome u (Err (errors.BadCharacter at)) o =
+      record { tokens = o.tokens; left = o.left; before = record { utf8 = u; reads = o.before }; fault = o.fault }
+  has_outcome u (Err (errors.OpenComment at)) o =
+      record { tokens = o.tokens; left = o.left; before = record { utf8 = u; reads = o.before }; fault = o.fault }
   has_outcome u (Err (errors.NotUtf8 at)) o = absurd o
   has_outcome u (Err errors.Memory) o = absurd o
 
@@ -80,8 +85,10 @@ module _ (text : List ℕ) (from : ℕ) (within : from ≤ length text) where
 
   pub some_reading_from : ((ts : List Token) × HasTokensFrom text from ts) ⊎ ((e : LexErr) × HasRefusalFrom text from e)
   some_reading_from = elim (is_utf8 (drop from text)) as (λ b. is_utf8 (drop from text) ≡ b → some_read) [
-    | true ↦ λ h. let u = IsUtf8-from_is_utf8 (drop from text) h in either (read_of (length read_chars)) (has_what_is_read (length read_chars) u whole)
-    | false ↦ λ h. inr (errors.NotUtf8 (from + utf8_valid_len (drop from text)), (λ u. let k = is_utf8-from_IsUtf8 (drop from text) u in cc, refl))
+    | true ↦ λ h. let u = IsUtf8-from_is_utf8 (drop from text) h in
+        either (read_of (length read_chars)) (has_what_is_read (length read_chars) u whole)
+    | false ↦ λ h.
+        inr (errors.NotUtf8 (from + utf8_valid_len (drop from text)), (λ u. let k = is_utf8-from_IsUtf8 (drop from text) u in cc, refl))
   ] refl
 
   pub one_list_from : (ts us : List Token) → HasTokensFrom text from ts → HasTokensFrom text from us → ts ≡ us
@@ -99,7 +106,8 @@ module _ (text : List ℕ) (from : ℕ) (within : from ≤ length text) where
       cc
 
   -- what is refused at a place in it is UTF-8
-  utf8_by : (e : LexErr) → HasRefusalFrom text from e → IsUtf8 (drop from text) ⊎ (e ≡ errors.NotUtf8 (from + utf8_valid_len (drop from text)))
+  utf8_by : (e : LexErr) → HasRefusalFrom text from e
+      → IsUtf8 (drop from text) ⊎ (e ≡ errors.NotUtf8 (from + utf8_valid_len (drop from text)))
   utf8_by (errors.NotUtf8 at) h = inr (ap (λ (k : ℕ). errors.NotUtf8 k) h.1)
   utf8_by (errors.BadCharacter at) h = inl h.before.utf8
   utf8_by (errors.OpenComment at) h = inl h.before.utf8
@@ -167,19 +175,25 @@ module _ (text : List ℕ) (from : ℕ) (within : from ≤ length text) (rest : 
   err_has_refusal (Err (errors.BadCharacter at)) a = inr (subst had a has)
   err_has_refusal (Err (errors.OpenComment at)) a = inr (subst had a has)
 
-  has_tokens_ok : (r : Result (Vec Token) LexErr) → Answers r is_read → (ts : List Token) → HasTokensFrom text from ts → MatchResult r (λ found. found.items ≡ ts) (λ e. e ≡ errors.Memory)
+  has_tokens_ok : (r : Result (Vec Token) LexErr) → Answers r is_read → (ts : List Token) → HasTokensFrom text from ts
+      → MatchResult r (λ found. found.items ≡ ts) (λ e. e ≡ errors.Memory)
   has_tokens_ok (Ok found) a ts h = let k = tokens_read_of text from within ts (length rest) h enough in cc
   has_tokens_ok (Err errors.Memory) a ts h = refl
   has_tokens_ok (Err (errors.NotUtf8 at)) a ts h = absurd (let k = tokens_read_of text from within ts (length rest) h enough in cc)
   has_tokens_ok (Err (errors.BadCharacter at)) a ts h = absurd (let k = tokens_read_of text from within ts (length rest) h enough in cc)
   has_tokens_ok (Err (errors.OpenComment at)) a ts h = absurd (let k = tokens_read_of text from within ts (length rest) h enough in cc)
 
-  has_refusal_err : (r : Result (Vec Token) LexErr) → Answers r is_read → (refused : LexErr) → HasRefusalFrom text from refused → MatchResult r (λ _. ⊥) (λ e. (e ≡ errors.Memory) ⊎ (e ≡ refused))
+  has_refusal_err : (r : Result (Vec Token) LexErr) → Answers r is_read → (refused : LexErr) → HasRefusalFrom text from refused
+      → MatchResult r (λ _. ⊥) (λ e. (e ≡ errors.Memory) ⊎ (e ≡ refused))
   has_refusal_err (Ok found) a refused h = let k = refusal_read_of text from within refused (length rest) u h enough in cc
   has_refusal_err (Err errors.Memory) a refused h = inl refl
-  has_refusal_err (Err (errors.NotUtf8 at)) a refused h = inr (let k = refusal_read_of text from within refused (length rest) u h enough in cc)
-  has_refusal_err (Err (errors.BadCharacter at)) a refused h = inr (let k = refusal_read_of text from within refused (length rest) u h enough in cc)
-  has_refusal_err (Err (errors.OpenComment at)) a refused h = inr (let k = refusal_read_of text from within refused (length rest) u h enough in cc)
+  has_refusal_err (Err (errors.NotUtf8 at)) a refused h =
+      inr (let k = refusal_read_of text from within refused (length rest) u h enough in cc)
+  has_refusal_err (Err (errors.BadCharacter at)) a refused h =
+      inr (let k = refusal_read_of text from within refused (length rest) u h enough in cc)
+  has_refusal_err (Err (errors.OpenComment at)) a refused h =
+      inr (let k = refusal_read_of text from within refused (length rest) u h enough in cc)
 
   pub is_right : (r : Result (Vec Token) LexErr) → Answers r (read (length rest) (length text) (chars rest)) → IsRight text from r
-  is_right r a = let b = answered r a in record { ok = ok_has_tokens r b; err = err_has_refusal r b; tokens = has_tokens_ok r b; refusal = has_refusal_err r b }
+  is_right r a = let b = answered r a in
+      record { ok = ok_has_tokens r b; err = err_has_refusal r b; tokens = has_tokens_ok r b; refusal = has_refusal_err r b }

@@ -18,7 +18,8 @@ seen fronts.OpenComment = reader.open_comment
 
 -- the first of the marks that the characters begin with is found, and what is left after it
 abbrev pub FindsMark : List (List ℕ) → List ℕ → Option (ℕ × Bor (List ℕ)) → Type 0
-FindsMark marks cs found = MatchOption found (first_at marks cs ≡ None) (λ x. (first_at marks cs ≡ Some x.0) × (chars x.1.now ≡ reader.past_mark marks x.0 cs))
+FindsMark marks cs found =
+    MatchOption found (first_at marks cs ≡ None) (λ x. (first_at marks cs ≡ Some x.0) × (chars x.1.now ≡ reader.past_mark marks x.0 cs))
 
 -- what is left after it has at most this many bytes
 abbrev pub IsWithin : Front → ℕ → Type 0

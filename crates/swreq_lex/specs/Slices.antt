@@ -39,4 +39,5 @@ IsSpelled (kinds.Mark n) bytes = slice_get spellings n ≡ Some bytes
 -- after the last, there are white space and comments alone.
 pub data AreSlices (text : List ℕ) : ℕ → List Token → Type 0 where
   last : {from : ℕ} → from ≤ length text → IsBetween (slice_range text from (length text)) → AreSlices text from []
-  next : {from : ℕ} {t : Token} {ts : List Token} → from ≤ t.start → t.start < t.end → t.end ≤ length text → IsBetween (slice_range text from t.start) → IsSpelled t.kind (slice_range text t.start t.end) → AreSlices text t.end ts → AreSlices text from (t ∷ ts)
+  next : {from : ℕ} {t : Token} {ts : List Token} → from ≤ t.start → t.start < t.end → t.end ≤ length text → IsBetween (slice_range text
+      from t.start) → IsSpelled t.kind (slice_range text t.start t.end) → AreSlices text t.end ts → AreSlices text from (t ∷ ts)

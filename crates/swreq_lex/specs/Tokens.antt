@@ -25,8 +25,10 @@ pub data IsToken : TokenKind → List ℕ → List ℕ → Type 0 where
 -- which `left` is left.
 pub data Reads (to : ℕ) (left : List ℕ) : ℕ → List ℕ → List Token → Type 0 where
   done : Reads to left to left []
-  gap : {at : ℕ} {cs piece rest : List ℕ} {ts : List Token} → cs ≡ piece ++ rest → IsGap piece rest → Reads to left (at + byte_length piece) rest ts → Reads to left at cs ts
-  token : {at : ℕ} {cs piece rest : List ℕ} {kind : TokenKind} {ts : List Token} → cs ≡ piece ++ rest → IsToken kind piece rest → Reads to left (at + byte_length piece) rest ts → Reads to left at cs (record { kind = kind; start = at; end = at + byte_length piece } ∷ ts)
+  gap : {at : ℕ} {cs piece rest : List ℕ} {ts : List Token} → cs ≡ piece ++ rest → IsGap piece rest
+      → Reads to left (at + byte_length piece) rest ts → Reads to left at cs ts
+  token : {at : ℕ} {cs piece rest : List ℕ} {kind : TokenKind} {ts : List Token} → cs ≡ piece ++ rest → IsToken kind piece rest → Reads to
+      left (at + byte_length piece) rest ts → Reads to left at cs (record { kind = kind; start = at; end = at + byte_length piece } ∷ ts)
 
 -- A byte order mark at the very front is skipped: the characters after it, and their offset.
 abbrev pub after_byte_order_mark : List ℕ → List ℕ

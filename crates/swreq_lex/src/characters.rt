@@ -8,7 +8,8 @@ ghost use Rattle.swreq_lex.specs.Tokens.{after_byte_order_mark};
 
 /// The first character, and what is left after it.
 pub fn first(text: &str) -> Option<(char, &str)>
-    ensures chars { MatchOption result (chars text.now ≡ []) (λ x. chars text.now ≡ x.0 ∷ chars x.1.now) }
+    ensures chars { MatchOption result (chars text.now ≡ [])
+        (λ x. chars text.now ≡ x.0 ∷ chars x.1.now) }
     ensures len { IfSome result (λ x. length text.now ≡ len_utf8 x.0 + length x.1.now) }
 {
     let mut left = text.chars();

@@ -29,7 +29,8 @@ pub fn past_line(text: &str) -> &str
 /// What is left after the end of a comment, from inside it, or `None` where it is never closed.
 #[tactic(auto, unfolding(crate::specs::Reader::past_comment))]
 pub fn past_comment(text: &str) -> Option<&str>
-    ensures chars { MatchOption result (past_comment 0 forgotten (chars text.now) ≡ None) (λ x. past_comment 0 forgotten (chars text.now) ≡ Some (chars x.now)) }
+    ensures chars { MatchOption result (past_comment 0 forgotten (chars text.now) ≡ None)
+        (λ x. past_comment 0 forgotten (chars text.now) ≡ Some (chars x.now)) }
     ensures len { IfSome result (λ x. length x.now ≤ length text.now) }
 {
     let mut rest = text;

@@ -63,7 +63,8 @@ pub fn tokens_from(alloc: Global, text: &[u8], from: u32) -> Result<Vec<Token>, 
 
 /// What there is to read of a text that goes on like this from an offset on.
 fn to_read(rest: &str, from: u32) -> &str
-    ensures chars { (text : List ℕ) → rest.now ≡ drop from text → chars result.now ≡ characters_from text from }
+    ensures chars { (text : List ℕ) → rest.now ≡ drop from text
+        → chars result.now ≡ characters_from text from }
     ensures len { length result.now ≤ length rest.now }
 {
     match from {

@@ -23,7 +23,8 @@ use Rattle.swreq_lexicon.proofs.Positions.{rank_of_there}
 use Rattle.swreq_rank.proofs.Rising.{rising_from_sorted}
 
 module _ {A B : Type 0} (f : A → List B) where
-  pub same_sizes : {C : Type 0} (g : A → List C) → ((x : A) → length (f x) ≡ length (g x)) → (xs : List A) → length (flat_map f xs) ≡ length (flat_map g xs)
+  pub same_sizes : {C : Type 0} (g : A → List C) → ((x : A) → length (f x) ≡ length (g x)) → (xs : List A)
+      → length (flat_map f xs) ≡ length (flat_map g xs)
   same_sizes g same [] = refl
   same_sizes g same (z ∷ zs) =
       ap length (flat_map-cons f z zs) ∙ length-append (f z) (flat_map f zs)
@@ -39,23 +40,29 @@ module _ (text : Bytes) (s : Skeleton) (protocols ranking : List Bytes) where
   abbrev pub declared_name : ProtocolDecl → AssocDecl → ProtocolName
   declared_name p m = pair (proto_by protocols (word text p.name)) (name_by ranking (word text m.name))
 
-  mentions : (p : ProtocolDecl) (m : AssocDecl) → Contains s.protocols p → Contains p.members m → Contains (mentioned text s) (word text m.name)
+  mentions : (p : ProtocolDecl) (m : AssocDecl) → Contains s.protocols p → Contains p.members m
+      → Contains (mentioned text s) (word text m.name)
   mentions p m c d =
       let w = word text m.name in
       Contains-append_left (flat_map (names.declared_by text) s.protocols) (flat_map (λ t. names.members_in text t.1) (types s)) w
       (in_pieces (names.declared_by text) s.protocols p w c (contains_map (λ (n : AssocDecl). word text n.name) p.members m d))
 
-  rank_within : IsRanking bytes_cmp (Contains (mentioned text s)) ranking → (w : Bytes) → Contains (mentioned text s) w → rank ranking w < length ranking
+  rank_within : IsRanking bytes_cmp (Contains (mentioned text s)) ranking → (w : Bytes) → Contains (mentioned text s) w
+      → rank ranking w < length ranking
   rank_within are w c =
       let h = (are.same w).1 c in
-      let e = rank_of_there ranking w h.0 (rising_from_sorted bytes_cmp ranking are.sorted) (slice_get-get_or ranking h.0 w h.1 ∙ ap Some h.2) in
+      let e =
+      rank_of_there ranking w h.0 (rising_from_sorted bytes_cmp ranking are.sorted) (slice_get-get_or ranking h.0 w h.1 ∙ ap Some h.2) in
       subst (λ r. r < length ranking) e h.1
 
-  pub named_within : IsRanking bytes_cmp (Contains (mentioned text s)) ranking → (d : ProtocolName) → Contains (declared_in text protocols ranking s.protocols) d → d.name.rank < length ranking
+  pub named_within : IsRanking bytes_cmp (Contains (mentioned text s)) ranking → (d : ProtocolName)
+      → Contains (declared_in text protocols ranking s.protocols) d → d.name.rank < length ranking
   named_within are d c =
       let p = from_pieces (declared_by text protocols ranking) s.protocols d c in
       let m = key_of (declared_name p.0) any p.0.members d p.2 in
       subst (λ (e : ProtocolName). e.name.rank < length ranking) m.2 (rank_within are (word text m.0.name) (mentions p.0 m.0 p.1 m.1))
 
-  pub declared_length : length (declared_in text protocols ranking s.protocols) ≡ length (flat_map (λ (p : ProtocolDecl). p.members) s.protocols)
-  declared_length = same_sizes (declared_by text protocols ranking) (λ (p : ProtocolDecl). p.members) (λ p. length-map p.members (declared_name p)) s.protocols
+  pub declared_length : length (declared_in text protocols ranking s.protocols)
+      ≡ length (flat_map (λ (p : ProtocolDecl). p.members) s.protocols)
+  declared_length = same_sizes (declared_by text protocols ranking) (λ (p : ProtocolDecl). p.members)
+      (λ p. length-map p.members (declared_name p)) s.protocols

@@ -23,7 +23,8 @@ none_passes test none (x ∷ xs) = (λ i. none x i || list_any test xs) ∙ none
 
 -- ---- what they say of a name
 
-module _ (associated : List ProtocolName) (lists : List (List ProtoId)) (are : AreDeclarers associated lists) (g : ProtoId → Bool) (a : NameId) where
+module _ (associated : List ProtocolName) (lists : List (List ProtoId)) (are : AreDeclarers associated lists)
+    (g : ProtoId → Bool) (a : NameId) where
   abbrev declared : ProtocolName → Bool
   declared d = nat_eq a.rank d.name.rank && g d.proto
 
@@ -37,7 +38,8 @@ module _ (associated : List ProtocolName) (lists : List (List ProtoId)) (are : A
       let s = some_passes declared associated e in
       let d = s.0 in
       let n = eqb-true a.rank d.name.rank ((and_parts (nat_eq a.rank d.name.rank) (g d.proto) s.2).0) in
-      passes g (get_or lists a.rank []) d.proto ((are d.proto a).1 (subst (λ x. Contains associated x) (sym (same_name a d n)) s.1)) ((and_parts (nat_eq a.rank d.name.rank) (g d.proto) s.2).1)
+      passes g (get_or lists a.rank []) d.proto ((are d.proto a).1 (subst (λ x. Contains associated x) (sym (same_name a d n)) s.1))
+      ((and_parts (nat_eq a.rank d.name.rank) (g d.proto) s.2).1)
 
   -- whether some protocol that declares the name passes the test, by the lists and by the associated types
   pub any_declarer : list_any g (get_or lists a.rank []) ≡ list_any declared associated
@@ -45,7 +47,8 @@ module _ (associated : List ProtocolName) (lists : List (List ProtoId)) (are : A
 
 -- ---- how they grow
 
-module _ (pairs : List ProtocolName) (i : ℕ) (d : ProtocolName) (lists : List (List ProtoId)) (within : i < length pairs) (is : d ≡ get_or pairs i d) (room : d.name.rank < length lists)
+module _ (pairs : List ProtocolName) (i : ℕ) (d : ProtocolName) (lists : List (List ProtoId)) (within : i < length pairs)
+    (is : d ≡ get_or pairs i d) (room : d.name.rank < length lists)
     (are : AreDeclarers (take i pairs) lists) where
   more : take (i + 1) pairs ≡ take i pairs ++ d ∷ []
   more = take_more pairs i d within ∙ ap (λ x. take i pairs ++ x ∷ []) (sym is)
@@ -55,27 +58,33 @@ module _ (pairs : List ProtocolName) (i : ℕ) (d : ProtocolName) (lists : List 
     λ c.
         subst (λ xs. Contains xs (pair p a)) (sym more)
         (⊎_elim (λ h. Contains-append_left (take i pairs) (d ∷ []) (pair p a) ((are p a).0 h))
-        (λ s. subst (λ x. Contains (take i pairs ++ d ∷ []) x) (sym (same_name a d s.0) ∙ ap (λ q. pair q a) (sym s.1)) (Contains-push (take i pairs) d))
+        (λ s. subst (λ x. Contains (take i pairs ++ d ∷ []) x) (sym (same_name a d s.0) ∙ ap (λ q. pair q a) (sym s.1))
+        (Contains-push (take i pairs) d))
         ((both p a).0 c)),
     λ c.
         (both p a).1
-        (⊎_elim (λ h. inl ((are p a).1 h)) (λ s. inr (ap (λ (x : ProtocolName). x.name.rank) (sym s), ap (λ (x : ProtocolName). x.proto) (sym s)))
+        (⊎_elim (λ h. inl ((are p a).1 h))
+        (λ s. inr (ap (λ (x : ProtocolName). x.name.rank) (sym s), ap (λ (x : ProtocolName). x.proto) (sym s)))
         (Contains-push_cases (take i pairs) d (pair p a) (subst (λ xs. Contains xs (pair p a)) more c))),
   )
     where
       both : (p : ProtoId) (a : NameId)
-          → Contains (get_or (with_item lists d.name.rank d.proto) a.rank []) p ↔ (Contains (get_or lists a.rank []) p ⊎ ((a.rank ≡ d.name.rank) × (p ≡ d.proto)))
+          → Contains (get_or (with_item lists d.name.rank d.proto) a.rank []) p
+          ↔ (Contains (get_or lists a.rank []) p ⊎ ((a.rank ≡ d.name.rank) × (p ≡ d.proto)))
       both p a = pushed lists d.name.rank d.proto room a.rank p
 
-pub none_declared : (pairs : List ProtocolName) (lists : List (List ProtoId)) (names : ℕ) → lists ≡ replicate names [] → AreDeclarers (take 0 pairs) lists
+pub none_declared : (pairs : List ProtocolName) (lists : List (List ProtoId)) (names : ℕ) → lists ≡ replicate names []
+    → AreDeclarers (take 0 pairs) lists
 none_declared pairs lists names none p a = (
   λ c. no_member p (subst (λ xs. Contains xs p) (ap (λ ls. get_or ls a.rank []) none ∙ all_alike names a.rank []) c),
   λ c. no_member (pair p a) c,
 )
 
-pub all_declared : (pairs : List ProtocolName) (i : ℕ) (lists : List (List ProtoId)) → length pairs ≤ i → AreDeclarers (take i pairs) lists → AreDeclarers pairs lists
+pub all_declared : (pairs : List ProtocolName) (i : ℕ) (lists : List (List ProtoId)) → length pairs ≤ i → AreDeclarers (take i pairs) lists
+    → AreDeclarers pairs lists
 all_declared pairs i lists h are = subst (λ xs. AreDeclarers xs lists) (take_all i pairs h) are
 
 -- lists of declarers are right for the same associated types in another order too
-pub same_declarers : (xs ys : List ProtocolName) (lists : List (List ProtoId)) → ((d : ProtocolName) → Contains ys d ↔ Contains xs d) → AreDeclarers xs lists → AreDeclarers ys lists
+pub same_declarers : (xs ys : List ProtocolName) (lists : List (List ProtoId)) → ((d : ProtocolName) → Contains ys d ↔ Contains xs d)
+    → AreDeclarers xs lists → AreDeclarers ys lists
 same_declarers xs ys lists same are p a = (λ c. (same (pair p a)).1 ((are p a).0 c), λ c. (are p a).1 ((same (pair p a)).0 c))

@@ -47,7 +47,8 @@ module _ (one other : ℕ → Bool) (passes : (k : ℕ) → one k ≡ true → o
 
 module _ (text : Bytes) (s : Skeleton) (x : LexiconView) (is : IsLexiconOf text s x) where
   inherits_through : (p q r : ProtoId) → inherits x p q ≡ true → inherits x q r ≡ true → inherits x p r ≡ true
-  inherits_through p q r h k = (is.inheritance p r).1 (joined_chains (inheritance text s) ((is.inheritance p q).0 h) ((is.inheritance q r).0 k))
+  inherits_through p q r h k =
+      (is.inheritance p r).1 (joined_chains (inheritance text s) ((is.inheritance p q).0 h) ((is.inheritance q r).0 k))
 
   pub inherits_more : (p q : ProtoId) → IsProtocol x q → inherits x p q ≡ true → (inherits x q q ≡ true → ⊥) → depth x q < depth x p
   inherits_more p q within h once =

@@ -6,7 +6,8 @@ use Rattle.std.proofs.lemmas.List.Concat.{length-flat_map}
 use Rattle.std.proofs.lemmas.List.Sums.{sum_by_more, sum_by-take-le}
 
 module _ {A B : Type 0} (f : A → List B) (xs : List A) (i : ℕ) where
-  pub pieces_more : (x : A) (count more : ℕ) → i < length xs → x ≡ get_or xs i x → count ≡ length (flat_map f (take i xs)) → more ≡ length (f x) → count + more ≡ length (flat_map f (take (i + 1) xs))
+  pub pieces_more : (x : A) (count more : ℕ) → i < length xs → x ≡ get_or xs i x → count ≡ length (flat_map f (take i xs))
+      → more ≡ length (f x) → count + more ≡ length (flat_map f (take (i + 1) xs))
   pieces_more x count more h e c m =
       (λ k. (c ∙ length-flat_map f (take i xs)) k + (m ∙ ap (λ y. length (f y)) e) k)
       ∙ sym (sum_by_more (λ y. length (f y)) xs i x h) ∙ sym (length-flat_map f (take (i + 1) xs))

@@ -33,7 +33,8 @@ module _ (inherits : ProtoId → ProtoId → Bool) (pairs : List ProtocolName) (
       let e = keyed_same pair_of any (map (key inherits pairs) pairs) ranked same d in
       (λ c. subst (λ xs. Contains xs d) (map_key pairs) (e.0 c), λ c. e.1 (subst (λ xs. Contains xs d) (sym (map_key pairs)) c))
 
-  flag : (k : AssocKey) → Contains (map (key inherits pairs) pairs) k → k.inherited ≡ inherits_name inherits (map pair_of ranked) k.proto k.name
+  flag : (k : AssocKey) → Contains (map (key inherits pairs) pairs) k
+      → k.inherited ≡ inherits_name inherits (map pair_of ranked) k.proto k.name
   flag k c =
       let d = key_of (key inherits pairs) pair_of pairs k c in
       ap (λ (x : AssocKey). x.inherited) (sym d.2)
@@ -42,11 +43,14 @@ module _ (inherits : ProtoId → ProtoId → Bool) (pairs : List ProtocolName) (
 
   goes : GoesBy cmp-value.it pair_of (assoc_cmp inherits (map pair_of ranked)) (map (key inherits pairs) pairs)
   goes k l c d =
-      let e = roots_first (inherits_name inherits (map pair_of ranked) k.proto k.name) (inherits_name inherits (map pair_of ranked) l.proto l.name)
+      let e =
+      roots_first (inherits_name inherits (map pair_of ranked) k.proto k.name) (inherits_name inherits (map pair_of ranked) l.proto l.name)
       ∙ (λ i. bool_cmp (sym (flag k c) i) (sym (flag l d) i)) in
       λ i. ordering_then (nat_cmp k.name.rank l.name.rank) (ordering_then (e i) (nat_cmp k.proto.rank l.proto.rank))
 
-  pub ranked_sorted : IsStrictlySortedBy cmp-value.it ranked → IsStrictlySortedBy (assoc_cmp inherits (map pair_of ranked)) (map pair_of ranked)
+  pub ranked_sorted : IsStrictlySortedBy cmp-value.it ranked
+      → IsStrictlySortedBy (assoc_cmp inherits (map pair_of ranked)) (map pair_of ranked)
   ranked_sorted s =
       sorted_from_rising (assoc_cmp inherits (map pair_of ranked)) (map pair_of ranked)
-      (keyed_rises pair_of any cmp-value.it (map (key inherits pairs) pairs) ranked same (rising_from_sorted cmp-value.it ranked s) (assoc_cmp inherits (map pair_of ranked)) goes)
+      (keyed_rises pair_of any cmp-value.it (map (key inherits pairs) pairs) ranked same (rising_from_sorted cmp-value.it ranked s)
+      (assoc_cmp inherits (map pair_of ranked)) goes)

@@ -12,13 +12,17 @@ module _ {K A : Type 0} (item : K → A) (any : A → K) where
   -- an item of the list has a key among the keys, and conversely
   pub key_of : (ks : List K) (d : A) → Contains (map item ks) d → (k : K) × Contains ks k × (item k ≡ d)
   key_of ks d c =
-      let l : c.0 < length ks = subst (λ n. c.0 < n) (length-map ks item) c.1 in
-      (get_or ks c.0 (any d), (c.0, l, get_or_default ks c.0 (get_or ks c.0 (any d)) (any d) l), sym (get_or-map item ks c.0 (any d) d l) ∙ c.2)
+      let l : c.0 < length ks = subst (λ n. c.0 < n) (length-map ks item) c.1 in (
+        get_or ks c.0 (any d),
+        (c.0, l, get_or_default ks c.0 (get_or ks c.0 (any d)) (any d) l),
+        sym (get_or-map item ks c.0 (any d) d l) ∙ c.2,
+      )
 
   pub of_key : (ks : List K) (k : K) → Contains ks k → Contains (map item ks) (item k)
   of_key ks k c = (c.0, subst (λ n. c.0 < n) (sym (length-map ks item)) c.1, get_or-map item ks c.0 k (item k) c.1 ∙ ap item c.2)
 
-  pub keyed_same : (ks rs : List K) → ((x : K) → Contains rs x ↔ Contains ks x) → (d : A) → Contains (map item rs) d ↔ Contains (map item ks) d
+  pub keyed_same : (ks rs : List K) → ((x : K) → Contains rs x ↔ Contains ks x) → (d : A)
+      → Contains (map item rs) d ↔ Contains (map item ks) d
   keyed_same ks rs same d = (
     λ c. let k = key_of rs d c in subst (λ e. Contains (map item ks) e) k.2 (of_key ks k.0 ((same k.0).0 k.1)),
     λ c. let k = key_of ks d c in subst (λ e. Contains (map item rs) e) k.2 (of_key rs k.0 ((same k.0).1 k.1)),

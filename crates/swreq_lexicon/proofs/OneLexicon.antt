@@ -31,11 +31,13 @@ module _ (inherits : ProtoId → ProtoId → Bool) (P : ProtocolName → Type 0)
 
   one_list : xs ≡ ys
   one_list = one_ranking (over.assoc_cmp inherits xs) (over.assoc_cmp inherits ys) (assoc_total inherits xs) P P xs ys of_xs of_ys
-      (λ d e c k. ap₂ (λ (a b : Bool). ordering_then (nat_cmp d.name.rank e.name.rank) (ordering_then (nat_cmp (cond a 0 1) (cond b 0 1)) (nat_cmp d.proto.rank e.proto.rank)))
+      (λ d e c k. ap₂ (λ (a b : Bool). ordering_then (nat_cmp d.name.rank e.name.rank)
+      (ordering_then (nat_cmp (cond a 0 1) (cond b 0 1)) (nat_cmp d.proto.rank e.proto.rank)))
       (same_roots d) (same_roots e))
       (λ d c. c) (λ d c. c)
 
-one_of : {K : Type 0} {R : K → K → Ordering} → IsTotalOrder R → (P : K → Type 0) (xs ys : List K) → IsRanking R P xs → IsRanking R P ys → xs ≡ ys
+one_of : {K : Type 0} {R : K → K → Ordering} → IsTotalOrder R → (P : K → Type 0) (xs ys : List K) → IsRanking R P xs
+    → IsRanking R P ys → xs ≡ ys
 one_of {R = R} total P xs ys of_xs of_ys = one_ranking R R total P P xs ys of_xs of_ys (λ a b c d. refl) (λ a c. c) (λ a c. c)
 
 module _ (text : Bytes) (s : Skeleton) (x y : LexiconView) (of_x : IsLexiconOf text s x) (of_y : IsLexiconOf text s y)
@@ -44,7 +46,8 @@ module _ (text : Bytes) (s : Skeleton) (x y : LexiconView) (of_x : IsLexiconOf t
   same_resolved = one x.resolved y.resolved of_x.resolved of_y.resolved
 
   same_protocols : x.protocols ≡ y.protocols
-  same_protocols = one_of nat_list_cmp_total (Contains (protocol_names text s.protocols)) x.protocols y.protocols of_x.protocols of_y.protocols
+  same_protocols =
+      one_of nat_list_cmp_total (Contains (protocol_names text s.protocols)) x.protocols y.protocols of_x.protocols of_y.protocols
 
   same_names : x.names ≡ y.names
   same_names = one_of nat_list_cmp_total (Contains (mentioned text s)) x.names y.names of_x.names of_y.names
@@ -58,7 +61,8 @@ module _ (text : Bytes) (s : Skeleton) (x y : LexiconView) (of_x : IsLexiconOf t
   same_place p h =
       let name = get_or x.protocols p.rank [] in
       let at : slice_get x.protocols p.rank ≡ Some name = slice_get-get_or x.protocols p.rank [] h in
-      same_Some _ _ (sym (of_x.places p name at) ∙ of_y.places p name (subst (λ (ps : List Bytes). slice_get ps p.rank ≡ Some name) same_protocols at))
+      same_Some _ _
+      (sym (of_x.places p name at) ∙ of_y.places p name (subst (λ (ps : List Bytes). slice_get ps p.rank ≡ Some name) same_protocols at))
 
   same_places : x.places ≡ y.places
   same_places = same_number_lists x.places y.places (of_x.placed ∙ ap length same_protocols ∙ sym of_y.placed)
@@ -91,11 +95,13 @@ module _ (text : Bytes) (s : Skeleton) (x y : LexiconView) (of_x : IsLexiconOf t
   of_it = subst (IsLexiconOf text s) x_with of_x
 
   same_associated : x.associated ≡ y.associated
-  same_associated = one_list (inherits y) (Contains (declared_in text y.protocols y.names s.protocols)) x.associated y.associated of_it.associated of_y.associated
+  same_associated = one_list (inherits y)
+      (Contains (declared_in text y.protocols y.names s.protocols)) x.associated y.associated of_it.associated of_y.associated
 
   symbols_total : IsTotalOrder (symbol_cmp y)
   symbols_total = then_total (on_total (λ (d : ProtocolName). d.name.rank) nat_cmp_total) (on_total (λ (d : ProtocolName). d.proto)
-      (then_total (back_total (on_total (over.depth (inherits y) (length y.protocols)) nat_cmp_total)) (on_total (λ (p : ProtoId). p.rank) nat_cmp_total)))
+      (then_total (back_total (on_total (over.depth (inherits y) (length y.protocols)) nat_cmp_total))
+      (on_total (λ (p : ProtoId). p.rank) nat_cmp_total)))
 
   same_symbols : x.symbols ≡ y.symbols
   same_symbols = one_of symbols_total (λ d. IsProtocol y d.proto × HasMember y d.proto d.name) x.symbols y.symbols

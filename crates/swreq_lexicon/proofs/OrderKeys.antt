@@ -36,8 +36,10 @@ module _ (inherits : ProtoId → ProtoId → Bool) (n : ℕ) where
   key_there : (m : ℕ) (p : ProtoId) → p.rank < m → Contains (order_keys inherits n m) (order_key inherits n p)
   key_there zero p h = absurd (omega arith)
   key_there (suc m) p h =
-      ⊎_elim (λ b. Contains-append_left (order_keys inherits n m) (order_key inherits n (protocol m) ∷ []) (order_key inherits n p) (key_there m p b))
-      (λ g. subst (λ r. Contains (order_keys inherits n (suc m)) (order_key inherits n (protocol r))) (sym (same g)) (Contains-push (order_keys inherits n m) (order_key inherits n (protocol m)))) (cases_lt p.rank m)
+      ⊎_elim (λ b.
+      Contains-append_left (order_keys inherits n m) (order_key inherits n (protocol m) ∷ []) (order_key inherits n p) (key_there m p b))
+      (λ g. subst (λ r. Contains (order_keys inherits n (suc m)) (order_key inherits n (protocol r))) (sym (same g))
+      (Contains-push (order_keys inherits n m) (order_key inherits n (protocol m)))) (cases_lt p.rank m)
     where
       same : m ≤ p.rank → p.rank ≡ m
       same g = omega arith
@@ -49,18 +51,23 @@ module _ (inherits : ProtoId → ProtoId → Bool) (n : ℕ) where
       let l = keys_length m in
       omega (arith, e, l)
 
-  goes : (ks : List OrderKey) → ((k : OrderKey) → Contains ks k → k ≡ order_key inherits n k.proto) → GoesBy cmp-value.it proto_of (order_cmp inherits n) ks
+  goes : (ks : List OrderKey) → ((k : OrderKey) → Contains ks k → k ≡ order_key inherits n k.proto)
+      → GoesBy cmp-value.it proto_of (order_cmp inherits n) ks
   goes ks are k l c d =
-      λ i. ordering_then (nat_cmp (ap (λ (x : OrderKey). x.depth.0) (sym (are l d)) i) (ap (λ (x : OrderKey). x.depth.0) (sym (are k c)) i)) (nat_cmp k.proto.rank l.proto.rank)
+      λ i. ordering_then (nat_cmp (ap (λ (x : OrderKey). x.depth.0) (sym (are l d)) i) (ap (λ (x : OrderKey). x.depth.0) (sym (are k c)) i))
+      (nat_cmp k.proto.rank l.proto.rank)
 
-  module _ (ranked : List OrderKey) (same : (k : OrderKey) → Contains ranked k ↔ Contains (order_keys inherits n n) k) (sorted : IsStrictlySortedBy cmp-value.it ranked) where
+  module _ (ranked : List OrderKey) (same : (k : OrderKey) → Contains ranked k ↔ Contains (order_keys inherits n n) k)
+      (sorted : IsStrictlySortedBy cmp-value.it ranked) where
     pub order_ranking : IsRanking (order_cmp inherits n) (λ p. p.rank < n) (map proto_of ranked)
     order_ranking = record {
       sorted = sorted_from_rising (order_cmp inherits n) (map proto_of ranked)
-          (keyed_rises proto_of (order_key inherits n) cmp-value.it (order_keys inherits n n) ranked same (rising_from_sorted cmp-value.it ranked sorted)
+          (keyed_rises proto_of (order_key inherits n) cmp-value.it (order_keys inherits n n) ranked same
+          (rising_from_sorted cmp-value.it ranked sorted)
           (order_cmp inherits n) (goes (order_keys inherits n n) (λ k c. (key_is n k c).1)));
       same = λ p. (
-        λ c. let k = key_of proto_of (order_key inherits n) ranked p c in subst (λ (q : ProtoId). q.rank < n) k.2 (key_is n k.0 ((same k.0).0 k.1)).0,
+        λ c. let k = key_of proto_of (order_key inherits n) ranked p c in
+            subst (λ (q : ProtoId). q.rank < n) k.2 (key_is n k.0 ((same k.0).0 k.1)).0,
         λ h. of_key proto_of (order_key inherits n) ranked (order_key inherits n p) ((same (order_key inherits n p)).1 (key_there n p h)),
       );
     }

@@ -59,13 +59,18 @@ module _ (inherits : ProtoId → ProtoId → Bool) (associated : List ProtocolNa
     abbrev of_kinds : Ordering
     of_kinds = ordering_then (nat_cmp (kind (pair p a)) (kind (pair q a))) (nat_cmp p.rank q.rank)
 
-    pub root_first : (InheritsName inherits associated p a → ⊥) → InheritsName inherits associated q a → assoc_cmp inherits associated (pair p a) (pair q a) ≡ Less
-    root_first n h = tied a.rank a.rank of_kinds refl ∙ (λ i. ordering_then (nat_cmp (cond (not (name_not p a n i)) 0 1) (cond (not (name_to q a h i)) 0 1)) (nat_cmp p.rank q.rank))
+    pub root_first : (InheritsName inherits associated p a → ⊥) → InheritsName inherits associated q a
+        → assoc_cmp inherits associated (pair p a) (pair q a) ≡ Less
+    root_first n h = tied a.rank a.rank of_kinds refl
+        ∙ (λ i. ordering_then (nat_cmp (cond (not (name_not p a n i)) 0 1) (cond (not (name_to q a h i)) 0 1)) (nat_cmp p.rank q.rank))
 
-    pub lesser_protocol : InheritsName inherits associated p a ↔ InheritsName inherits associated q a → p.rank < q.rank → assoc_cmp inherits associated (pair p a) (pair q a) ≡ Less
+    pub lesser_protocol : InheritsName inherits associated p a ↔ InheritsName inherits associated q a → p.rank < q.rank
+        → assoc_cmp inherits associated (pair p a) (pair q a) ≡ Less
     lesser_protocol same h =
-        let e = same_bool (inherits_name inherits associated p a) (inherits_name inherits associated q a) (λ y. name_to q a (same.0 (name_from p a y))) (λ y. name_to p a (same.1 (name_from q a y))) in
-        tied a.rank a.rank of_kinds refl ∙ tied (kind (pair p a)) (kind (pair q a)) (nat_cmp p.rank q.rank) (ap (λ b. cond (not b) 0 1) e) ∙ sym (nat_cmp_is p.rank q.rank Less h)
+        let e = same_bool (inherits_name inherits associated p a) (inherits_name inherits associated q a)
+        (λ y. name_to q a (same.0 (name_from p a y))) (λ y. name_to p a (same.1 (name_from q a y))) in
+        tied a.rank a.rank of_kinds refl ∙ tied (kind (pair p a)) (kind (pair q a)) (nat_cmp p.rank q.rank) (ap (λ b. cond (not b) 0 1) e)
+        ∙ sym (nat_cmp_is p.rank q.rank Less h)
 
 -- ---- member symbols
 
@@ -74,7 +79,8 @@ module _ (inherits : ProtoId → ProtoId → Bool) (n : ℕ) where
   order_total = then_total (back_total (on_total (depth inherits n) nat_cmp_total)) (on_total (λ (p : ProtoId). p.rank) nat_cmp_total)
 
   pub symbol_total : IsTotalOrder (symbol_cmp inherits n)
-  symbol_total = then_total (on_total (λ (d : ProtocolName). d.name.rank) nat_cmp_total) (on_total (λ (d : ProtocolName). d.proto) order_total)
+  symbol_total =
+      then_total (on_total (λ (d : ProtocolName). d.name.rank) nat_cmp_total) (on_total (λ (d : ProtocolName). d.proto) order_total)
 
   pub ordered_once : (order : List ProtoId) → IsRanking (order_cmp inherits n) (λ p. p.rank < n) order → AreOnce order
   ordered_once order is = one_place (order_cmp inherits n) order_total order (rising_from_sorted (order_cmp inherits n) order is.sorted)
@@ -84,7 +90,10 @@ module _ (inherits : ProtoId → ProtoId → Bool) (n : ℕ) where
     of_protocols e = tied a.rank a.rank (order_cmp inherits n p q) refl ∙ e
 
     pub deeper_first : depth inherits n q < depth inherits n p → symbol_cmp inherits n (pair p a) (pair q a) ≡ Less
-    deeper_first h = of_protocols (ap (λ o. ordering_then o (nat_cmp p.rank q.rank)) (sym (nat_cmp_is (depth inherits n q) (depth inherits n p) Less h)))
+    deeper_first h =
+        of_protocols (ap (λ o. ordering_then o (nat_cmp p.rank q.rank)) (sym (nat_cmp_is (depth inherits n q) (depth inherits n p) Less h)))
 
-    pub symbol_lesser_protocol : depth inherits n p ≡ depth inherits n q → p.rank < q.rank → symbol_cmp inherits n (pair p a) (pair q a) ≡ Less
-    symbol_lesser_protocol e h = of_protocols (tied (depth inherits n q) (depth inherits n p) (nat_cmp p.rank q.rank) (sym e) ∙ sym (nat_cmp_is p.rank q.rank Less h))
+    pub symbol_lesser_protocol : depth inherits n p ≡ depth inherits n q → p.rank < q.rank
+        → symbol_cmp inherits n (pair p a) (pair q a) ≡ Less
+    symbol_lesser_protocol e h = of_protocols (tied (depth inherits n q) (depth inherits n p) (nat_cmp p.rank q.rank) (sym e)
+        ∙ sym (nat_cmp_is p.rank q.rank Less h))

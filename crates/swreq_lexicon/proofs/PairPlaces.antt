@@ -20,6 +20,8 @@ by_place p a ds (Some i) h =
     let s = position-Some (is_pair p a) ds i (pair p a) h in
     slice_get-get_or ds i (pair p a) s.0 ∙ ap Some (pair_same p a (get_or ds i (pair p a)) s.1)
 
-pub declares_by : (p : ProtoId) (a : NameId) (ds : List ProtocolName) (r : Option AssocId) → r ≡ option_map assoc_at (position (is_pair p a) ds)
+pub declares_by : (p : ProtoId) (a : NameId) (ds : List ProtocolName) (r : Option AssocId)
+    → r ≡ option_map assoc_at (position (is_pair p a) ds)
     → MatchOption r (Contains ds (pair p a) → ⊥) (λ d. slice_get ds d.rank ≡ Some (pair p a))
-declares_by p a ds r e = subst (λ o. MatchOption o (Contains ds (pair p a) → ⊥) (λ d. slice_get ds d.rank ≡ Some (pair p a))) (sym e) (by_place p a ds (position (is_pair p a) ds) refl)
+declares_by p a ds r e = subst (λ o. MatchOption o (Contains ds (pair p a) → ⊥) (λ d. slice_get ds d.rank ≡ Some (pair p a))) (sym e)
+    (by_place p a ds (position (is_pair p a) ds) refl)

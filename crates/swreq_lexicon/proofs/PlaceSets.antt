@@ -49,22 +49,27 @@ module _ (f g : ℕ → Bool) (k : ℕ) (b : Bool) (others : (j : ℕ) → j ≢
 pub set_empty : (set : List ℕ) → ((k : ℕ) → has set k ≡ false) → (test : ℕ → Bool) (n : ℕ) → count_below (λ k. test k && has set k) n ≡ 0
 set_empty set none test n = count_none (λ k. test k && has set k) n (λ k. ap (λ b. test k && b) (none k) ∙ and-false (test k))
 
-pub set_more : (old new : List ℕ) (k : ℕ) → room new ≡ room old → k < room old → has old k ≡ false → has new k ≡ true → ((j : ℕ) → j ≢ k → has new j ≡ has old j)
-    → (test : ℕ → Bool) → count_below (λ j. test j && has new j) (room new) ≡ count_below (λ j. test j && has old j) (room old) + counted (test k)
+pub set_more : (old new : List ℕ) (k : ℕ) → room new ≡ room old → k < room old → has old k ≡ false → has new k ≡ true
+    → ((j : ℕ) → j ≢ k → has new j ≡ has old j)
+    → (test : ℕ → Bool)
+    → count_below (λ j. test j && has new j) (room new) ≡ count_below (λ j. test j && has old j) (room old) + counted (test k)
 set_more old new k size h before after others test =
     ap (count_below (λ j. test j && has new j)) size
     ∙ count_more (λ j. test j && has old j) (λ j. test j && has new j) k (test k) (λ j n. ap (λ b. test j && b) (others j n))
     (ap (λ b. test k && b) before ∙ and-false (test k)) (ap (λ b. test k && b) after ∙ and-true (test k)) (room old) h
 
 -- the places that are still to be added are not in the set
-pub fresh_more : (places old new : List ℕ) (i : ℕ) → AreApart places → i < length places → ((j : ℕ) → j ≢ get_or places i 0 → has new j ≡ has old j)
-    → ((r : ℕ) → i ≤ r → r < length places → has old (get_or places r 0) ≡ false) → (r : ℕ) → i + 1 ≤ r → r < length places → has new (get_or places r 0) ≡ false
+pub fresh_more : (places old new : List ℕ) (i : ℕ) → AreApart places → i < length places
+    → ((j : ℕ) → j ≢ get_or places i 0 → has new j ≡ has old j)
+    → ((r : ℕ) → i ≤ r → r < length places → has old (get_or places r 0) ≡ false) → (r : ℕ) → i + 1 ≤ r → r < length places
+    → has new (get_or places r 0) ≡ false
 fresh_more places old new i apart h others fresh r g l =
     others (get_or places r 0) (λ e. apart i r (omega (arith, g)) l (sym e)) ∙ fresh r (omega (arith, g)) l
 
 -- ---- the first places of names
 
-module _ (all ranks : List Bytes) (ds : List Declaration) (places : List ℕ) (names : map (λ (d : Declaration). d.name) ds ≡ all) (ranking : IsRanking bytes_cmp (Contains all) ranks)
+module _ (all ranks : List Bytes) (ds : List Declaration) (places : List ℕ) (names : map (λ (d : Declaration). d.name) ds ≡ all)
+    (ranking : IsRanking bytes_cmp (Contains all) ranks)
     (are : places ≡ map (λ name. unwrap_or (place ds name) 0) ranks) where
   pub places_length : length places ≡ length ranks
   places_length = ap length are ∙ length-map ranks (λ name. unwrap_or (place ds name) 0)
@@ -84,8 +89,10 @@ module _ (all ranks : List Bytes) (ds : List Declaration) (places : List ℕ) (n
   pub places_apart : AreApart places
   places_apart i j h l e =
       let k : i < length places = omega (arith, h, l) in
-      let same : get_or ranks i [] ≡ get_or ranks j [] = same_Some (get_or ranks i []) (get_or ranks j []) (sym (there i k) ∙ ap (slice_get all) e ∙ there j l) in
-      let one : i ≡ j = one_place bytes_cmp nat_list_cmp_total ranks (rising_from_sorted bytes_cmp ranks ranking.sorted) i j (get_or ranks j []) (named i k ∙ ap Some same) (named j l) in
+      let same : get_or ranks i [] ≡ get_or ranks j [] =
+      same_Some (get_or ranks i []) (get_or ranks j []) (sym (there i k) ∙ ap (slice_get all) e ∙ there j l) in
+      let one : i ≡ j = one_place bytes_cmp nat_list_cmp_total ranks (rising_from_sorted bytes_cmp ranks ranking.sorted) i j
+      (get_or ranks j []) (named i k ∙ ap Some same) (named j l) in
       omega (arith, one, h)
 
 -- ---- how many protocols a protocol inherits

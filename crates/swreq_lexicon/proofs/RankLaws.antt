@@ -41,13 +41,15 @@ use Rattle.swreq_rank.proofs.Rising.{rising_from_sorted, one_place}
 
 -- ---- names
 
-pub rank_is : (Is : Bytes → Type 0) (ranking : List Bytes) → IsRanking bytes_cmp Is ranking → (name : Bytes) → Is name → slice_get ranking (rank ranking name) ≡ Some name
+pub rank_is : (Is : Bytes → Type 0) (ranking : List Bytes) → IsRanking bytes_cmp Is ranking → (name : Bytes) → Is name
+    → slice_get ranking (rank ranking name) ≡ Some name
 rank_is Is ranking are name h =
     let c = (are.same name).1 h in
     let at = slice_get-get_or ranking c.0 name c.1 ∙ ap Some c.2 in
     ap (slice_get ranking) (sym (rank_of_there ranking name c.0 (rising_from_sorted bytes_cmp ranking are.sorted) at)) ∙ at
 
-pub rank_itself : (Is : Bytes → Type 0) (ranking : List Bytes) → IsRanking bytes_cmp Is ranking → (name : Bytes) (r : ℕ) → slice_get ranking r ≡ Some name → rank ranking name ≡ r
+pub rank_itself : (Is : Bytes → Type 0) (ranking : List Bytes) → IsRanking bytes_cmp Is ranking → (name : Bytes) (r : ℕ)
+    → slice_get ranking r ≡ Some name → rank ranking name ≡ r
 rank_itself Is ranking are name r h = sym (rank_of_there ranking name r (rising_from_sorted bytes_cmp ranking are.sorted) h)
 
 -- ---- associated types
@@ -55,7 +57,8 @@ rank_itself Is ranking are name r h = sym (rank_of_there ranking name r (rising_
 pub assoc_is : (ds : List ProtocolName) (d : ProtocolName) → Contains ds d → slice_get ds (assoc_by ds d.proto d.name).rank ≡ Some d
 assoc_is ds d c = by (position (is_pair d.proto d.name) ds) refl
   where
-    by : (o : Option ℕ) → position (is_pair d.proto d.name) ds ≡ o → slice_get ds (assoc_at (unwrap_or (position (is_pair d.proto d.name) ds) 0)).rank ≡ Some d
+    by : (o : Option ℕ) → position (is_pair d.proto d.name) ds ≡ o
+        → slice_get ds (assoc_at (unwrap_or (position (is_pair d.proto d.name) ds) 0)).rank ≡ Some d
     by None e = absurd (by_place d.proto d.name ds None e c)
     by (Some i) e = ap (λ o. slice_get ds (unwrap_or o 0)) e ∙ by_place d.proto d.name ds (Some i) e
 
@@ -67,18 +70,24 @@ record HasRank (k : ℕ) (ds : List ProtocolName) (d : AssociatedType) : Type 0 
 ranked_to : (k : ℕ) (ds : List ProtocolName) (d : AssociatedType) → Contains (associated_from k ds) d → HasRank k ds d
 ranked_to k [] d c = no_member d c
 ranked_to k (e ∷ ds) d c =
-    ⊎_elim (λ s. here (ap (λ (x : AssociatedType). x.assoc.rank) (sym s)) (ap (λ (x : AssociatedType). pair x.proto x.name) (sym s))) (λ b. further (ranked_to (k + 1) ds d b))
+    ⊎_elim (λ s. here (ap (λ (x : AssociatedType). x.assoc.rank) (sym s)) (ap (λ (x : AssociatedType). pair x.proto x.name) (sym s)))
+    (λ b. further (ranked_to (k + 1) ds d b))
     (member_cases (record { proto = e.proto; name = e.name; assoc = record { rank = k } }) d (associated_from (k + 1) ds) c)
   where
     here : k ≡ d.assoc.rank → e ≡ pair d.proto d.name → HasRank k (e ∷ ds) d
-    here r s = record { from = omega (arith, r); is = let z : d.assoc.rank - k ≡ 0 = omega (arith, r) in ap (slice_get (e ∷ ds)) z ∙ ap Some s }
+    here r s =
+        record { from = omega (arith, r); is = let z : d.assoc.rank - k ≡ 0 = omega (arith, r) in ap (slice_get (e ∷ ds)) z ∙ ap Some s }
 
     further : HasRank (k + 1) ds d → HasRank k (e ∷ ds) d
     further h =
         let l = h.from in
-        record { from = omega (arith, l); is = let n : d.assoc.rank - k ≡ suc (d.assoc.rank - (k + 1)) = omega (arith, l) in ap (slice_get (e ∷ ds)) n ∙ h.is }
+        record {
+          from = omega (arith, l);
+          is = let n : d.assoc.rank - k ≡ suc (d.assoc.rank - (k + 1)) = omega (arith, l) in ap (slice_get (e ∷ ds)) n ∙ h.is;
+        }
 
-ranked_from : (k : ℕ) (ds : List ProtocolName) (i : ℕ) (p : ProtoId) (a : NameId) → slice_get ds i ≡ Some (pair p a) → Contains (associated_from k ds) (record { proto = p; name = a; assoc = record { rank = k + i } })
+ranked_from : (k : ℕ) (ds : List ProtocolName) (i : ℕ) (p : ProtoId) (a : NameId) → slice_get ds i ≡ Some (pair p a)
+    → Contains (associated_from k ds) (record { proto = p; name = a; assoc = record { rank = k + i } })
 ranked_from k [] i p a h = absurd cc
 ranked_from k (e ∷ ds) zero p a h =
     let s = same_Some e (pair p a) h in
@@ -88,16 +97,20 @@ ranked_from k (e ∷ ds) (suc i) p a h =
     let n : k + 1 + i ≡ k + suc i = omega arith in
     let c = ranked_from (k + 1) ds i p a h in
     subst (λ r. Contains (associated_from k (e ∷ ds)) (record { proto = p; name = a; assoc = record { rank = r } })) n
-    (Contains-append_right (record { proto = e.proto; name = e.name; assoc = record { rank = k } } ∷ []) (associated_from (k + 1) ds) (record { proto = p; name = a; assoc = record { rank = k + 1 + i } }) c)
+    (Contains-append_right (record { proto = e.proto; name = e.name; assoc = record { rank = k } } ∷ []) (associated_from (k + 1) ds)
+    (record { proto = p; name = a; assoc = record { rank = k + 1 + i } }) c)
 
-pub ranked : (ds : List ProtocolName) (d : AssociatedType) → Contains (associated_types ds) d ↔ (slice_get ds d.assoc.rank ≡ Some (pair d.proto d.name))
+pub ranked : (ds : List ProtocolName) (d : AssociatedType)
+    → Contains (associated_types ds) d ↔ (slice_get ds d.assoc.rank ≡ Some (pair d.proto d.name))
 ranked ds d = (
   λ c. let z : d.assoc.rank - 0 ≡ d.assoc.rank = omega arith in ap (slice_get ds) (sym z) ∙ (ranked_to 0 ds d c).is,
   λ h. let z : 0 + d.assoc.rank ≡ d.assoc.rank = omega arith in
-      subst (λ r. Contains (associated_types ds) (record { proto = d.proto; name = d.name; assoc = record { rank = r } })) z (ranked_from 0 ds d.assoc.rank d.proto d.name h),
+      subst (λ r. Contains (associated_types ds) (record { proto = d.proto; name = d.name; assoc = record { rank = r } })) z
+      (ranked_from 0 ds d.assoc.rank d.proto d.name h),
 )
 
-pub one_to_one : (cmp : ProtocolName → ProtocolName → Ordering) → IsTotalOrder cmp → (ds : List ProtocolName) → IsStrictlySortedBy cmp ds → AreOneToOne (associated_types ds)
+pub one_to_one : (cmp : ProtocolName → ProtocolName → Ordering) → IsTotalOrder cmp → (ds : List ProtocolName) → IsStrictlySortedBy cmp ds
+    → AreOneToOne (associated_types ds)
 one_to_one cmp total ds sorted = record {
   of_pair = λ p a d e c f.
       let r = one_place cmp total ds (rising_from_sorted cmp ds sorted) d.rank e.rank (pair p a)
@@ -112,7 +125,8 @@ one_to_one cmp total ds sorted = record {
 pub assoc_total : (inherits : ProtoId → ProtoId → Bool) (associated : List ProtocolName) → IsTotalOrder (over.assoc_cmp inherits associated)
 assoc_total inherits associated =
     then_total (on_total (λ (d : ProtocolName). d.name.rank) nat_cmp_total)
-    (then_total (on_total (λ (d : ProtocolName). cond (over.is_root inherits associated d) 0 1) nat_cmp_total) (on_total (λ (d : ProtocolName). d.proto.rank) nat_cmp_total))
+    (then_total (on_total (λ (d : ProtocolName). cond (over.is_root inherits associated d) 0 1) nat_cmp_total)
+    (on_total (λ (d : ProtocolName). d.proto.rank) nat_cmp_total))
 
 -- ---- by name first
 
@@ -120,14 +134,17 @@ assoc_total inherits associated =
 pub stands_first : {K : Type 0} (cmp : K → K → Ordering) (xs : List K) → IsStrictlySortedBy cmp xs
     → (i j : ℕ) (x y : K) → slice_get xs i ≡ Some x → slice_get xs j ≡ Some y → (x ≡ y → ⊥) → (cmp y x ≡ Less → ⊥) → i < j
 stands_first cmp xs sorted i j x y f g other not_less =
-    ⊎_elim (λ l. l) (λ l. ⊎_elim (λ s. absurd (other (same_Some x y (sym f ∙ ap (slice_get xs) s ∙ g)))) (λ n. absurd (not_after (above i j l n))) (cases_eq i j)) (cases_lt i j)
+    ⊎_elim (λ l. l) (λ l. ⊎_elim (λ s. absurd (other (same_Some x y (sym f ∙ ap (slice_get xs) s ∙ g))))
+    (λ n. absurd (not_after (above i j l n))) (cases_eq i j)) (cases_lt i j)
   where
     not_after : j < i → ⊥
     not_after l =
         not_less
-        ((λ k. cmp (sym (get_or_from_slice_get xs j y x g) k) (sym (get_or_from_slice_get xs i x x f) k)) ∙ rising_from_sorted cmp xs sorted j i x l (slice_get_within xs i x f))
+        ((λ k. cmp (sym (get_or_from_slice_get xs j y x g) k) (sym (get_or_from_slice_get xs i x x f) k))
+        ∙ rising_from_sorted cmp xs sorted j i x l (slice_get_within xs i x f))
 
-pub by_name : (rest : ProtocolName → ProtocolName → Ordering) (ds : List ProtocolName) → IsStrictlySortedBy (then_cmp (on (λ d. d.name.rank) nat_cmp) rest) ds
+pub by_name : (rest : ProtocolName → ProtocolName → Ordering) (ds : List ProtocolName)
+    → IsStrictlySortedBy (then_cmp (on (λ d. d.name.rank) nat_cmp) rest) ds
     → (i j : ℕ) (d e : ProtocolName) → slice_get ds i ≡ Some d → slice_get ds j ≡ Some e → d.name.rank < e.name.rank → i < j
 by_name rest ds sorted i j d e f g h =
     stands_first (then_cmp (on (λ (x : ProtocolName). x.name.rank) nat_cmp) rest) ds sorted i j d e f g
@@ -142,16 +159,19 @@ place_is all name k h =
     slice_get-get_or all k name s.0 ∙ ap Some (sym ((bytes_eq-Decides name (get_or all k name)).0 s.1))
 
 module _ (text : Bytes) (s : Skeleton) (x : LexiconView) (is : IsLexiconOf text s x) where
-  first_place : (name : Bytes) (k : ℕ) → place (spaces text s).protocols name ≡ Some k → position_from (bytes_eq name) 0 (protocol_names text s.protocols) ≡ Some k
+  first_place : (name : Bytes) (k : ℕ) → place (spaces text s).protocols name ≡ Some k
+      → position_from (bytes_eq name) 0 (protocol_names text s.protocols) ≡ Some k
   first_place name k h = sym (ap (position_from (bytes_eq name) 0) (declared_names text s.protocols)) ∙ h
 
-  written : (k : ℕ) (name : Bytes) → slice_get (protocol_names text s.protocols) k ≡ Some name → slice_get x.written_order k ≡ Some (proto_by x.protocols name)
+  written : (k : ℕ) (name : Bytes) → slice_get (protocol_names text s.protocols) k ≡ Some name
+      → slice_get x.written_order k ≡ Some (proto_by x.protocols name)
   written k name h =
       ap (λ ps. slice_get ps k) is.written_order
       ∙ slice_get-map (λ (p : ProtocolDecl). proto_by x.protocols (word text p.name)) s.protocols k
       ∙ mapped (slice_get s.protocols k) (sym (slice_get-map (λ (p : ProtocolDecl). word text p.name) s.protocols k) ∙ h)
     where
-      mapped : (o : Option ProtocolDecl) → option_map (λ (p : ProtocolDecl). word text p.name) o ≡ Some name → option_map (λ (p : ProtocolDecl). proto_by x.protocols (word text p.name)) o ≡ Some (proto_by x.protocols name)
+      mapped : (o : Option ProtocolDecl) → option_map (λ (p : ProtocolDecl). word text p.name) o ≡ Some name
+          → option_map (λ (p : ProtocolDecl). proto_by x.protocols (word text p.name)) o ≡ Some (proto_by x.protocols name)
       mapped None e = absurd cc
       mapped (Some p) e = ap (λ n. Some (proto_by x.protocols n)) (same_Some (word text p.name) name e)
 
@@ -160,33 +180,41 @@ module _ (text : Bytes) (s : Skeleton) (x : LexiconView) (is : IsLexiconOf text 
       let name = get_or x.protocols p.rank [] in
       let at = slice_get-get_or x.protocols p.rank [] h in
       let r = rank_itself (Contains (protocol_names text s.protocols)) x.protocols is.protocols name p.rank at in
-      written (place_of x p) name (place_is (protocol_names text s.protocols) name (place_of x p) (first_place name (place_of x p) (is.places p name at)))
+      written (place_of x p) name
+      (place_is (protocol_names text s.protocols) name (place_of x p) (first_place name (place_of x p) (is.places p name at)))
       ∙ ap Some (λ i. record { rank = r i })
 
   pub written_protocol : (k : ℕ) (p : ProtoId) → slice_get x.written_order k ≡ Some p → IsProtocol x p
   written_protocol k p h = by (slice_get s.protocols k) refl
     where
-      at : slice_get x.written_order k ≡ option_map (λ (q : ProtocolDecl). proto_by x.protocols (word text q.name)) (slice_get s.protocols k)
-      at = ap (λ ps. slice_get ps k) is.written_order ∙ slice_get-map (λ (q : ProtocolDecl). proto_by x.protocols (word text q.name)) s.protocols k
+      at : slice_get x.written_order k
+          ≡ option_map (λ (q : ProtocolDecl). proto_by x.protocols (word text q.name)) (slice_get s.protocols k)
+      at = ap (λ ps. slice_get ps k) is.written_order
+          ∙ slice_get-map (λ (q : ProtocolDecl). proto_by x.protocols (word text q.name)) s.protocols k
 
       by : (o : Option ProtocolDecl) → slice_get s.protocols k ≡ o → IsProtocol x p
       by None e = let n = sym h ∙ at ∙ ap (option_map (λ (q : ProtocolDecl). proto_by x.protocols (word text q.name))) e in absurd cc
       by (Some q) e =
-          let same = same_Some p (proto_by x.protocols (word text q.name)) (sym h ∙ at ∙ ap (option_map (λ (q : ProtocolDecl). proto_by x.protocols (word text q.name))) e) in
-          let named = slice_get-map (λ (q : ProtocolDecl). word text q.name) s.protocols k ∙ ap (option_map (λ (q : ProtocolDecl). word text q.name)) e in
-          let r = rank_is (Contains (protocol_names text s.protocols)) x.protocols is.protocols (word text q.name) (get_contains (protocol_names text s.protocols) k (word text q.name) named) in
+          let same = same_Some p (proto_by x.protocols (word text q.name))
+          (sym h ∙ at ∙ ap (option_map (λ (q : ProtocolDecl). proto_by x.protocols (word text q.name))) e) in
+          let named = slice_get-map (λ (q : ProtocolDecl). word text q.name) s.protocols k
+          ∙ ap (option_map (λ (q : ProtocolDecl). word text q.name)) e in
+          let r = rank_is (Contains (protocol_names text s.protocols)) x.protocols is.protocols (word text q.name)
+          (get_contains (protocol_names text s.protocols) k (word text q.name) named) in
           subst (IsProtocol x) (sym same) (slice_get_within x.protocols (rank x.protocols (word text q.name)) (word text q.name) r)
 
   pub meant : (name : Bytes) (k : ℕ) → place (spaces text s).protocols name ≡ Some k → place_of x (proto_by x.protocols name) ≡ k
   meant name k h =
       let at = place_is (protocol_names text s.protocols) name k (first_place name k h) in
-      let r = rank_is (Contains (protocol_names text s.protocols)) x.protocols is.protocols name (get_contains (protocol_names text s.protocols) k name at) in
+      let r = rank_is (Contains (protocol_names text s.protocols)) x.protocols is.protocols name
+      (get_contains (protocol_names text s.protocols) k name at) in
       same_Some (place_of x (proto_by x.protocols name)) k (sym (is.places (proto_by x.protocols name) name r) ∙ h)
 
   pub written_once : IsDistinct bytes_eq (protocol_names text s.protocols) → length x.written_order ≡ length x.protocols
   written_once distinct =
       let size = ap length is.written_order ∙ length-map s.protocols (λ (p : ProtocolDecl). proto_by x.protocols (word text p.name)) in
       let names = names_length text s.protocols in
-      let few = few_names x.protocols (protocol_names text s.protocols) (rising_from_sorted bytes_cmp x.protocols is.protocols.sorted) (λ q c. (is.protocols.same q).0 c) in
+      let few = few_names x.protocols (protocol_names text s.protocols) (rising_from_sorted bytes_cmp x.protocols is.protocols.sorted)
+      (λ q c. (is.protocols.same q).0 c) in
       let many = distinct_names (protocol_names text s.protocols) x.protocols distinct (λ q c. (is.protocols.same q).1 c) in
       omega (arith, size, names, few, many)

@@ -30,7 +30,8 @@ module _ {K : Type 0} (R S : K → K → Ordering) (total : IsTotalOrder R) wher
     pub to : (x : K) → Contains xs x → Contains ys x
     pub from : (x : K) → Contains ys x → Contains xs x
 
-  module _ (x y : K) (xs ys : List K) (after_x : AllByRecursion (λ z. R x z ≡ Less) xs) (after_y : AllByRecursion (λ z. S y z ≡ Less) ys) (items : AreItems (x ∷ xs) (y ∷ ys)) where
+  module _ (x y : K) (xs ys : List K) (after_x : AllByRecursion (λ z. R x z ≡ Less) xs) (after_y : AllByRecursion (λ z. S y z ≡ Less) ys)
+      (items : AreItems (x ∷ xs) (y ∷ ys)) where
     same_head : x ≡ y
     same_head = by (member_cases y x ys (items.to x (first_member x xs))) (member_cases x y xs (items.from y (first_member y ys)))
       where
@@ -67,7 +68,8 @@ module _ {K : Type 0} (R S : K → K → Ordering) (total : IsTotalOrder R) wher
   same_sorted [] (y ∷ ys) s t items = no_member y (items.from y (first_member y ys))
   same_sorted (x ∷ xs) [] s t items = no_member x (items.to x (first_member x xs))
   same_sorted (x ∷ xs) (y ∷ ys) s t items =
-      ap₂ (λ (z : K) (zs : List K). z ∷ zs) (same_head x y xs ys s.0 t.0 items) (same_sorted xs ys s.1 t.1 (rest_items x y xs ys s.0 t.0 items))
+      ap₂ (λ (z : K) (zs : List K). z ∷ zs) (same_head x y xs ys s.0 t.0 items)
+      (same_sorted xs ys s.1 t.1 (rest_items x y xs ys s.0 t.0 items))
 
   pub one_ranking : (P Q : K → Type 0) (xs ys : List K) → IsRanking R P xs → IsRanking S Q ys → ((x y : K) → P x → P y → R x y ≡ S x y)
       → ((x : K) → P x → Q x) → ((x : K) → Q x → P x) → xs ≡ ys

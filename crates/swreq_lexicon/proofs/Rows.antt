@@ -46,7 +46,8 @@ none_standing order q set none k p f absent =
 abbrev pub ArePlacesTo : List ProtoId → ℕ → List ℕ → Type 0
 ArePlacesTo order n places = (k : ℕ) (p : ProtoId) → k < n → slice_get order k ≡ Some p → slice_get places p.rank ≡ Some k
 
-pub places_more : (order : List ProtoId) → AreOnce order → (places : List ℕ) (i : ℕ) (q : ProtoId) → slice_get order i ≡ Some q → q.rank < length places
+pub places_more : (order : List ProtoId) → AreOnce order → (places : List ℕ) (i : ℕ) (q : ProtoId) → slice_get order i ≡ Some q
+    → q.rank < length places
     → ArePlacesTo order i places → ArePlacesTo order (i + 1) (set places q.rank i)
 places_more order once places i q at room before k p h f = ⊎_elim here other (cases_eq p.rank q.rank)
   where
@@ -67,8 +68,10 @@ all_places order n places h are k p f = let l = slice_get_within order k p f in 
 
 -- ---- how many protocols before a place have a name
 
-filter_push : {A : Type 0} (test : A → Bool) (xs : List A) (x : A) → length (filter test (xs ++ x ∷ [])) ≡ length (filter test xs) + cond (test x) 1 0
-filter_push test xs x = ap length (filter-append test xs (x ∷ [])) ∙ length-append (filter test xs) (filter test (x ∷ [])) ∙ ap (λ n. length (filter test xs) + n) (one (test x))
+filter_push : {A : Type 0} (test : A → Bool) (xs : List A) (x : A)
+    → length (filter test (xs ++ x ∷ [])) ≡ length (filter test xs) + cond (test x) 1 0
+filter_push test xs x = ap length (filter-append test xs (x ∷ [])) ∙ length-append (filter test xs) (filter test (x ∷ []))
+    ∙ ap (λ n. length (filter test xs) + n) (one (test x))
   where
     one : (b : Bool) → length (cond b (x ∷ []) []) ≡ cond b 1 0
     one true = refl
@@ -97,17 +100,22 @@ or_nothing : (b c : Bool) → b ≡ (b || (false && c))
 or_nothing true c = refl
 or_nothing false c = refl
 
-pub row_added : (rows : List (List ℕ)) (row heirs : List ℕ) (a : NameId) → a.rank < length rows → ((k : ℕ) → sets.has row k ≡ (sets.has (row_of rows a) k || sets.has heirs k))
-    → (b : NameId) (k : ℕ) → sets.has (row_of (set rows a.rank row) b) k ≡ (sets.has (row_of rows b) k || (nat_eq b.rank a.rank && sets.has heirs k))
+pub row_added : (rows : List (List ℕ)) (row heirs : List ℕ) (a : NameId) → a.rank < length rows
+    → ((k : ℕ) → sets.has row k ≡ (sets.has (row_of rows a) k || sets.has heirs k))
+    → (b : NameId) (k : ℕ)
+    → sets.has (row_of (set rows a.rank row) b) k ≡ (sets.has (row_of rows b) k || (nat_eq b.rank a.rank && sets.has heirs k))
 row_added rows row heirs a within both b k = ⊎_elim here other (cases_eq b.rank a.rank)
   where
-    here : b.rank ≡ a.rank → sets.has (row_of (set rows a.rank row) b) k ≡ (sets.has (row_of rows b) k || (nat_eq b.rank a.rank && sets.has heirs k))
+    here : b.rank ≡ a.rank
+        → sets.has (row_of (set rows a.rank row) b) k ≡ (sets.has (row_of rows b) k || (nat_eq b.rank a.rank && sets.has heirs k))
     here e =
-        ap (λ r. sets.has (get_or (set rows a.rank row) r []) k) e ∙ ap (λ (s : List ℕ). sets.has s k) (get_or-set_same rows a.rank row [] within)
+        ap (λ r. sets.has (get_or (set rows a.rank row) r []) k) e
+        ∙ ap (λ (s : List ℕ). sets.has s k) (get_or-set_same rows a.rank row [] within)
         ∙ both k
         ∙ (λ i. sets.has (get_or rows (sym e i) []) k || (sym (eq-eqb b.rank a.rank e) i && sets.has heirs k))
 
-    other : (b.rank ≡ a.rank → ⊥) → sets.has (row_of (set rows a.rank row) b) k ≡ (sets.has (row_of rows b) k || (nat_eq b.rank a.rank && sets.has heirs k))
+    other : (b.rank ≡ a.rank → ⊥)
+        → sets.has (row_of (set rows a.rank row) b) k ≡ (sets.has (row_of rows b) k || (nat_eq b.rank a.rank && sets.has heirs k))
     other n =
         ap (λ (s : List ℕ). sets.has s k) (get_or-set_other rows a.rank b.rank row [] n)
         ∙ or_nothing (sets.has (row_of rows b) k) (sets.has heirs k)
@@ -118,7 +126,8 @@ any_push test xs x = list_any-append test xs (x ∷ []) ∙ ap (λ b. list_any t
 
 module _ (inherits : ProtoId → ProtoId → Bool) (order : List ProtoId) where
   -- adding the heirs of a protocol to the row of one more name that it declares
-  pub rows_more : (pairs : List ProtocolName) (i : ℕ) (d : ProtocolName) (old new : List (List ℕ)) (heirs : List ℕ) → i < length pairs → d ≡ get_or pairs i d
+  pub rows_more : (pairs : List ProtocolName) (i : ℕ) (d : ProtocolName) (old new : List (List ℕ)) (heirs : List ℕ)
+      → i < length pairs → d ≡ get_or pairs i d
       → AreHeirs inherits order d.proto heirs
       → ((a : NameId) (k : ℕ) → sets.has (row_of new a) k ≡ (sets.has (row_of old a) k || (nat_eq a.rank d.name.rank && sets.has heirs k)))
       → AreRows order (has_member inherits (take i pairs)) old → AreRows order (has_member inherits (take (i + 1) pairs)) new
@@ -131,4 +140,5 @@ module _ (inherits : ProtoId → ProtoId → Bool) (order : List ProtoId) where
 
   pub same_rows : (xs ys : List ProtocolName) (rows : List (List ℕ)) → ((d : ProtocolName) → Contains xs d ↔ Contains ys d)
       → AreRows order (has_member inherits xs) rows → AreRows order (has_member inherits ys) rows
-  same_rows xs ys rows same are k p a f = are k p a f ∙ same_members (λ d. nat_eq a.rank d.name.rank && (nat_eq p.rank d.proto.rank || inherits p d.proto)) xs ys same
+  same_rows xs ys rows same are k p a f =
+      are k p a f ∙ same_members (λ d. nat_eq a.rank d.name.rank && (nat_eq p.rank d.proto.rank || inherits p d.proto)) xs ys same

@@ -38,7 +38,8 @@ module _ (order : List ProtoId) (has : ProtoId → NameId → Bool) where
       let k = key_of (λ p. pair p (name n)) (λ (e : ProtocolName). e.proto) (having order has (name n)) d b in
       let s : IsSymbol (suc n) (pair k.0 (name n)) = record {
         named = next n;
-        ordered = All-contains (Contains order) (having order has (name n)) k.0 (All-filter (λ p. has p (name n)) (Contains order) order (All-contains_itself order)) k.1;
+        ordered = All-contains (Contains order) (having order has (name n)) k.0
+            (All-filter (λ p. has p (name n)) (Contains order) order (All-contains_itself order)) k.1;
         member = All-contains (λ p. has p (name n) ≡ true) (having order has (name n)) k.0 (filter_passes (λ p. has p (name n)) order) k.1;
       } in
       subst (IsSymbol (suc n)) k.2 s
@@ -48,16 +49,19 @@ module _ (order : List ProtoId) (has : ProtoId → NameId → Bool) where
 
   pub symbol_is : (n : ℕ) (d : ProtocolName) → Contains (symbols_below order has n) d → IsSymbol n d
   symbol_is zero d c = no_member d c
-  symbol_is (suc n) d c = ⊎_elim (λ b. later n d (symbol_is n d b)) (at_last n d) (Contains-append_cases (symbols_below order has n) (symbols_of order has (name n)) d c)
+  symbol_is (suc n) d c = ⊎_elim (λ b. later n d (symbol_is n d b)) (at_last n d)
+      (Contains-append_cases (symbols_below order has n) (symbols_of order has (name n)) d c)
 
   having_there : (p : ProtoId) (a : NameId) → Contains order p → has p a ≡ true → Contains (having order has a) p
   having_there p a c e =
       get_contains (having order has a) (length (having (take c.0 order) has a)) p
       (filter_place (λ q. has q a) order c.0 p c.1 (ap (λ q. has q a) c.2 ∙ e) ∙ ap Some c.2)
 
-  pub symbol_there : (n : ℕ) (d : ProtocolName) → d.name.rank < n → Contains order d.proto → has d.proto d.name ≡ true → Contains (symbols_below order has n) d
+  pub symbol_there : (n : ℕ) (d : ProtocolName) → d.name.rank < n → Contains order d.proto → has d.proto d.name ≡ true
+      → Contains (symbols_below order has n) d
   symbol_there zero d l c e = absurd (omega arith)
-  symbol_there (suc n) d l c e = ⊎_elim (λ b. Contains-append_left (symbols_below order has n) (symbols_of order has (name n)) d (symbol_there n d b c e)) here (below_or l)
+  symbol_there (suc n) d l c e = ⊎_elim (λ b.
+      Contains-append_left (symbols_below order has n) (symbols_of order has (name n)) d (symbol_there n d b c e)) here (below_or l)
     where
       below_or : d.name.rank < suc n → (d.name.rank < n) ⊎ (d.name.rank ≡ n)
       below_or l = ⊎_elim inl (λ g. inr (same g)) (cases_lt d.name.rank n)
@@ -73,7 +77,8 @@ module _ (order : List ProtoId) (has : ProtoId → NameId → Bool) where
 
 -- ---- their order
 
-module _ (inherits : ProtoId → ProtoId → Bool) (count : ℕ) (order : List ProtoId) (has : ProtoId → NameId → Bool) (sorted : IsStrictlySortedBy (order_cmp inherits count) order) where
+module _ (inherits : ProtoId → ProtoId → Bool) (count : ℕ) (order : List ProtoId) (has : ProtoId → NameId → Bool)
+    (sorted : IsStrictlySortedBy (order_cmp inherits count) order) where
   keeps : (a : NameId) (p q : ProtoId) → order_cmp inherits count p q ≡ Less → symbol_cmp inherits count (pair p a) (pair q a) ≡ Less
   keeps a p q h = ap (λ o. ordering_then o (order_cmp inherits count p q)) (tied_itself nat_cmp_total a.rank) ∙ h
 
@@ -81,7 +86,8 @@ module _ (inherits : ProtoId → ProtoId → Bool) (count : ℕ) (order : List P
   by_name d e h = ap (λ o. ordering_then o (order_cmp inherits count d.proto e.proto)) (sym (nat_cmp_is d.name.rank e.name.rank Less h))
 
   named : (n : ℕ) (d : ProtocolName) → Contains (symbols_of order has (name n)) d → d.name.rank ≡ n
-  named n d c = let k = key_of (λ p. pair p (name n)) (λ (e : ProtocolName). e.proto) (having order has (name n)) d c in ap (λ (e : ProtocolName). e.name.rank) (sym k.2)
+  named n d c = let k = key_of (λ p. pair p (name n)) (λ (e : ProtocolName). e.proto) (having order has (name n)) d c in
+      ap (λ (e : ProtocolName). e.name.rank) (sym k.2)
 
   pub symbols_sorted : (n : ℕ) → IsStrictlySortedBy (symbol_cmp inherits count) (symbols_below order has n)
   symbols_sorted zero = sorted_nil (symbol_cmp inherits count)
@@ -89,7 +95,8 @@ module _ (inherits : ProtoId → ProtoId → Bool) (count : ℕ) (order : List P
       sorted_append (symbol_cmp inherits count) (symbols_below order has n) (symbols_of order has (name n)) (symbols_sorted n)
       (sorted_map (order_cmp inherits count) (symbol_cmp inherits count) (λ p. pair p (name n)) (keeps (name n)) (having order has (name n))
       (IsStrictlySortedBy-filter (order_cmp inherits count) (λ p. has p (name n)) order sorted))
-      (each_by_recursion (λ d. AllByRecursion (λ e. symbol_cmp inherits count d e ≡ Less) (symbols_of order has (name n))) (symbols_below order has n)
+      (each_by_recursion (λ d. AllByRecursion (λ e. symbol_cmp inherits count d e ≡ Less) (symbols_of order has (name n)))
+      (symbols_below order has n)
       (λ d c. each_by_recursion (λ e. symbol_cmp inherits count d e ≡ Less) (symbols_of order has (name n))
       (λ e b. by_name d e (subst (λ r. d.name.rank < r) (sym (named n e b)) (symbol_is order has n d c).named))))
 
@@ -106,13 +113,17 @@ module _ (inherits : ProtoId → ProtoId → Bool) (associated : List ProtocolNa
   member_from h =
       let s = some_passes test associated h in
       let d = s.0 in
-      let n = eqb-true a.rank d.name.rank ((and_parts (nat_eq a.rank d.name.rank) (nat_eq p.rank d.proto.rank || inherits p d.proto) s.2).0) in
+      let n =
+      eqb-true a.rank d.name.rank ((and_parts (nat_eq a.rank d.name.rank) (nat_eq p.rank d.proto.rank || inherits p d.proto) s.2).0) in
       ⊎_elim (λ e. inl (subst (λ x. Contains associated x) (same_pair p d (eqb-true p.rank d.proto.rank e) n) s.1))
       (λ e. inr (d.proto, e, subst (λ x. Contains associated x) (same_pair d.proto d refl n) s.1))
-      (or_cases (nat_eq p.rank d.proto.rank) (inherits p d.proto) ((and_parts (nat_eq a.rank d.name.rank) (nat_eq p.rank d.proto.rank || inherits p d.proto) s.2).1))
+      (or_cases (nat_eq p.rank d.proto.rank) (inherits p d.proto)
+      ((and_parts (nat_eq a.rank d.name.rank) (nat_eq p.rank d.proto.rank || inherits p d.proto) s.2).1))
 
   pub member_to : HasMember inherits associated p a → has_member inherits associated p a ≡ true
   member_to h =
       ⊎_elim
-      (λ c. passes test associated (pair p a) c (and_from (nat_eq a.rank a.rank) (nat_eq p.rank p.rank || inherits p p) (eq-eqb a.rank a.rank refl) (or_left (nat_eq p.rank p.rank) (inherits p p) (eq-eqb p.rank p.rank refl))))
-      (λ s. passes test associated (pair s.0 a) s.2 (and_from (nat_eq a.rank a.rank) (nat_eq p.rank s.0.rank || inherits p s.0) (eq-eqb a.rank a.rank refl) (or_right (nat_eq p.rank s.0.rank) (inherits p s.0) s.1))) h
+      (λ c. passes test associated (pair p a) c (and_from (nat_eq a.rank a.rank) (nat_eq p.rank p.rank || inherits p p)
+      (eq-eqb a.rank a.rank refl) (or_left (nat_eq p.rank p.rank) (inherits p p) (eq-eqb p.rank p.rank refl))))
+      (λ s. passes test associated (pair s.0 a) s.2 (and_from (nat_eq a.rank a.rank) (nat_eq p.rank s.0.rank || inherits p s.0)
+      (eq-eqb a.rank a.rank refl) (or_right (nat_eq p.rank s.0.rank) (inherits p s.0) s.1))) h

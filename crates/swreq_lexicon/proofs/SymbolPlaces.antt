@@ -21,13 +21,15 @@ get_left (x ∷ xs) ys zero h = refl
 get_left (x ∷ xs) ys (suc i) h = get_left xs ys i (omega arith)
 
 -- an item that passes a test stands, among those that pass, after those that pass before it
-pub filter_place : {A : Type 0} (p : A → Bool) (xs : List A) (i : ℕ) (d : A) → i < length xs → p (get_or xs i d) ≡ true → slice_get (filter p xs) (length (filter p (take i xs))) ≡ Some (get_or xs i d)
+pub filter_place : {A : Type 0} (p : A → Bool) (xs : List A) (i : ℕ) (d : A) → i < length xs → p (get_or xs i d) ≡ true
+    → slice_get (filter p xs) (length (filter p (take i xs))) ≡ Some (get_or xs i d)
 filter_place p [] i d h e = absurd (omega arith)
 filter_place p (x ∷ xs) zero d h e = ap (λ b. slice_get (cond b (x ∷ filter p xs) (filter p xs)) 0) e
 filter_place p (x ∷ xs) (suc i) d h e = by (p x) (filter_place p xs i d (omega arith) e)
   where
     by : (b : Bool) → slice_get (filter p xs) (length (filter p (take i xs))) ≡ Some (get_or xs i d)
-        → slice_get (cond b (x ∷ filter p xs) (filter p xs)) (length (cond b (x ∷ filter p (take i xs)) (filter p (take i xs)))) ≡ Some (get_or xs i d)
+        → slice_get (cond b (x ∷ filter p xs) (filter p xs)) (length (cond b (x ∷ filter p (take i xs)) (filter p (take i xs))))
+        ≡ Some (get_or xs i d)
     by true r = r
     by false r = r
 
@@ -38,8 +40,10 @@ module _ (order : List ProtoId) (has : ProtoId → NameId → Bool) where
   pub having_le : (a : NameId) → length (having order has a) ≤ length order
   having_le a = subst (λ n. n ≤ length order) (sym (length-filter (λ p. has p a) order)) (count_by-le-length (λ p. has p a) order)
 
-  pub length_more : (n : ℕ) → length (symbols_below order has (suc n)) ≡ length (symbols_below order has n) + length (having order has (name n))
-  length_more n = length-append (symbols_below order has n) (symbols_of order has (name n)) ∙ ap (λ k. length (symbols_below order has n) + k) (length_of (name n))
+  pub length_more : (n : ℕ)
+      → length (symbols_below order has (suc n)) ≡ length (symbols_below order has n) + length (having order has (name n))
+  length_more n = length-append (symbols_below order has n) (symbols_of order has (name n))
+      ∙ ap (λ k. length (symbols_below order has n) + k) (length_of (name n))
 
   pub length_below : (n : ℕ) → length order ≤ 1048576 → length (symbols_below order has n) ≤ n * 1048576
   length_below zero h = omega arith
@@ -61,27 +65,34 @@ module _ (order : List ProtoId) (has : ProtoId → NameId → Bool) where
   same_le : (a b : ℕ) → a ≡ b → a ≤ b
   same_le a b e = omega arith
 
-  longer_more : (n m : ℕ) → length (symbols_below order has n) ≤ length (symbols_below order has m) → length (symbols_below order has n) ≤ length (symbols_below order has (suc m))
+  longer_more : (n m : ℕ) → length (symbols_below order has n) ≤ length (symbols_below order has m)
+      → length (symbols_below order has n) ≤ length (symbols_below order has (suc m))
   longer_more n m h = let e = length_more m in omega (arith, e, h)
 
   longer : (n m : ℕ) → n ≤ m → length (symbols_below order has n) ≤ length (symbols_below order has m)
   longer n zero h = same_le (length (symbols_below order has n)) 0 (ap (λ k. length (symbols_below order has k)) (sym (at_zero n h)))
   longer n (suc m) h =
       ⊎_elim (λ b. longer_more n m (longer n m (at_most n m b)))
-      (λ e. same_le (length (symbols_below order has n)) (length (symbols_below order has (suc m))) (ap (λ k. length (symbols_below order has k)) (sym (at_end n m h e)))) (cases_lt n (suc m))
+      (λ e. same_le (length (symbols_below order has n)) (length (symbols_below order has (suc m)))
+      (ap (λ k. length (symbols_below order has k)) (sym (at_end n m h e)))) (cases_lt n (suc m))
 
   -- member symbols of names below a name keep their places
-  kept_more : (n m i : ℕ) → n ≤ m → i < length (symbols_below order has n) → slice_get (symbols_below order has m) i ≡ slice_get (symbols_below order has n) i
+  kept_more : (n m i : ℕ) → n ≤ m → i < length (symbols_below order has n)
+      → slice_get (symbols_below order has m) i ≡ slice_get (symbols_below order has n) i
       → slice_get (symbols_below order has (suc m)) i ≡ slice_get (symbols_below order has n) i
-  kept_more n m i h l before = let g = longer n m h in get_left (symbols_below order has m) (symbols_of order has (name m)) i (omega (arith, g, l)) ∙ before
+  kept_more n m i h l before =
+      let g = longer n m h in get_left (symbols_below order has m) (symbols_of order has (name m)) i (omega (arith, g, l)) ∙ before
 
-  kept : (n m i : ℕ) → n ≤ m → i < length (symbols_below order has n) → slice_get (symbols_below order has m) i ≡ slice_get (symbols_below order has n) i
+  kept : (n m i : ℕ) → n ≤ m → i < length (symbols_below order has n)
+      → slice_get (symbols_below order has m) i ≡ slice_get (symbols_below order has n) i
   kept n zero i h l = ap (λ k. slice_get (symbols_below order has k) i) (at_zero n h)
   kept n (suc m) i h l =
-      ⊎_elim (λ b. kept_more n m i (at_most n m b) l (kept n m i (at_most n m b) l)) (λ e. ap (λ k. slice_get (symbols_below order has k) i) (at_end n m h e)) (cases_lt n (suc m))
+      ⊎_elim (λ b. kept_more n m i (at_most n m b) l (kept n m i (at_most n m b) l))
+      (λ e. ap (λ k. slice_get (symbols_below order has k) i) (at_end n m h e)) (cases_lt n (suc m))
 
   -- the place of the member symbol of the k-th protocol that has the a-th name
-  pub symbol_at : (n a k : ℕ) (p : ProtoId) → a < n → k < length (having order has (name a)) → slice_get (having order has (name a)) k ≡ Some p
+  pub symbol_at : (n a k : ℕ) (p : ProtoId) → a < n → k < length (having order has (name a))
+      → slice_get (having order has (name a)) k ≡ Some p
       → slice_get (symbols_below order has n) (length (symbols_below order has a) + k) ≡ Some (pair p (name a))
   symbol_at n a k p h l e =
       let m = length_more a in
@@ -110,7 +121,8 @@ module _ (order : List ProtoId) (has : ProtoId → NameId → Bool) where
         ∙ sym (length_more a)
 
     pub counts_small : length order ≤ 1048576 → (a : ℕ) → get_or counts a 0 ≤ 1048576
-    counts_small few a = ⊎_elim (λ h. let e = are.each a h in let l = length_of (name a) in let k = having_le (name a) in omega (arith, e, l, k, few)) (λ h. let e = are.count in small (get_or_past counts a 0 (past h e))) (cases_lt a n)
+    counts_small few a = ⊎_elim (λ h. let e = are.each a h in let l = length_of (name a) in let k = having_le (name a) in
+        omega (arith, e, l, k, few)) (λ h. let e = are.count in small (get_or_past counts a 0 (past h e))) (cases_lt a n)
       where
         past : n ≤ a → length counts ≡ n → length counts ≤ a
         past h e = omega arith
@@ -118,7 +130,8 @@ module _ (order : List ProtoId) (has : ProtoId → NameId → Bool) where
         small : get_or counts a 0 ≡ 0 → get_or counts a 0 ≤ 1048576
         small e = omega (arith, e)
 
-  pub starts_are : (n : ℕ) (counts starts : List ℕ) → AreCounts order has n counts → length starts ≡ length counts + 1 → ((a : ℕ) → a ≤ length counts → get_or starts a 0 ≡ sum (take a counts)) → AreStarts order has n starts
+  pub starts_are : (n : ℕ) (counts starts : List ℕ) → AreCounts order has n counts → length starts ≡ length counts + 1
+      → ((a : ℕ) → a ≤ length counts → get_or starts a 0 ≡ sum (take a counts)) → AreStarts order has n starts
   starts_are n counts starts are len each =
       let size = are.count in record {
         count = omega (arith, size, len);

@@ -12,19 +12,22 @@ use Rattle.swreq_lexicon.proofs.SymbolPlaces.{filter_place, having_le, length_be
 
 module _ (order : List ProtoId) (has : ProtoId → NameId → Bool) (n : ℕ) where
   -- the place where the member symbols of a name begin
-  pub start_is : (starts : List ℕ) → AreStarts order has n starts → (a x : ℕ) → a ≤ n → get_or starts a x ≡ length (symbols_below order has a)
+  pub start_is : (starts : List ℕ) → AreStarts order has n starts → (a x : ℕ) → a ≤ n
+      → get_or starts a x ≡ length (symbols_below order has a)
   start_is starts are a x h =
       let size = are.count in
       get_or_default starts a x 0 (omega (arith, size)) ∙ are.each a h
 
   module _ (p : ProtoId) (a : NameId) where
     pub rank_found : (place : ℕ) → slice_get order place ≡ Some p → a.rank < n → has p a ≡ true
-        → slice_get (symbols_below order has n) (length (symbols_below order has a.rank) + length (having (take place order) has a)) ≡ Some (pair p a)
+        → slice_get (symbols_below order has n) (length (symbols_below order has a.rank) + length (having (take place order) has a))
+        ≡ Some (pair p a)
     rank_found place f h e =
         let within = slice_get_within order place p f in
         let same : get_or order place p ≡ p = get_or_from_slice_get order place p p f in
         let at = filter_place (λ q. has q a) order place p within (ap (λ q. has q a) same ∙ e) ∙ ap Some same in
-        symbol_at order has n a.rank (length (having (take place order) has a)) p h (slice_get_within (having order has a) (length (having (take place order) has a)) p at) at
+        symbol_at order has n a.rank (length (having (take place order) has a)) p h
+        (slice_get_within (having order has a) (length (having (take place order) has a)) p at) at
 
     pub rank_nowhere : (Contains order p → ⊥) → Contains (symbols_below order has n) (pair p a) → ⊥
     rank_nowhere none c = none (symbol_is order has n (pair p a) c).ordered
@@ -49,7 +52,8 @@ module _ (order : List ProtoId) (has : ProtoId → NameId → Bool) (n : ℕ) wh
         let l = part_le place (omega arith) in
         omega (arith, k, l, e, g, h, small, few)
 
-  pub pair_at : (a m start : ℕ) (p : ProtoId) → a < n → start ≡ length (symbols_below order has a) → start ≤ m → slice_get (having order has (name a)) (m - start) ≡ Some p
+  pub pair_at : (a m start : ℕ) (p : ProtoId) → a < n → start ≡ length (symbols_below order has a) → start ≤ m
+      → slice_get (having order has (name a)) (m - start) ≡ Some p
       → slice_get (symbols_below order has n) m ≡ Some (pair p (name a))
   pair_at a m start p h e l f =
       let k : m ≡ length (symbols_below order has a) + (m - start) = omega (arith, e) in

@@ -19,7 +19,8 @@ use Rattle.swreq_lexicon.specs.Views.{LexiconView, ProtocolsView, IsProtocol, Ha
 use Rattle.swreq_lexicon.proofs.Places.{declared_names}
 use Rattle.swreq_lexicon.proofs.SymbolMembers.{symbol_is, symbol_there, symbols_sorted, member_from, member_to}
 
-module _ (text : Bytes) (s : Skeleton) (ps : ProtocolsView) (names : List Bytes) (pairs associated : List ProtocolName) (order : List ProtoId) where
+module _ (text : Bytes) (s : Skeleton) (ps : ProtocolsView) (names : List Bytes) (pairs associated : List ProtocolName)
+    (order : List ProtoId) where
   abbrev inherits : ProtoId → ProtoId → Bool
   inherits p q = inherits_by ps.places ps.resolved.inherits p q
 
@@ -34,8 +35,10 @@ module _ (text : Bytes) (s : Skeleton) (ps : ProtocolsView) (names : List Bytes)
     resolved = ps.resolved;
   }
 
-  module _ (within : (d : ProtocolName) → Contains pairs d → d.name.rank < length names) (same : (d : ProtocolName) → Contains associated d ↔ Contains pairs d)
-      (ordered : IsRanking (over.order_cmp (inherits_by ps.places ps.resolved.inherits) (length ps.protocols)) (λ p. p.rank < length ps.protocols) order) where
+  module _ (within : (d : ProtocolName) → Contains pairs d → d.name.rank < length names)
+      (same : (d : ProtocolName) → Contains associated d ↔ Contains pairs d)
+      (ordered : IsRanking (over.order_cmp (inherits_by ps.places ps.resolved.inherits) (length ps.protocols))
+      (λ p. p.rank < length ps.protocols) order) where
     named : (p : ProtoId) (a : NameId) → over.HasMember inherits associated p a → a.rank < length names
     named p a h = ⊎_elim (λ c. within (pair p a) ((same (pair p a)).0 c)) (λ q. within (pair q.0 a) ((same (pair q.0 a)).0 q.2)) h
 
@@ -43,15 +46,19 @@ module _ (text : Bytes) (s : Skeleton) (ps : ProtocolsView) (names : List Bytes)
     symbols = record {
       sorted = symbols_sorted inherits (length ps.protocols) order (has_member inherits associated) ordered.sorted (length names);
       same = λ d. (
-        λ c. let is = symbol_is order (has_member inherits associated) (length names) d c in ((ordered.same d.proto).0 is.ordered, member_from inherits associated d.proto d.name is.member),
-        λ h. symbol_there order (has_member inherits associated) (length names) d (named d.proto d.name h.1) ((ordered.same d.proto).1 h.0) (member_to inherits associated d.proto d.name h.1),
+        λ c. let is = symbol_is order (has_member inherits associated) (length names) d c in
+            ((ordered.same d.proto).0 is.ordered, member_from inherits associated d.proto d.name is.member),
+        λ h. symbol_there order (has_member inherits associated) (length names) d (named d.proto d.name h.1) ((ordered.same d.proto).1 h.0)
+            (member_to inherits associated d.proto d.name h.1),
       );
     }
 
-    pub lexicon_is : IsRanking bytes_cmp (Contains (protocol_names text s.protocols)) ps.protocols → IsRanking bytes_cmp (Contains (mentioned text s)) names
+    pub lexicon_is : IsRanking bytes_cmp (Contains (protocol_names text s.protocols)) ps.protocols
+        → IsRanking bytes_cmp (Contains (mentioned text s)) names
         → length ps.places ≡ length ps.protocols
         → ps.written_order ≡ map (λ p. proto_by ps.protocols (word text p.name)) s.protocols
-        → ((p : ProtoId) (name : Bytes) → slice_get ps.protocols p.rank ≡ Some name → position_from (bytes_eq name) 0 (protocol_names text s.protocols) ≡ Some (place_by ps.places p))
+        → ((p : ProtoId) (name : Bytes) → slice_get ps.protocols p.rank ≡ Some name
+        → position_from (bytes_eq name) 0 (protocol_names text s.protocols) ≡ Some (place_by ps.places p))
         → HasDeclared text s ps.resolved → pairs ≡ declared_in text ps.protocols names s.protocols
         → IsStrictlySortedBy (over.assoc_cmp inherits associated) associated → IsLexiconOf text s whole
     lexicon_is protocols named placed written places declared is sorted = record {
@@ -61,7 +68,10 @@ module _ (text : Bytes) (s : Skeleton) (ps : ProtocolsView) (names : List Bytes)
       written_order = written;
       places = λ p name h. ap (position_from (bytes_eq name) 0) (declared_names text s.protocols) ∙ places p name h;
       inheritance = λ p q. declared.tells (place_by ps.places p) (place_by ps.places q);
-      associated = record { sorted = sorted; same = subst (λ (xs : List ProtocolName). (d : ProtocolName) → Contains associated d ↔ Contains xs d) is same };
+      associated = record {
+        sorted = sorted;
+        same = subst (λ (xs : List ProtocolName). (d : ProtocolName) → Contains associated d ↔ Contains xs d) is same;
+      };
       symbols = symbols;
       resolved = declared;
     }

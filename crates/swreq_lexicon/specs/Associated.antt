@@ -32,7 +32,8 @@ module _ (inherits : ProtoId → ProtoId → Bool) where
 
   -- Associated types are ordered by name, then roots before others, then by protocol.
   abbrev pub assoc_cmp : List ProtocolName → ProtocolName → ProtocolName → Ordering
-  assoc_cmp associated = then_cmp (on (λ d. d.name.rank) nat_cmp) (then_cmp (on (λ d. cond (is_root associated d) 0 1) nat_cmp) (on (λ d. d.proto.rank) nat_cmp))
+  assoc_cmp associated = then_cmp (on (λ d. d.name.rank) nat_cmp)
+      (then_cmp (on (λ d. cond (is_root associated d) 0 1) nat_cmp) (on (λ d. d.proto.rank) nat_cmp))
 
   -- P inherits the name A if and only if P inherits a protocol that declares A.
   abbrev pub InheritsName : List ProtocolName → ProtoId → NameId → Type 0

@@ -10,7 +10,8 @@ use Rattle.swreq_lexicon.specs.Associated.{name}
 
 -- P declares A or inherits a protocol that declares A.
 abbrev pub has_member : (ProtoId → ProtoId → Bool) → List ProtocolName → ProtoId → NameId → Bool
-has_member inherits associated p a = list_any (λ d. nat_eq a.rank d.name.rank && (nat_eq p.rank d.proto.rank || inherits p d.proto)) associated
+has_member inherits associated p a =
+    list_any (λ d. nat_eq a.rank d.name.rank && (nat_eq p.rank d.proto.rank || inherits p d.proto)) associated
 
 module _ (order : List ProtoId) (has : ProtoId → NameId → Bool) where
   -- the protocols that have the member name

@@ -41,7 +41,8 @@ pub record IsLexiconOf (text : Bytes) (s : Skeleton) (x : LexiconView) : Type 0 
   pub written_order : x.written_order ≡ map (λ p. proto_by x.protocols (word text p.name)) s.protocols
   -- each protocol has one place, the first place of its name
   pub placed : length x.places ≡ length x.protocols
-  pub places : (p : ProtoId) (name : Bytes) → slice_get x.protocols p.rank ≡ Some name → place (spaces text s).protocols name ≡ Some (place_of x p)
+  pub places : (p : ProtoId) (name : Bytes) → slice_get x.protocols p.rank ≡ Some name
+      → place (spaces text s).protocols name ≡ Some (place_of x p)
   -- a protocol inherits what the protocol at its place inherits
   pub inheritance : (p q : ProtoId) → IsTrue (inherits x p q) ↔ Inherits text s (place_of x p) (place_of x q)
   -- associated types are the declared pairs

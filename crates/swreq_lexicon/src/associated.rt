@@ -68,9 +68,12 @@ impl Associated {
     ) -> Result<Associated, AllocError>
         requires few { length pairs.items ≤ 1048576 }
         requires within { (d : ProtocolName) → Contains pairs.items d → d.name.rank < names }
-        ensures within { IfOk result (λ x. (d : ProtocolName) → Contains x d → d.name.rank < names) }
-        ensures same { IfOk result (λ x. (d : ProtocolName) → Contains x d ↔ Contains pairs.items d) }
-        ensures sorted { IfOk result (λ x. IsStrictlySortedBy (assoc_cmp (inherits_by protocols.now.places protocols.now.resolved.inherits) x) x) }
+        ensures within { IfOk result
+            (λ x. (d : ProtocolName) → Contains x d → d.name.rank < names) }
+        ensures same { IfOk result
+            (λ x. (d : ProtocolName) → Contains x d ↔ Contains pairs.items d) }
+        ensures sorted { IfOk result (λ x. IsStrictlySortedBy
+            (assoc_cmp (inherits_by protocols.now.places protocols.now.resolved.inherits) x) x) }
     {
         let declarers = declarers_of(alloc, names, &pairs)?;
         let ranked = Ranked::of(keys(alloc, protocols, &declarers, &pairs)?);
@@ -125,7 +128,8 @@ impl Associated {
 
     /// Whether the protocol, or one that it inherits, declares the name.
     pub fn has_member(&self, protocols: &Protocols, p: ProtoId, a: NameId) -> bool
-        ensures { result ≡ has_member (inherits_by protocols.now.places protocols.now.resolved.inherits) self.now p a }
+        ensures { result ≡ has_member (inherits_by protocols.now.places
+            protocols.now.resolved.inherits) self.now p a }
     {
         has_name(protocols, &self.declarers, p, a)
     }
@@ -149,7 +153,8 @@ fn declarers_of(
 
 /// Whether some protocol that the protocol inherits declares the name.
 fn inherits_name(protocols: &Protocols, lists: &Lists<ProtoId>, p: ProtoId, a: NameId) -> bool
-    ensures { result ≡ list_any (inherits_by protocols.now.places protocols.now.resolved.inherits p) (slice_index_or lists.now a.rank []) }
+    ensures { result ≡ list_any (inherits_by protocols.now.places protocols.now.resolved.inherits p)
+        (slice_index_or lists.now a.rank []) }
 {
     protocols.may_inherit(p)
         && lists
@@ -160,7 +165,8 @@ fn inherits_name(protocols: &Protocols, lists: &Lists<ProtoId>, p: ProtoId, a: N
 
 /// Whether the protocol, or one that it inherits, is among those that declare the name.
 fn has_name(protocols: &Protocols, lists: &Lists<ProtoId>, p: ProtoId, a: NameId) -> bool
-    ensures { result ≡ list_any (λ q. nat_eq p.rank q.rank || inherits_by protocols.now.places protocols.now.resolved.inherits p q) (slice_index_or lists.now a.rank []) }
+    ensures { result ≡ list_any (λ q. nat_eq p.rank q.rank || inherits_by protocols.now.places
+        protocols.now.resolved.inherits p q) (slice_index_or lists.now a.rank []) }
 {
     lists
         .at(a.rank as usize)
@@ -176,7 +182,8 @@ fn keys(
     pairs: &[ProtocolName],
 ) -> Result<Vec<AssocKey>, AllocError>
     requires { AreDeclarers pairs.now lists.now }
-    ensures { IfOk result (λ keys. keys.items ≡ map (key (inherits_by protocols.now.places protocols.now.resolved.inherits) pairs.now) pairs.now) }
+    ensures { IfOk result (λ keys. keys.items ≡ map (key (inherits_by protocols.now.places
+        protocols.now.resolved.inherits) pairs.now) pairs.now) }
 {
     let mut keys = Vec::new(alloc);
     for d in pairs {

@@ -35,8 +35,10 @@ impl Model for Heirs {
 impl Heirs {
     /// The heirs of the protocols of an order. The order has all protocols.
     pub fn of(alloc: Global, protocols: &Protocols, ordered: &Ordered) -> Result<Heirs, AllocError>
-        requires { (p : ProtoId) → p.rank < length protocols.now.protocols → Contains ordered.now p }
-        ensures { IfOk result (AreAllHeirs ordered.now protocols.now.places protocols.now.resolved.inherits) }
+        requires { (p : ProtoId) → p.rank < length protocols.now.protocols
+            → Contains ordered.now p }
+        ensures { IfOk result
+            (AreAllHeirs ordered.now protocols.now.places protocols.now.resolved.inherits) }
     {
         let order = ordered.protos();
         let direct = protocols.direct();
@@ -51,7 +53,8 @@ impl Heirs {
     pub fn at(&self, place: usize) -> Option<&Bits>
         ensures { MatchOption result
             ((k : ℕ) → leads_up self.now.rows (position_at self.now.positions place) k ≡ false)
-            (λ places. (k : ℕ) → has places.now k ≡ leads_up self.now.rows (position_at self.now.positions place) k) }
+            (λ places. (k : ℕ)
+            → has places.now k ≡ leads_up self.now.rows (position_at self.now.positions place) k) }
     {
         match self.positions.get(place) {
             Some(Some(position)) => self.closure.places_from(*position),
@@ -68,8 +71,10 @@ fn positions(
     bound: usize,
 ) -> Result<Vec<Option<usize>>, AllocError>
     ensures len { IfOk result (λ positions. length positions.items ≡ bound) }
-    ensures are { IfOk result (λ positions. ArePositions order.now protocols.now.places positions.items) }
-    ensures all { IfOk result (λ positions. HavePositions order.now protocols.now.places positions.items (length order.now)) }
+    ensures are { IfOk result
+        (λ positions. ArePositions order.now protocols.now.places positions.items) }
+    ensures all { IfOk result (λ positions.
+        HavePositions order.now protocols.now.places positions.items (length order.now)) }
 {
     let mut positions = vec![in alloc; None; bound]?;
     for k in 0..order.len() {
@@ -100,8 +105,10 @@ fn add_heir(
 ) -> Result<(), AllocError>
     requires { (place m : ℕ) → position_at positions.now place ≡ Some m → m < length lists.old }
     ensures len { OnOk result (length lists.new ≡ length lists.old) }
-    ensures added { OnOk result ((m k : ℕ) → Contains (next lists.new m) k ↔ (Contains (next lists.old m) k
-        ⊎ ((k ≡ heir) × (place : ℕ) × Contains bases.now place × (position_at positions.now place ≡ Some m)))) }
+    ensures added { OnOk result
+        ((m k : ℕ) → Contains (next lists.new m) k ↔ (Contains (next lists.old m) k
+        ⊎ ((k ≡ heir) × (place : ℕ) × Contains bases.now place
+        × (position_at positions.now place ≡ Some m)))) }
 {
     for base in bases {
         if let Some(position) = position_at(positions, *base) {
@@ -131,7 +138,8 @@ fn direct_heirs(
 ) -> Result<Vec<Seq<usize>>, AllocError>
     requires { ArePositions order.now protocols.now.places positions.now }
     ensures len { IfOk result (λ heirs. length heirs.items ≡ length order.now) }
-    ensures are { IfOk result (λ heirs. AreDirectHeirs order.now protocols.now.places positions.now direct.now
+    ensures are { IfOk result
+        (λ heirs. AreDirectHeirs order.now protocols.now.places positions.now direct.now
         (length order.now) heirs.items) }
 {
     let mut lists = Lists::new(alloc, order.len())?;

@@ -150,14 +150,16 @@ impl Lexicon {
 
     /// The protocol with this name, or None if and only if there is none.
     pub fn find_proto(&self, name: &[u8]) -> Option<ProtoId>
-        ensures { MatchOption result (Contains self.now.protocols name.now → ⊥) (λ p. slice_get self.now.protocols p.rank ≡ Some name.now) }
+        ensures { MatchOption result (Contains self.now.protocols name.now → ⊥)
+            (λ p. slice_get self.now.protocols p.rank ≡ Some name.now) }
     {
         self.protocols.find(name)
     }
 
     /// The name with these bytes, or None if and only if there is none.
     pub fn find_name(&self, name: &[u8]) -> Option<NameId>
-        ensures { MatchOption result (Contains self.now.names name.now → ⊥) (λ a. slice_get self.now.names a.rank ≡ Some name.now) }
+        ensures { MatchOption result (Contains self.now.names name.now → ⊥)
+            (λ a. slice_get self.now.names a.rank ≡ Some name.now) }
     {
         match self.names.find(name) {
             Some(rank) => Some(NameId { rank: rank as u32 }),
@@ -207,7 +209,8 @@ impl Lexicon {
 
     /// The associated type of a name that a protocol declares, or None if and only if it does not declare the name.
     pub fn declares(&self, p: ProtoId, a: NameId) -> Option<AssocId>
-        ensures { MatchOption result (Contains self.now.associated (pair p a) → ⊥) (λ d. slice_get self.now.associated d.rank ≡ Some (pair p a)) }
+        ensures { MatchOption result (Contains self.now.associated (pair p a) → ⊥)
+            (λ d. slice_get self.now.associated d.rank ≡ Some (pair p a)) }
     {
         self.associated.find(p, a)
     }
@@ -222,7 +225,8 @@ impl Lexicon {
 
     /// The rank of the member symbol `[P:A]`, or None if and only if there is none.
     pub fn member_rank(&self, p: ProtoId, a: NameId) -> Option<u64>
-        ensures { MatchOption result (Contains self.now.symbols (pair p a) → ⊥) (λ m. slice_get self.now.symbols m ≡ Some (pair p a)) }
+        ensures { MatchOption result (Contains self.now.symbols (pair p a) → ⊥)
+            (λ m. slice_get self.now.symbols m ≡ Some (pair p a)) }
     {
         self.symbols
             .find(&self.protocols, &self.associated, self.names.len(), p, a)
@@ -256,7 +260,8 @@ fn add_declared(
     pairs: &mut Vec<ProtocolName>,
 ) -> Result<(), AllocError>
     requires { length names.now ≤ 1048576 }
-    ensures { OnOk result (pairs.new.items ≡ pairs.old.items ++ map (λ m. pair proto (name_by names.now (word text.now m.name))) members.now) }
+    ensures { OnOk result (pairs.new.items ≡ pairs.old.items
+        ++ map (λ m. pair proto (name_by names.now (word text.now m.name))) members.now) }
 {
     for m in members {
         let rank = rank_or_first(names, word(text, m.name));
@@ -275,7 +280,8 @@ fn declared_in(
     ps: &[ProtocolDecl],
 ) -> Result<Vec<ProtocolName>, AllocError>
     requires { length names.now ≤ 1048576 }
-    ensures { IfOk result (λ pairs. pairs.items ≡ declared_in text.now protocols.now.protocols names.now ps.now) }
+    ensures { IfOk result
+        (λ pairs. pairs.items ≡ declared_in text.now protocols.now.protocols names.now ps.now) }
 {
     let mut pairs = Vec::new(alloc);
     for p in ps {
@@ -296,9 +302,11 @@ fn pairs_of(
     requires small { IsSmall text.now s.now }
     requires names { IsRanking bytes_cmp (Contains (mentioned text.now s.now)) names.now }
     requires few { length names.now ≤ 1048576 }
-    ensures is { IfOk result (λ pairs. pairs.items ≡ declared_in text.now protocols.now.protocols names.now s.now.protocols) }
+    ensures is { IfOk result (λ pairs.
+        pairs.items ≡ declared_in text.now protocols.now.protocols names.now s.now.protocols) }
     ensures few { IfOk result (λ pairs. length pairs.items ≤ 1048576) }
-    ensures within { IfOk result (λ pairs. (d : ProtocolName) → Contains pairs.items d → d.name.rank < length names.now) }
+    ensures within { IfOk result
+        (λ pairs. (d : ProtocolName) → Contains pairs.items d → d.name.rank < length names.now) }
 {
     let pairs = declared_in(alloc, text, protocols, names, s.protocols.items())?;
     Ok(pairs)

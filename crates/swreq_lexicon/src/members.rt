@@ -40,8 +40,10 @@ impl Members {
         names: usize,
     ) -> Result<Members, AllocError>
         requires names { (d : ProtocolName) → Contains associated.now d → d.name.rank < names }
-        requires all { (p : ProtoId) → p.rank < length protocols.now.protocols → Contains ordered.now p }
-        ensures { IfOk result (AreRows ordered.now (has_member (inherits_by protocols.now.places protocols.now.resolved.inherits) associated.now)) }
+        requires all { (p : ProtoId) → p.rank < length protocols.now.protocols
+            → Contains ordered.now p }
+        ensures { IfOk result (AreRows ordered.now (has_member (inherits_by protocols.now.places
+            protocols.now.resolved.inherits) associated.now)) }
     {
         let rows = rows(alloc, protocols, ordered, associated.written(), names)?;
         Ok(Members { rows })
@@ -66,8 +68,10 @@ impl Members {
         p: ProtoId,
         a: NameId,
     ) -> bool
-        requires { AreRows ordered.now (has_member (inherits_by protocols.now.places protocols.now.resolved.inherits) associated.now) self.now }
-        ensures { result ≡ has_member (inherits_by protocols.now.places protocols.now.resolved.inherits) associated.now p a }
+        requires { AreRows ordered.now (has_member (inherits_by protocols.now.places
+            protocols.now.resolved.inherits) associated.now) self.now }
+        ensures { result ≡ has_member (inherits_by protocols.now.places
+            protocols.now.resolved.inherits) associated.now p a }
     {
         match ordered.place_of(p) {
             Some(place) => self.at(place, a),
@@ -95,7 +99,8 @@ fn row_at(rows: &[Bits], a: NameId) -> Option<&Bits>
 
 /// The set with only the place of this protocol.
 fn itself(alloc: Global, ordered: &Ordered, q: ProtoId) -> Result<Bits, AllocError>
-    ensures { IfOk result (λ s. (k : ℕ) (p : ProtoId) → slice_get ordered.now k ≡ Some p → has s k ≡ nat_eq p.rank q.rank) }
+    ensures { IfOk result (λ s.
+        (k : ℕ) (p : ProtoId) → slice_get ordered.now k ≡ Some p → has s k ≡ nat_eq p.rank q.rank) }
 {
     match ordered.place_of(q) {
         Some(place) => {
@@ -115,8 +120,10 @@ fn places_of(
     heirs: &Heirs,
     q: ProtoId,
 ) -> Result<Bits, AllocError>
-    requires { AreAllHeirs ordered.now protocols.now.places protocols.now.resolved.inherits heirs.now }
-    ensures { IfOk result (AreHeirs (inherits_by protocols.now.places protocols.now.resolved.inherits) ordered.now q) }
+    requires { AreAllHeirs ordered.now protocols.now.places
+        protocols.now.resolved.inherits heirs.now }
+    ensures { IfOk result (AreHeirs (inherits_by protocols.now.places
+        protocols.now.resolved.inherits) ordered.now q) }
 {
     let set = itself(alloc, ordered, q)?;
     match heirs.at(protocols.place(q)) {
@@ -128,7 +135,8 @@ fn places_of(
 /// An empty row for each of `names` names.
 fn no_rows(alloc: Global, names: usize) -> Result<Vec<Bits>, AllocError>
     ensures len { IfOk result (λ rows. length rows.items ≡ names) }
-    ensures none { IfOk result (λ rows. (a : NameId) (k : ℕ) → has (row_of rows.items a) k ≡ false) }
+    ensures none { IfOk result
+        (λ rows. (a : NameId) (k : ℕ) → has (row_of rows.items a) k ≡ false) }
 {
     let mut rows = Vec::new(alloc);
     for _ in 0..names {
@@ -142,7 +150,8 @@ fn add(alloc: Global, heirs: &Bits, a: NameId, rows: &mut Vec<Bits>) -> Result<(
     requires within { a.rank < length rows.old.items }
     ensures len { OnOk result (length rows.new.items ≡ length rows.old.items) }
     ensures rows { OnOk result ((b : NameId) (k : ℕ)
-        → has (row_of rows.new.items b) k ≡ (has (row_of rows.old.items b) k || (nat_eq b.rank a.rank && has heirs.now k))) }
+        → has (row_of rows.new.items b) k
+        ≡ (has (row_of rows.old.items b) k || (nat_eq b.rank a.rank && has heirs.now k))) }
 {
     let row = rows[a.rank as usize].union(alloc, heirs)?;
     rows[a.rank as usize] = row;
@@ -158,8 +167,10 @@ fn rows(
     names: usize,
 ) -> Result<Vec<Bits>, AllocError>
     requires names { (d : ProtocolName) → Contains pairs.now d → d.name.rank < names }
-    requires all { (p : ProtoId) → p.rank < length protocols.now.protocols → Contains ordered.now p }
-    ensures { IfOk result (λ rows. AreRows ordered.now (has_member (inherits_by protocols.now.places protocols.now.resolved.inherits) pairs.now) rows.items) }
+    requires all { (p : ProtoId) → p.rank < length protocols.now.protocols
+        → Contains ordered.now p }
+    ensures { IfOk result (λ rows. AreRows ordered.now (has_member (inherits_by protocols.now.places
+        protocols.now.resolved.inherits) pairs.now) rows.items) }
 {
     let mut rows = no_rows(alloc, names)?;
     if pairs.is_empty() {

@@ -66,7 +66,8 @@ fn kept(places: &[usize], p: ProtoId) -> Option<usize>
 
 /// The place, if the protocol stands there.
 fn here(protos: &[ProtoId], p: ProtoId, place: usize) -> Option<usize>
-    ensures { MatchOption result (slice_get protos.now place ≡ Some p → ⊥) (λ k. (k ≡ place) × (slice_get protos.now place ≡ Some p)) }
+    ensures { MatchOption result (slice_get protos.now place ≡ Some p → ⊥)
+        (λ k. (k ≡ place) × (slice_get protos.now place ≡ Some p)) }
 {
     match protos.get(place) {
         Some(q) => { if p == *q { Some(place) } else { None } }

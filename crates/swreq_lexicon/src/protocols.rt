@@ -65,12 +65,17 @@ impl Protocols {
         resolved: Names,
     ) -> Result<Protocols, AllocError>
         requires small { length protocols.now ≤ 1048576 }
-        requires declared { resolved.declared.protocols ≡ declarations text.now (map (λ p. p.name) protocols.now) }
-        ensures ranking { IfOk result (λ x. IsRanking bytes_cmp (Contains (protocol_names text.now protocols.now)) x.protocols) }
+        requires declared { resolved.declared.protocols
+            ≡ declarations text.now (map (λ p. p.name) protocols.now) }
+        ensures ranking { IfOk result (λ x.
+            IsRanking bytes_cmp (Contains (protocol_names text.now protocols.now)) x.protocols) }
         ensures placed { IfOk result (λ x. length x.places ≡ length x.protocols) }
-        ensures places { IfOk result (λ x. (p : ProtoId) (name : Bytes) → slice_get x.protocols p.rank ≡ Some name
-            → position_from (bytes_eq name) 0 (protocol_names text.now protocols.now) ≡ Some (place_by x.places p)) }
-        ensures written { IfOk result (λ x. x.written_order ≡ map (λ p. proto_by x.protocols (word text.now p.name)) protocols.now) }
+        ensures places { IfOk result
+            (λ x. (p : ProtoId) (name : Bytes) → slice_get x.protocols p.rank ≡ Some name
+            → position_from (bytes_eq name) 0 (protocol_names text.now protocols.now)
+            ≡ Some (place_by x.places p)) }
+        ensures written { IfOk result (λ x. x.written_order
+            ≡ map (λ p. proto_by x.protocols (word text.now p.name)) protocols.now) }
         ensures resolved { IfOk result (λ x. x.resolved ≡ resolved) }
     {
         let ranks = ranks_of(alloc, text, protocols)?;
@@ -104,7 +109,8 @@ impl Protocols {
 
     /// The protocol with this name.
     pub fn find(&self, name: &[u8]) -> Option<ProtoId>
-        ensures { MatchOption result (Contains self.now.protocols name.now → ⊥) (λ p. slice_get self.now.protocols p.rank ≡ Some name.now) }
+        ensures { MatchOption result (Contains self.now.protocols name.now → ⊥)
+            (λ p. slice_get self.now.protocols p.rank ≡ Some name.now) }
     {
         match self.ranks.find(name) {
             Some(rank) => Some(ProtoId { rank: rank as u32 }),
@@ -158,14 +164,16 @@ impl Protocols {
 
     /// Whether the protocol may inherit a protocol. It is false only if it inherits none.
     pub fn may_inherit(&self, p: ProtoId) -> bool
-        ensures { result ≡ false → (q : ProtoId) → inherits_by self.now.places self.now.resolved.inherits p q ≡ false }
+        ensures { result ≡ false → (q : ProtoId)
+            → inherits_by self.now.places self.now.resolved.inherits p q ≡ false }
     {
         self.resolved.inheritance().may_lead(self.place(p))
     }
 
     /// How many protocols the protocol inherits.
     pub fn depth(&self, p: ProtoId) -> u32
-        ensures { result ≡ depth (inherits_by self.now.places self.now.resolved.inherits) (length self.now.protocols) p }
+        ensures { result ≡ depth (inherits_by self.now.places self.now.resolved.inherits)
+            (length self.now.protocols) p }
     {
         let inheritance = self.resolved.inheritance();
         inheritance.count(self.place(p), &self.firsts) as u32
@@ -204,7 +212,8 @@ fn names(alloc: Global, text: &[u8], protocols: &[ProtocolDecl]) -> Result<Vec<S
 
 /// The names of the protocols by rank.
 fn ranks_of(alloc: Global, text: &[u8], protocols: &[ProtocolDecl]) -> Result<Ranks, AllocError>
-    ensures ranking { IfOk result (IsRanking bytes_cmp (Contains (protocol_names text.now protocols.now))) }
+    ensures ranking { IfOk result
+        (IsRanking bytes_cmp (Contains (protocol_names text.now protocols.now))) }
     ensures few { IfOk result (λ ranks. length ranks ≤ length protocols.now) }
 {
     let ranks = Ranks::of(names(alloc, text, protocols)?);
@@ -221,7 +230,8 @@ fn first_place(resolved: &Names, name: &[u8]) -> usize
 
 /// For each protocol, by rank, the first place of its name in written order.
 fn places(alloc: Global, resolved: &Names, ranks: &Ranks) -> Result<Vec<usize>, AllocError>
-    ensures { IfOk result (λ places. places.items ≡ map (λ name. unwrap_or (place resolved.now.declared.protocols name) 0) ranks.now) }
+    ensures { IfOk result (λ places. places.items
+        ≡ map (λ name. unwrap_or (place resolved.now.declared.protocols name) 0) ranks.now) }
 {
     let mut places = Vec::new(alloc);
     for rank in 0..ranks.len() {
@@ -252,7 +262,8 @@ fn written_order(
     ranks: &Ranks,
 ) -> Result<Vec<ProtoId>, AllocError>
     requires { length ranks.now ≤ 1048576 }
-    ensures { IfOk result (λ order. order.items ≡ map (λ p. proto_by ranks.now (word text.now p.name)) protocols.now) }
+    ensures { IfOk result (λ order.
+        order.items ≡ map (λ p. proto_by ranks.now (word text.now p.name)) protocols.now) }
 {
     let mut order = Vec::new(alloc);
     for p in protocols {

@@ -56,11 +56,14 @@ impl Symbols {
     ) -> Result<Symbols, AllocError>
         requires names { names ≤ 1048576 }
         requires within { (d : ProtocolName) → Contains associated.now d → d.name.rank < names }
-        ensures order { IfOk result (λ s. IsRanking (order_cmp (inherits_by protocols.now.places protocols.now.resolved.inherits) (length protocols.now.protocols))
+        ensures order { IfOk result (λ s. IsRanking (order_cmp (inherits_by protocols.now.places
+            protocols.now.resolved.inherits) (length protocols.now.protocols))
             (λ p. p.rank < length protocols.now.protocols) s.order) }
         ensures few { IfOk result (λ s. length s.order ≤ 1048576) }
-        ensures starts { IfOk result (λ s. AreStarts s.order (has_member (inherits_by protocols.now.places protocols.now.resolved.inherits) associated.now) names s.starts) }
-        ensures rows { IfOk result (λ s. AreRows s.order (has_member (inherits_by protocols.now.places protocols.now.resolved.inherits) associated.now) s.rows) }
+        ensures starts { IfOk result (λ s. AreStarts s.order (has_member (inherits_by
+            protocols.now.places protocols.now.resolved.inherits) associated.now) names s.starts) }
+        ensures rows { IfOk result (λ s. AreRows s.order (has_member (inherits_by
+            protocols.now.places protocols.now.resolved.inherits) associated.now) s.rows) }
     {
         let protos = order(alloc, protocols)?;
         let ordered = Ordered::of(alloc, protos, protocols.len())?;
@@ -90,8 +93,10 @@ impl Symbols {
         p: ProtoId,
         a: NameId,
     ) -> bool
-        requires { AreRows self.now.order (has_member (inherits_by protocols.now.places protocols.now.resolved.inherits) associated.now) self.now.rows }
-        ensures { result ≡ has_member (inherits_by protocols.now.places protocols.now.resolved.inherits) associated.now p a }
+        requires { AreRows self.now.order (has_member (inherits_by protocols.now.places
+            protocols.now.resolved.inherits) associated.now) self.now.rows }
+        ensures { result ≡ has_member (inherits_by protocols.now.places
+            protocols.now.resolved.inherits) associated.now p a }
     {
         self.members.has(protocols, &self.ordered, associated, p, a)
     }
@@ -107,11 +112,16 @@ impl Symbols {
     ) -> Option<u64>
         requires names { names ≤ 1048576 }
         requires few { length self.now.order ≤ 1048576 }
-        requires starts { AreStarts self.now.order (has_member (inherits_by protocols.now.places protocols.now.resolved.inherits) associated.now) names self.now.starts }
-        requires rows { AreRows self.now.order (has_member (inherits_by protocols.now.places protocols.now.resolved.inherits) associated.now) self.now.rows }
+        requires starts { AreStarts self.now.order (has_member (inherits_by protocols.now.places
+            protocols.now.resolved.inherits) associated.now) names self.now.starts }
+        requires rows { AreRows self.now.order (has_member (inherits_by protocols.now.places
+            protocols.now.resolved.inherits) associated.now) self.now.rows }
         ensures { MatchOption result
-            (Contains (symbols_below self.now.order (has_member (inherits_by protocols.now.places protocols.now.resolved.inherits) associated.now) names) (pair p a) → ⊥)
-            (λ m. slice_get (symbols_below self.now.order (has_member (inherits_by protocols.now.places protocols.now.resolved.inherits) associated.now) names) m ≡ Some (pair p a)) }
+            (Contains (symbols_below self.now.order (has_member (inherits_by protocols.now.places
+            protocols.now.resolved.inherits) associated.now) names) (pair p a) → ⊥)
+            (λ m.
+            slice_get (symbols_below self.now.order (has_member (inherits_by protocols.now.places
+            protocols.now.resolved.inherits) associated.now) names) m ≡ Some (pair p a)) }
     {
         if (a.rank as usize) < names
             && self.members.has(protocols, &self.ordered, associated, p, a)
@@ -137,10 +147,15 @@ impl Symbols {
         m: u64,
     ) -> ProtocolName
         requires names { names ≤ 1048576 }
-        requires starts { AreStarts self.now.order (has_member (inherits_by protocols.now.places protocols.now.resolved.inherits) associated.now) names self.now.starts }
-        requires rows { AreRows self.now.order (has_member (inherits_by protocols.now.places protocols.now.resolved.inherits) associated.now) self.now.rows }
-        requires within { m < length (symbols_below self.now.order (has_member (inherits_by protocols.now.places protocols.now.resolved.inherits) associated.now) names) }
-        ensures { slice_get (symbols_below self.now.order (has_member (inherits_by protocols.now.places protocols.now.resolved.inherits) associated.now) names) m ≡ Some result }
+        requires starts { AreStarts self.now.order (has_member (inherits_by protocols.now.places
+            protocols.now.resolved.inherits) associated.now) names self.now.starts }
+        requires rows { AreRows self.now.order (has_member (inherits_by protocols.now.places
+            protocols.now.resolved.inherits) associated.now) self.now.rows }
+        requires within { m < length (symbols_below self.now.order (has_member (inherits_by
+            protocols.now.places protocols.now.resolved.inherits) associated.now) names) }
+        ensures { slice_get (symbols_below self.now.order
+            (has_member (inherits_by protocols.now.places protocols.now.resolved.inherits)
+            associated.now) names) m ≡ Some result }
     {
         let rank = last_from(&self.starts, names, m);
         let name = NameId { rank: rank as u32 };
@@ -159,7 +174,8 @@ impl Symbols {
 /// The keys by which the protocols are ordered.
 fn keys(alloc: Global, protocols: &Protocols) -> Result<Vec<OrderKey>, AllocError>
     ensures { IfOk result (λ keys. keys.items
-        ≡ order_keys (inherits_by protocols.now.places protocols.now.resolved.inherits) (length protocols.now.protocols) (length protocols.now.protocols)) }
+        ≡ order_keys (inherits_by protocols.now.places protocols.now.resolved.inherits)
+        (length protocols.now.protocols) (length protocols.now.protocols)) }
 {
     let mut keys = Vec::new(alloc);
     for rank in 0..protocols.len() {
@@ -179,7 +195,8 @@ fn protos(alloc: Global, keys: &[OrderKey]) -> Result<Vec<ProtoId>, AllocError>
 
 /// The protocols in their order within each name: those that inherit more protocols first.
 fn order(alloc: Global, protocols: &Protocols) -> Result<Vec<ProtoId>, AllocError>
-    ensures ranking { IfOk result (λ order. IsRanking (order_cmp (inherits_by protocols.now.places protocols.now.resolved.inherits) (length protocols.now.protocols))
+    ensures ranking { IfOk result (λ order. IsRanking (order_cmp (inherits_by protocols.now.places
+        protocols.now.resolved.inherits) (length protocols.now.protocols))
         (λ p. p.rank < length protocols.now.protocols) order.items) }
     ensures few { IfOk result (λ order. length order.items ≤ 1048576) }
 {
@@ -198,7 +215,8 @@ fn counts(
 ) -> Result<Vec<u64>, AllocError>
     requires { names ≤ 1048576 }
     ensures len { IfOk result (λ counts. length counts.items ≡ names) }
-    ensures each { IfOk result (λ counts. (a : ℕ) → a < names → slice_index counts.items a ≡ count_below (has (row_of members.now (name a))) protocols) }
+    ensures each { IfOk result (λ counts. (a : ℕ) → a < names
+        → slice_index counts.items a ≡ count_below (has (row_of members.now (name a))) protocols) }
 {
     let mut counts = Vec::new(alloc);
     for rank in 0..names {
@@ -214,7 +232,8 @@ fn starts(alloc: Global, counts: &[u64]) -> Result<Vec<u64>, AllocError>
     requires few { length counts.now ≤ 1048576 }
     requires small { (a : ℕ) → slice_index counts.now a ≤ 1048576 }
     ensures len { IfOk result (λ starts. length starts.items ≡ length counts.now + 1) }
-    ensures each { IfOk result (λ starts. (a : ℕ) → a ≤ length counts.now → slice_index starts.items a ≡ sum (take a counts.now)) }
+    ensures each { IfOk result (λ starts.
+        (a : ℕ) → a ≤ length counts.now → slice_index starts.items a ≡ sum (take a counts.now)) }
 {
     let mut starts = Vec::new(alloc);
     let mut start = 0;
@@ -257,9 +276,12 @@ fn nth(
     a: NameId,
     place: u64,
 ) -> ProtoId
-    requires rows { AreRows ordered.now (has_member (inherits_by protocols.now.places protocols.now.resolved.inherits) associated.now) members.now }
-    requires within { place < length (having ordered.now (has_member (inherits_by protocols.now.places protocols.now.resolved.inherits) associated.now) a) }
-    ensures { slice_get (having ordered.now (has_member (inherits_by protocols.now.places protocols.now.resolved.inherits) associated.now) a) place ≡ Some result }
+    requires rows { AreRows ordered.now (has_member (inherits_by protocols.now.places
+        protocols.now.resolved.inherits) associated.now) members.now }
+    requires within { place < length (having ordered.now (has_member
+        (inherits_by protocols.now.places protocols.now.resolved.inherits) associated.now) a) }
+    ensures { slice_get (having ordered.now (has_member (inherits_by protocols.now.places
+        protocols.now.resolved.inherits) associated.now) a) place ≡ Some result }
 {
     let mut left = place;
     for q in ordered.protos() {

@@ -26,7 +26,8 @@ as_long x n (l ∷ ls) =
 
 module _ (x : LexiconView) (tells : TellsApart x) (names : AreNamesOfOneLine x) where
   -- The lines of what is written are the texts of the lines.
-  pub lines_are : (n : ℕ) (ls : List TermLine) → AllByRecursion (IsReadableLine x) ls → n + length ls ≤ 2 ^ 32 → lines (lines_from x n ls) ≡ texts_from x n ls
+  pub lines_are : (n : ℕ) (ls : List TermLine) → AllByRecursion (IsReadableLine x) ls → n + length ls ≤ 2 ^ 32
+      → lines (lines_from x n ls) ≡ texts_from x n ls
   lines_are n [] h small = refl
   lines_are n (l ∷ ls) h small =
       lines-line (line_text x n l) (lines_from x (suc n) ls)
@@ -61,6 +62,8 @@ module _ (x : LexiconView) (tells : TellsApart x) (names : AreNamesOfOneLine x) 
         f.bad (subst (λ m. IsGood x m f.bytes) place
         (each_good 1 written h small (n - 1) f.bytes (ap (λ z. slice_get z (n - 1)) (sym (lines_are 1 written h small)) ∙ f.number.1)))
 
-    pub read_back : (terms : List Term) (read : List Line) → AreLinesOf x terms (lines_text x written) read → map (line_of terms) read ≡ written
+    pub read_back : (terms : List Term) (read : List Line) → AreLinesOf x terms (lines_text x written) read
+        → map (line_of terms) read ≡ written
     read_back terms read r =
-        same_lines 1 written (map (line_of terms) read) h (subst (λ z. AreTextsOf x 1 z (map (line_of terms) read)) (lines_are 1 written h small) r)
+        same_lines 1 written (map (line_of terms) read) h
+        (subst (λ z. AreTextsOf x 1 z (map (line_of terms) read)) (lines_are 1 written h small) r)

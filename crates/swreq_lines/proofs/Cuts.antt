@@ -45,7 +45,8 @@ module _ (byte : ℕ) where
   cut_first [] l = absurd (omega (arith, l))
   cut_first (c ∷ t) l = cut_by c t (is c) refl (cut_first t) l
 
-  none_by : (c : ℕ) (t : Text) (b : Bool) → is c ≡ b → (length t ≤ at t → IsWithout byte t) → suc (length t) ≤ cond (not b) (1 + at t) 0 → IsWithout byte (c ∷ t)
+  none_by : (c : ℕ) (t : Text) (b : Bool) → is c ≡ b → (length t ≤ at t → IsWithout byte t) → suc (length t) ≤ cond (not b) (1 + at t) 0
+      → IsWithout byte (c ∷ t)
   none_by c t true e more l = absurd (omega (arith, l))
   none_by c t false e more l = and_from (not (is c)) (list_all (λ z. not (z == byte)) t) (ap not e) (more (omega (arith, l)))
 
@@ -54,7 +55,8 @@ module _ (byte : ℕ) where
   cut_none (c ∷ t) l = none_by c t (is c) refl (cut_none t) l
 
   -- what the place of the byte tells
-  pub found : (t : Text) (n : ℕ) → Some n ≡ position is t → (n < length t) × IsWithout byte (take n t) × (t ≡ take n t ++ (byte ∷ drop (n + 1) t))
+  pub found : (t : Text) (n : ℕ) → Some n ≡ position is t
+      → (n < length t) × IsWithout byte (take n t) × (t ≡ take n t ++ (byte ∷ drop (n + 1) t))
   found t n e = by (nat_lt (at t) (length t)) refl e
     where
       by : (b : Bool) → nat_lt (at t) (length t) ≡ b → Some n ≡ cond b (Some (at t)) None
@@ -79,26 +81,32 @@ module _ (byte : ℕ) where
   pub cut_one : (a b v w : Text) → IsWithout byte a → IsWithout byte b → a ++ (byte ∷ v) ≡ b ++ (byte ∷ w) → (a ≡ b) × (v ≡ w)
   cut_one [] [] v w h k e = (refl, cc)
   cut_one [] (d ∷ b) v w h k e =
-      let same : byte ≡ d = cc in absurd (not_itself (is d) ((and_parts (not (is d)) (list_all (λ z. not (z == byte)) b) k).0 ∙ sym (eq-eqb d byte (sym same))))
+      let same : byte ≡ d = cc in
+      absurd (not_itself (is d) ((and_parts (not (is d)) (list_all (λ z. not (z == byte)) b) k).0 ∙ sym (eq-eqb d byte (sym same))))
   cut_one (c ∷ a) [] v w h k e =
-      let same : c ≡ byte = cc in absurd (not_itself (is c) ((and_parts (not (is c)) (list_all (λ z. not (z == byte)) a) h).0 ∙ sym (eq-eqb c byte same)))
+      let same : c ≡ byte = cc in
+      absurd (not_itself (is c) ((and_parts (not (is c)) (list_all (λ z. not (z == byte)) a) h).0 ∙ sym (eq-eqb c byte same)))
   cut_one (c ∷ a) (d ∷ b) v w h k e =
       let same : c ≡ d = cc in
       let rest : a ++ (byte ∷ v) ≡ b ++ (byte ∷ w) = cc in
-      let one = cut_one a b v w (and_parts (not (is c)) (list_all (λ z. not (z == byte)) a) h).1 (and_parts (not (is d)) (list_all (λ z. not (z == byte)) b) k).1 rest in
+      let one = cut_one a b v w (and_parts (not (is c)) (list_all (λ z. not (z == byte)) a) h).1
+      (and_parts (not (is d)) (list_all (λ z. not (z == byte)) b) k).1 rest in
       (ap₂ (λ x y. x ∷ y) same one.0, one.1)
 
   -- A text without the byte is not one with it.
   pub not_cut : (a b v : Text) → IsWithout byte a → a ≡ b ++ (byte ∷ v) → ⊥
   not_cut [] [] v h e = cc
   not_cut [] (d ∷ b) v h e = cc
-  not_cut (c ∷ a) [] v h e = let same : c ≡ byte = cc in not_itself (is c) ((and_parts (not (is c)) (list_all (λ z. not (z == byte)) a) h).0 ∙ sym (eq-eqb c byte same))
-  not_cut (c ∷ a) (d ∷ b) v h e = not_cut a b v (and_parts (not (is c)) (list_all (λ z. not (z == byte)) a) h).1 (let rest : a ≡ b ++ (byte ∷ v) = cc in rest)
+  not_cut (c ∷ a) [] v h e = let same : c ≡ byte = cc in
+      not_itself (is c) ((and_parts (not (is c)) (list_all (λ z. not (z == byte)) a) h).0 ∙ sym (eq-eqb c byte same))
+  not_cut (c ∷ a) (d ∷ b) v h e =
+      not_cut a b v (and_parts (not (is c)) (list_all (λ z. not (z == byte)) a) h).1 (let rest : a ≡ b ++ (byte ∷ v) = cc in rest)
 
   pub without_append : (a b : Text) → IsWithout byte a → IsWithout byte b → IsWithout byte (a ++ b)
   without_append [] b h k = k
   without_append (c ∷ a) b h k =
-      let p = and_parts (not (is c)) (list_all (λ z. not (z == byte)) a) h in and_from (not (is c)) (list_all (λ z. not (z == byte)) (a ++ b)) p.0 (without_append a b p.1 k)
+      let p = and_parts (not (is c)) (list_all (λ z. not (z == byte)) a) h in
+      and_from (not (is c)) (list_all (λ z. not (z == byte)) (a ++ b)) p.0 (without_append a b p.1 k)
 
   -- ---- pieces
 
@@ -107,7 +115,8 @@ module _ (byte : ℕ) where
     pub without : IsWithout byte piece
     pub whole : (t ≡ piece ++ (byte ∷ rest)) ⊎ ((t ≡ piece) × (rest ≡ []))
 
-  pub piece_is : (t a r piece tail : Text) → IsPiece t a r → IsWithout byte piece → Ends byte tail → t ≡ piece ++ tail → (a ≡ piece) × (r ≡ behind tail)
+  pub piece_is : (t a r piece tail : Text) → IsPiece t a r → IsWithout byte piece → Ends byte tail → t ≡ piece ++ tail
+      → (a ≡ piece) × (r ≡ behind tail)
   piece_is t a r piece [] p w ends e = by p.whole
     where
       by : ((t ≡ a ++ (byte ∷ r)) ⊎ ((t ≡ a) × (r ≡ []))) → (a ≡ piece) × (r ≡ [])

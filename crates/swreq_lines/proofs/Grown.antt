@@ -37,6 +37,8 @@ module _ (old new : List Term) (grown : Extends old new) where
   pub line_still : (x : LexiconView) (l : Line) → HasLineIds x old l → line_of new l ≡ line_of old l
   line_still x l h = ap (λ st. record { rule = l.rule; premises = l.premises; statement = st }) (statement_still l.statement h.1)
 
-  pub lines_still : (x : LexiconView) (ls : List Line) → ((l : Line) → Contains ls l → HasLineIds x old l) → map (line_of new) ls ≡ map (line_of old) ls
+  pub lines_still : (x : LexiconView) (ls : List Line) → ((l : Line) → Contains ls l → HasLineIds x old l)
+      → map (line_of new) ls ≡ map (line_of old) ls
   lines_still x [] h = refl
-  lines_still x (l ∷ ls) h = ap₂ (λ a b. a ∷ b) (line_still x l (h l (first_member l ls))) (lines_still x ls (λ k c. h k (later_member l k ls c)))
+  lines_still x (l ∷ ls) h =
+      ap₂ (λ a b. a ∷ b) (line_still x l (h l (first_member l ls))) (lines_still x ls (λ k c. h k (later_member l k ls c)))

@@ -23,7 +23,8 @@ module _ (x : LexiconView) (names : TellsApart x) where
 
   -- ---- what is found is the one that is named
 
-  pub found_protocol : (p q : ProtoId) (text : Text) → slice_get x.protocols p.rank ≡ Some text → IsProtocol x q → text ≡ protocol_name x q → p ≡ q
+  pub found_protocol : (p q : ProtoId) (text : Text) → slice_get x.protocols p.rank ≡ Some text → IsProtocol x q
+      → text ≡ protocol_name x q → p ≡ q
   found_protocol p q text e h i =
       names.one_protocol p q (slice_get_within x.protocols p.rank text e) h (get_or_from_slice_get x.protocols p.rank text [] e ∙ i)
 

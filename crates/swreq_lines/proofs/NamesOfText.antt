@@ -22,6 +22,8 @@ module _ (text : Text) (s : Skeleton) (x : LexiconView) (is : IsLexiconOf text s
 
   pub names_of_one_line : AreNamesOfOneLine x
   names_of_one_line = record {
-    protocols = λ p o. let name = protocol_name x p in one_line name (protocols_spelled name ((is.protocols.same name).0 (Contains-get_or x.protocols p.rank [] o)));
-    names = λ a o. let name = name_text x a in one_line name (names_spelled name ((is.names.same name).0 (Contains-get_or x.names a.rank [] o)));
+    protocols = λ p o. let name = protocol_name x p in
+        one_line name (protocols_spelled name ((is.protocols.same name).0 (Contains-get_or x.protocols p.rank [] o)));
+    names = λ a o.
+        let name = name_text x a in one_line name (names_spelled name ((is.names.same name).0 (Contains-get_or x.names a.rank [] o)));
   }

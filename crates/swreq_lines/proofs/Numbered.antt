@@ -14,7 +14,8 @@ module _ (x : LexiconView) (terms : List Term) (lines : List Line) where
   rest_of k = lines_from x (k + 1) (map (line_of terms) (drop k lines))
 
   pub one_line : (k : ℕ) (line : Line) (old mid new whole : Text) → k < length lines → line ≡ get_or lines k line
-      → mid ≡ old ++ line_text x (k + 1) (line_of terms line) → new ≡ mid ++ codes "\n" → old ++ rest_of k ≡ whole → new ++ rest_of (k + 1) ≡ whole
+      → mid ≡ old ++ line_text x (k + 1) (line_of terms line) → new ≡ mid ++ codes "\n" → old ++ rest_of k ≡ whole
+      → new ++ rest_of (k + 1) ≡ whole
   one_line k line old mid new whole l e m n h =
       let two : suc (k + 1) ≡ k + 1 + 1 = omega arith in
       let rest = map (line_of terms) (drop (k + 1) lines) in
@@ -28,4 +29,5 @@ module _ (x : LexiconView) (terms : List Term) (lines : List Line) where
       ∙ h
 
   pub all_lines : (k : ℕ) (all whole : Text) → length lines ≤ k → all ++ rest_of k ≡ whole → all ≡ whole
-  all_lines k all whole l h = sym (append-nil all) ∙ ap (λ z. all ++ lines_from x (k + 1) (map (line_of terms) z)) (sym (drop_all k lines l)) ∙ h
+  all_lines k all whole l h =
+      sym (append-nil all) ∙ ap (λ z. all ++ lines_from x (k + 1) (map (line_of terms) z)) (sym (drop_all k lines l)) ∙ h

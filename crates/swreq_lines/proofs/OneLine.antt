@@ -43,7 +43,8 @@ module _ (x : LexiconView) (tells : TellsApart x) (names : AreNamesOfOneLine x) 
   param : (g : ParamId) → HasNumbers g → IsOneLine (param_text g)
   param g h =
       two (207 ∷ 132 ∷ 95 ∷ []) (decimal g.depth ++ (codes "_" ++ decimal g.index)) refl
-      (two (decimal g.depth) (codes "_" ++ decimal g.index) (number g.depth h.0) (two (codes "_") (decimal g.index) refl (number g.index h.1)))
+      (two (decimal g.depth) (codes "_" ++ decimal g.index) (number g.depth h.0)
+      (two (codes "_") (decimal g.index) refl (number g.index h.1)))
 
   step : (s : Step) → IsStepOf x s → IsOneLine (step_text x s)
   step (Name a) h = two (codes ".") (name_text x a) refl (names.names a h)
@@ -51,7 +52,8 @@ module _ (x : LexiconView) (tells : TellsApart x) (names : AreNamesOfOneLine x) 
       let p = tells.pairs d h in
       let name = two (codes "]") (name_text x (pair_at x d).name) refl (names.names (pair_at x d).name p.1) in
       two (codes ".[") (protocol_name x (pair_at x d).proto ++ (codes "]" ++ name_text x (pair_at x d).name)) refl
-      (two (protocol_name x (pair_at x d).proto) (codes "]" ++ name_text x (pair_at x d).name) (names.protocols (pair_at x d).proto p.0) name)
+      (two (protocol_name x (pair_at x d).proto) (codes "]" ++ name_text x (pair_at x d).name)
+      (names.protocols (pair_at x d).proto p.0) name)
 
   type : (t : Term) → IsReadableType x t → IsOneLine (type_text x t)
   type (Generic g) h = param g h.0
@@ -62,7 +64,8 @@ module _ (x : LexiconView) (tells : TellsApart x) (names : AreNamesOfOneLine x) 
   statement : (st : TermStatement) → IsReadableStatement x st → IsOneLine (statement_text x st)
   statement (IsValid t) h = type t h
   statement (Requires (Conforms t p)) h =
-      two (type_text x t) (codes " : " ++ protocol_name x p) (type t h.0) (two (codes " : ") (protocol_name x p) refl (names.protocols p h.1))
+      two (type_text x t) (codes " : " ++ protocol_name x p) (type t h.0)
+      (two (codes " : ") (protocol_name x p) refl (names.protocols p h.1))
   statement (Requires (IsAnyObject t)) h = two (type_text x t) (codes " : AnyObject") (type t h) refl
   statement (Requires (Equals t u)) h =
       two (type_text x t) (codes " == " ++ type_text x u) (type t h.0) (two (codes " == ") (type_text x u) refl (type u h.1))
@@ -88,7 +91,8 @@ module _ (x : LexiconView) (tells : TellsApart x) (names : AreNamesOfOneLine x) 
   name_of_rule (Rule.SameName p a) = refl
   name_of_rule (Rule.SameDecl p a) = refl
 
-  field : {A : Type 0} (text : A → Text) (P : A → Type 0) → ((v : A) → P v → IsOneLine (text v)) → (o : Option A) → IfSome o P → IsOneLine (field_text text o)
+  field : {A : Type 0} (text : A → Text) (P : A → Type 0) → ((v : A) → P v → IsOneLine (text v)) → (o : Option A) → IfSome o P
+      → IsOneLine (field_text text o)
   field text P each None h = refl
   field text P each (Some v) h = two (codes " ") (text v) refl (each v h)
 
@@ -121,8 +125,12 @@ module _ (x : LexiconView) (tells : TellsApart x) (names : AreNamesOfOneLine x) 
       let rule = two (rule_name l.rule) (fields_text x (fields_of l.rule)) (name_of_rule l.rule) (fields (fields_of l.rule) h.rule) in
       let end = two (rule_text x l.rule) (premises_text l.premises) rule (premises l.premises h.premises) in
       let by = two (codes " by ") (rule_text x l.rule ++ premises_text l.premises) refl end in
-      let stated = two (statement_text x l.statement) (codes " by " ++ (rule_text x l.rule ++ premises_text l.premises)) (statement l.statement h.statement) by in
-      let dot = two (codes ". ") (statement_text x l.statement ++ (codes " by " ++ (rule_text x l.rule ++ premises_text l.premises))) refl stated in
-      let numbered = two (decimal n) (codes ". " ++ (statement_text x l.statement ++ (codes " by " ++ (rule_text x l.rule ++ premises_text l.premises))))
+      let stated = two (statement_text x l.statement) (codes " by " ++ (rule_text x l.rule ++ premises_text l.premises))
+      (statement l.statement h.statement) by in
+      let dot =
+      two (codes ". ") (statement_text x l.statement ++ (codes " by " ++ (rule_text x l.rule ++ premises_text l.premises))) refl stated in
+      let numbered =
+      two (decimal n) (codes ". " ++ (statement_text x l.statement ++ (codes " by " ++ (rule_text x l.rule ++ premises_text l.premises))))
       (number n short) dot in
-      two (codes "  ") (decimal n ++ (codes ". " ++ (statement_text x l.statement ++ (codes " by " ++ (rule_text x l.rule ++ premises_text l.premises))))) refl numbered
+      two (codes "  ") (decimal n
+      ++ (codes ". " ++ (statement_text x l.statement ++ (codes " by " ++ (rule_text x l.rule ++ premises_text l.premises))))) refl numbered

@@ -7,7 +7,8 @@ use Rattle.swreq_param.specs.Terms.{Term, with_steps}
 use Rattle.swreq_param.specs.Terms.Term.{Member}
 
 -- What stands for the first k steps stands with the next one for one more.
-pub with_one : (t u v : Term) (steps items : List Step) (k : ℕ) (d : Step) → items ≡ steps → k < length items → v ≡ with_steps t (take k steps)
+pub with_one : (t u v : Term) (steps items : List Step) (k : ℕ) (d : Step) → items ≡ steps → k < length items
+    → v ≡ with_steps t (take k steps)
     → u ≡ Member v (get_or items k d) → u ≡ with_steps t (take (k + 1) steps)
 with_one t u v steps items k d e l h i =
     let m : k < length steps = subst (λ z. k < length z) e l in

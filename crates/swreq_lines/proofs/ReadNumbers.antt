@@ -17,7 +17,8 @@ abbrev pub ReadsTo : ℕ → Text → Text → Text → Type 0
 ReadsTo byte text piece rest = (w tail : Text) → IsWithout byte w → Ends byte tail → text ≡ w ++ tail → (piece ≡ w) × (rest ≡ behind tail)
 
 -- after the word `from`
-pub first_rest : (ns : List ℕ) (text word rest : Text) → ReadsTo 32 text word rest → text ≡ behind (premises_text ns) → rest ≡ numbers_text ns
+pub first_rest : (ns : List ℕ) (text word rest : Text) → ReadsTo 32 text word rest → text ≡ behind (premises_text ns)
+    → rest ≡ numbers_text ns
 first_rest [] text word rest reads e = (reads [] [] refl tt e).1
 first_rest (n ∷ ns) text word rest reads e = (reads (codes "from") (32 ∷ numbers_text (n ∷ ns)) refl refl e).1
 

@@ -111,11 +111,13 @@ module _ (x : LexiconView) (names : TellsApart x) (text name behind_name first b
   rule_is (Rule.AssocSame q k) o e =
       let z = with_requirement (codes "ASSOCSAME") refl q k o.0.0 o.1 e in read (Rule.AssocSame q k) (ap₂ Rule.AssocSame z.1 z.2) z.0 z.3
   rule_is (Rule.AssocLayout q k) o e =
-      let z = with_requirement (codes "ASSOCLAYOUT") refl q k o.0.0 o.1 e in read (Rule.AssocLayout q k) (ap₂ Rule.AssocLayout z.1 z.2) z.0 z.3
+      let z = with_requirement (codes "ASSOCLAYOUT") refl q k o.0.0 o.1 e in
+      read (Rule.AssocLayout q k) (ap₂ Rule.AssocLayout z.1 z.2) z.0 z.3
   rule_is Rule.Reflex o e = let z = words.one (codes "REFLEX") tail refl ends e in read Rule.Reflex refl z.0 z.1
   rule_is Rule.Symm o e = let z = words.one (codes "SYMM") tail refl ends e in read Rule.Symm refl z.0 z.1
   rule_is Rule.Trans o e = let z = words.one (codes "TRANS") tail refl ends e in read Rule.Trans refl z.0 z.1
-  rule_is (Rule.SameConf q) o e = let z = with_protocol (codes "SAMECONF") refl q o.0.0 e in read (Rule.SameConf q) (ap Rule.SameConf z.1) z.0 z.2
+  rule_is (Rule.SameConf q) o e =
+      let z = with_protocol (codes "SAMECONF") refl q o.0.0 e in read (Rule.SameConf q) (ap Rule.SameConf z.1) z.0 z.2
   rule_is Rule.SameLayout o e = let z = words.one (codes "SAMELAYOUT") tail refl ends e in read Rule.SameLayout refl z.0 z.1
   rule_is (Rule.SameName q b) o e =
       let z = with_member (codes "SAMENAME") refl q b o.0.0 o.0.1 e in read (Rule.SameName q b) (ap₂ Rule.SameName z.1 z.2) z.0 z.3

@@ -24,7 +24,8 @@ module _ (terms : List Term) (distinct : AreDistinct terms) where
   same_requirement (Conf t p) (Layout u) h k e = cc
   same_requirement (Conf t p) (Same u v) h k e = cc
   same_requirement (Layout t) (Conf u q) h k e = cc
-  same_requirement (Layout t) (Layout u) h k e = let subject : term_at terms t ≡ term_at terms u = cc in ap Layout (distinct t u h k subject)
+  same_requirement (Layout t) (Layout u) h k e =
+      let subject : term_at terms t ≡ term_at terms u = cc in ap Layout (distinct t u h k subject)
   same_requirement (Layout t) (Same u v) h k e = cc
   same_requirement (Same t s) (Conf u q) h k e = cc
   same_requirement (Same t s) (Layout u) h k e = cc
@@ -33,7 +34,8 @@ module _ (terms : List Term) (distinct : AreDistinct terms) where
       let right : term_at terms s ≡ term_at terms v = cc in
       ap₂ Same (distinct t u h.0 k.0 left) (distinct s v h.1 k.1 right)
 
-  same_statement : (a b : Statement) → HasStatementIds terms a → HasStatementIds terms b → statement_of terms a ≡ statement_of terms b → a ≡ b
+  same_statement : (a b : Statement) → HasStatementIds terms a → HasStatementIds terms b
+      → statement_of terms a ≡ statement_of terms b → a ≡ b
   same_statement (Valid t) (Valid u) h k e = let type : term_at terms t ≡ term_at terms u = cc in ap Valid (distinct t u h k type)
   same_statement (Valid t) (Holds r) h k e = cc
   same_statement (Holds r) (Valid u) h k e = cc
@@ -48,7 +50,8 @@ module _ (terms : List Term) (distinct : AreDistinct terms) where
         let statement = same_statement l.statement k.statement h.1 j.1 (ap (λ (z : TermLine). z.statement) e) in
         λ i. record { rule = rule i; premises = premises i; statement = statement i }
 
-    pub same_lines : (ls ks : List Line) → ((l : Line) → Contains ls l → HasLineIds x terms l) → ((k : Line) → Contains ks k → HasLineIds x terms k)
+    pub same_lines : (ls ks : List Line) → ((l : Line) → Contains ls l → HasLineIds x terms l)
+        → ((k : Line) → Contains ks k → HasLineIds x terms k)
         → map (line_of terms) ls ≡ map (line_of terms) ks → ls ≡ ks
     same_lines [] [] h j e = refl
     same_lines [] (k ∷ ks) h j e = cc

@@ -16,7 +16,8 @@ use Rattle.swreq_lines.specs.Written.{IsRefusedAt}
 module _ (x : LexiconView) where
   -- ---- texts of lines
 
-  one_more : (n : ℕ) (done : List Text) (ls : List TermLine) (bytes : Text) (l : TermLine) → AreTextsOf x n done ls → IsTextOf x (length ls + n) bytes l
+  one_more : (n : ℕ) (done : List Text) (ls : List TermLine) (bytes : Text) (l : TermLine) → AreTextsOf x n done ls
+      → IsTextOf x (length ls + n) bytes l
       → AreTextsOf x n (done ++ bytes ∷ []) (ls ++ l ∷ [])
   one_more n [] [] bytes l h is = (let e : 0 + n ≡ n = omega arith in subst (λ m. IsTextOf x m bytes l) e is, tt)
   one_more n [] (k ∷ ls) bytes l h is = absurd h
@@ -32,7 +33,8 @@ module _ (x : LexiconView) where
   as_many n (b ∷ done) (k ∷ ls) h = ap suc (as_many (suc n) done ls h.1)
 
   -- Each of them is good.
-  each_good : (n : ℕ) (done rest : List Text) (ls : List TermLine) → AreTextsOf x n done ls → n + length done ≤ 2 ^ 32 → (k : ℕ) (bytes : Text) → k < length done
+  each_good : (n : ℕ) (done rest : List Text) (ls : List TermLine) → AreTextsOf x n done ls → n + length done ≤ 2 ^ 32
+      → (k : ℕ) (bytes : Text) → k < length done
       → slice_get (done ++ rest) k ≡ Some bytes → IsGood x (k + n) bytes
   each_good n [] rest ls h small k bytes l e = absurd (omega (arith, l))
   each_good n (b ∷ done) rest [] h small k bytes l e = absurd h
@@ -70,7 +72,8 @@ module _ (x : LexiconView) where
   count terms text rest ls s = as_many 1 s.done (map (line_of terms) ls) s.texts ∙ length_map terms ls
 
   pub with_line : (old new : List Term) (text rest piece after : Text) (ls more : List Line) (l : Line) (n : ℕ) → AreSoFar old text rest ls
-      → map (line_of new) ls ≡ map (line_of old) ls → lines rest ≡ piece ∷ lines after → n ≡ length ls + 1 → IsTextOf x n piece (line_of new l)
+      → map (line_of new) ls ≡ map (line_of old) ls → lines rest ≡ piece ∷ lines after → n ≡ length ls + 1
+      → IsTextOf x n piece (line_of new l)
       → more ≡ ls ++ l ∷ [] → AreSoFar new text after more
   with_line old new text rest piece after ls more l n s still next number is e = record {
     done = s.done ++ piece ∷ [];
@@ -81,13 +84,15 @@ module _ (x : LexiconView) where
     split = s.split ∙ ap (λ z. s.done ++ z) next ∙ sym (append_assoc s.done (piece ∷ []) (lines after));
   }
 
-  pub at_end : (terms : List Term) (text rest : Text) (ls : List Line) → AreSoFar terms text rest ls → rest ≡ [] → AreLinesOf x terms text ls
+  pub at_end : (terms : List Term) (text rest : Text) (ls : List Line) → AreSoFar terms text rest ls → rest ≡ []
+      → AreLinesOf x terms text ls
   at_end terms text rest ls s none =
       let all : s.done ≡ lines text = sym (append-nil s.done) ∙ ap (λ z. s.done ++ lines z) (sym none) ∙ sym s.split in
       subst (λ z. AreTextsOf x 1 z (map (line_of terms) ls)) all s.texts
 
   -- The next line is the first that is not good.
-  pub first_not_good : (terms : List Term) (text rest piece after : Text) (ls : List Line) (n : ℕ) → AreSoFar terms text rest ls → n < 2 ^ 32
+  pub first_not_good : (terms : List Term) (text rest piece after : Text) (ls : List Line) (n : ℕ)
+      → AreSoFar terms text rest ls → n < 2 ^ 32
       → lines rest ≡ piece ∷ lines after → n ≡ length ls + 1 → (IsGood x n piece → ⊥) → IsFirstNotGood x text n
   first_not_good terms text rest piece after ls n s small next number bad =
       let c = count terms text rest ls s in
@@ -95,14 +100,19 @@ module _ (x : LexiconView) where
       let all : lines text ≡ s.done ++ (piece ∷ lines after) = s.split ∙ ap (λ z. s.done ++ z) next in
       record {
         bytes = piece;
-        number = (omega (arith, number), ap (λ (k : ℕ). slice_get (lines text) k) place ∙ ap (λ z. slice_get z (length s.done)) all ∙ at_seam s.done (lines after) piece);
+        number = (
+          omega (arith, number),
+          ap (λ (k : ℕ). slice_get (lines text) k) place ∙ ap (λ z. slice_get z (length s.done)) all ∙ at_seam s.done (lines after) piece,
+        );
         bad = bad;
-        before = λ k good l e. each_good 1 s.done (piece ∷ lines after) (map (line_of terms) ls) s.texts (omega (arith, c, number, small)) k good
+        before =
+            λ k good l e. each_good 1 s.done (piece ∷ lines after) (map (line_of terms) ls) s.texts (omega (arith, c, number, small)) k good
             (omega (arith, c, number, l)) (ap (λ z. slice_get z k) (sym all) ∙ e);
       }
 
   -- a refusal of that line is one of the text
-  pub refused_at : (terms : List Term) (text rest piece after : Text) (ls : List Line) (n : ℕ) (e : LinesErr) → AreSoFar terms text rest ls → n < 2 ^ 32
+  pub refused_at : (terms : List Term) (text rest piece after : Text) (ls : List Line) (n : ℕ) (e : LinesErr)
+      → AreSoFar terms text rest ls → n < 2 ^ 32
       → lines rest ≡ piece ∷ lines after → n ≡ length ls + 1 → IsRefusedAt x n piece e → IsRefused x text e
   refused_at terms text rest piece after ls n (Syntax m) s small next number h =
       subst (IsFirstNotGood x text) (sym h.0) (first_not_good terms text rest piece after ls n s small next number h.1)

@@ -24,7 +24,8 @@ abbrev pub by_text : Text → Text
 by_text rest = codes " by " ++ rest
 
 -- The word before ` by `, and what follows that.
-pub before_by : (word text piece behind_piece by rest tail : Text) → IsWithout 32 word → ReadsTo 32 text piece behind_piece → ReadsTo 32 behind_piece by rest
+pub before_by : (word text piece behind_piece by rest tail : Text) → IsWithout 32 word → ReadsTo 32 text piece behind_piece
+    → ReadsTo 32 behind_piece by rest
     → text ≡ word ++ by_text tail → (piece ≡ word) × (rest ≡ tail)
 before_by word text piece behind_piece by rest tail w first second e =
     let k = first word (by_text tail) w refl e in
@@ -57,7 +58,8 @@ module _ (x : LexiconView) (names : TellsApart x) where
     pub piece_is : piece ≡ type_text x (subject st)
     pub marked : IsMarked mark rest tail st
 
-  module _ (text piece behind_piece mark rest tail : Text) (first : ReadsTo 32 text piece behind_piece) (second : ReadsTo 32 behind_piece mark rest) where
+  module _ (text piece behind_piece mark rest tail : Text) (first : ReadsTo 32 text piece behind_piece)
+      (second : ReadsTo 32 behind_piece mark rest) where
     -- the subject, a mark without a space, and what follows it
     parts : (t : Term) (m after : Text) → IsReadableType x t → IsWithout 32 m → text ≡ type_text x t ++ (32 ∷ (m ++ (32 ∷ after)))
         → (piece ≡ type_text x t) × (mark ≡ m) × (rest ≡ after)
@@ -66,16 +68,20 @@ module _ (x : LexiconView) (names : TellsApart x) where
         let j = second m (32 ∷ after) w refl k.1 in
         (k.0, j.0, j.1)
 
-    pub stated : (st : TermStatement) → IsReadableStatement x st → text ≡ statement_text x st ++ by_text tail → IsStated piece mark rest tail st
+    pub stated : (st : TermStatement) → IsReadableStatement x st → text ≡ statement_text x st ++ by_text tail
+        → IsStated piece mark rest tail st
     stated (IsValid t) h e = let z = parts t (codes "by") tail h refl e in record { readable = h; piece_is = z.0; marked = (z.1, z.2) }
     stated (Requires (Conforms t p)) h e =
-        let z = parts t (codes ":") (protocol_name x p ++ by_text tail) h.0 refl (e ∙ append_assoc (type_text x t) (codes " : " ++ protocol_name x p) (by_text tail)) in
+        let z = parts t (codes ":") (protocol_name x p ++ by_text tail) h.0 refl
+        (e ∙ append_assoc (type_text x t) (codes " : " ++ protocol_name x p) (by_text tail)) in
         record { readable = h.0; piece_is = z.0; marked = (z.1, h.1, z.2) }
     stated (Requires (IsAnyObject t)) h e =
-        let z = parts t (codes ":") (codes "AnyObject" ++ by_text tail) h refl (e ∙ append_assoc (type_text x t) (codes " : AnyObject") (by_text tail)) in
+        let z = parts t (codes ":") (codes "AnyObject" ++ by_text tail) h refl
+        (e ∙ append_assoc (type_text x t) (codes " : AnyObject") (by_text tail)) in
         record { readable = h; piece_is = z.0; marked = (z.1, z.2) }
     stated (Requires (Equals t u)) h e =
-        let z = parts t (codes "==") (type_text x u ++ by_text tail) h.0 refl (e ∙ append_assoc (type_text x t) (codes " == " ++ type_text x u) (by_text tail)) in
+        let z = parts t (codes "==") (type_text x u ++ by_text tail) h.0 refl
+        (e ∙ append_assoc (type_text x t) (codes " == " ++ type_text x u) (by_text tail)) in
         record { readable = h.0; piece_is = z.0; marked = (z.1, h.1, z.2) }
 
   -- ---- by the mark

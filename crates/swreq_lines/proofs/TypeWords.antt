@@ -33,7 +33,8 @@ use Rattle.swreq_lines.proofs.ReadNumbers.{ReadsTo}
 -- ---- generic parameters
 
 -- The two numbers after the underscores.
-pub numbers_of_param : (g : ParamId) (text tau behind_tau depth index : Text) → HasNumbers g → ReadsTo 95 text tau behind_tau → ReadsTo 95 behind_tau depth index
+pub numbers_of_param : (g : ParamId) (text tau behind_tau depth index : Text) → HasNumbers g → ReadsTo 95 text tau behind_tau
+    → ReadsTo 95 behind_tau depth index
     → text ≡ param_text g → (depth ≡ decimal g.depth) × (index ≡ decimal g.index)
 numbers_of_param g text tau behind_tau depth index h first second e =
     let k = first (207 ∷ 132 ∷ []) (95 ∷ (decimal g.depth ++ (95 ∷ decimal g.index))) refl refl e in
@@ -85,13 +86,16 @@ module _ (x : LexiconView) where
 module _ (x : LexiconView) (names : TellsApart x) where
   -- ---- one step
 
-  bound_without : (byte : ℕ) → in_name byte ≡ false → not (91 == byte) ≡ true → not (93 == byte) ≡ true → (d : AssocId) → IsStepOf x (Bound d)
+  bound_without : (byte : ℕ) → in_name byte ≡ false → not (91 == byte) ≡ true → not (93 == byte) ≡ true
+      → (d : AssocId) → IsStepOf x (Bound d)
       → IsWithout byte (bound_text x (pair_at x d))
   bound_without byte n l r d h =
       let p = names.pairs d h in
-      let name : IsWithout byte (93 ∷ name_text x (pair_at x d).name) = ap₂ (λ a b. a && b) r (name_without x names byte n (pair_at x d).name p.1) in
+      let name : IsWithout byte (93 ∷ name_text x (pair_at x d).name) =
+      ap₂ (λ a b. a && b) r (name_without x names byte n (pair_at x d).name p.1) in
       ap₂ (λ a b. a && b) l
-      (without_append byte (protocol_name x (pair_at x d).proto) (93 ∷ name_text x (pair_at x d).name) (protocol_without x names byte n (pair_at x d).proto p.0) name)
+      (without_append byte (protocol_name x (pair_at x d).proto) (93 ∷ name_text x (pair_at x d).name)
+      (protocol_without x names byte n (pair_at x d).proto p.0) name)
 
   step_without : (byte : ℕ) → in_name byte ≡ false → not (91 == byte) ≡ true → not (93 == byte) ≡ true → (s : Step) → IsStepOf x s
       → IsWithout byte (behind (step_text x s))
@@ -103,34 +107,41 @@ module _ (x : LexiconView) (names : TellsApart x) where
   empty_name a h e = let p = names.names a h in let bad : p.first ∷ p.rest ≡ [] = sym p.is ∙ e in cc
 
   some_step : (s : Step) (rest : Text) → IsStepOf x s → behind (step_text x s ++ rest) ≡ [] → ⊥
-  some_step (Name a) rest h e = let p = names.names a h in let bad : p.first ∷ (p.rest ++ rest) ≡ [] = ap (λ z. z ++ rest) (sym p.is) ∙ e in cc
+  some_step (Name a) rest h e =
+      let p = names.names a h in let bad : p.first ∷ (p.rest ++ rest) ≡ [] = ap (λ z. z ++ rest) (sym p.is) ∙ e in cc
   some_step (Bound d) rest h e = cc
 
-  module _ (s : Step) (text before_bracket behind_bracket : Text) (h : IsStepOf x s) (bracket : ReadsTo 91 text before_bracket behind_bracket) where
+  module _ (s : Step) (text before_bracket behind_bracket : Text) (h : IsStepOf x s)
+      (bracket : ReadsTo 91 text before_bracket behind_bracket) where
     -- With a bracket in front it is the bound step of this protocol and this name.
     pub bound_step : (proto name : Text) (p : ProtoId) (a : NameId) (d : AssocId) → ReadsTo 93 behind_bracket proto name
         → ((q : ProtoId) → IsProtocol x q → proto ≡ protocol_name x q → p ≡ q) → ((b : NameId) → IsName x b → name ≡ name_text x b → a ≡ b)
-        → ((e : AssocId) → IsAssociated x e → pair p a ≡ pair_at x e → d ≡ e) → before_bracket ≡ [] → text ≡ behind (step_text x s) → Bound d ≡ s
+        → ((e : AssocId) → IsAssociated x e → pair p a ≡ pair_at x e → d ≡ e) → before_bracket ≡ []
+        → text ≡ behind (step_text x s) → Bound d ≡ s
     bound_step proto name p a d close as_protocol as_name as_associated none e = by s h e
       where
         by : (s : Step) → IsStepOf x s → text ≡ behind (step_text x s) → Bound d ≡ s
-        by (Name b) h e = absurd (empty_name b h (sym (bracket (name_text x b) [] (name_without x names 91 refl b h) tt (e ∙ sym (append-nil (name_text x b)))).0 ∙ none))
+        by (Name b) h e = absurd (empty_name b h
+            (sym (bracket (name_text x b) [] (name_without x names 91 refl b h) tt (e ∙ sym (append-nil (name_text x b)))).0 ∙ none))
         by (Bound q) h e =
             let k = bracket [] (91 ∷ (protocol_name x (pair_at x q).proto ++ (93 ∷ name_text x (pair_at x q).name))) refl refl e in
             let o = names.pairs q h in
-            let j = close (protocol_name x (pair_at x q).proto) (93 ∷ name_text x (pair_at x q).name) (protocol_without x names 93 refl (pair_at x q).proto o.0) refl k.1 in
+            let j = close (protocol_name x (pair_at x q).proto) (93 ∷ name_text x (pair_at x q).name)
+            (protocol_without x names 93 refl (pair_at x q).proto o.0) refl k.1 in
             let proto_is = as_protocol (pair_at x q).proto o.0 j.0 in
             let name_is = as_name (pair_at x q).name o.1 j.1 in
             ap Bound (as_associated q h (λ i. record { proto = proto_is i; name = name_is i }))
 
     -- Without it is a name.
-    pub name_step : (a : NameId) → ((b : NameId) → IsName x b → text ≡ name_text x b → a ≡ b) → (before_bracket ≡ [] → ⊥) → text ≡ behind (step_text x s)
+    pub name_step : (a : NameId) → ((b : NameId) → IsName x b → text ≡ name_text x b → a ≡ b) → (before_bracket ≡ [] → ⊥)
+        → text ≡ behind (step_text x s)
         → Name a ≡ s
     name_step a as_name some e = by s h e
       where
         by : (s : Step) → IsStepOf x s → text ≡ behind (step_text x s) → Name a ≡ s
         by (Name b) h e = ap Name (as_name b h e)
-        by (Bound q) h e = absurd (some (bracket [] (91 ∷ (protocol_name x (pair_at x q).proto ++ (93 ∷ name_text x (pair_at x q).name))) refl refl e).0)
+        by (Bound q) h e =
+            absurd (some (bracket [] (91 ∷ (protocol_name x (pair_at x q).proto ++ (93 ∷ name_text x (pair_at x q).name))) refl refl e).0)
 
   -- ---- many steps
 
@@ -144,7 +155,8 @@ module _ (x : LexiconView) (names : TellsApart x) where
     pub piece_is : piece ≡ behind (step_text x first)
     pub rest_is : rest ≡ behind (steps_text x others)
 
-  pub next_step : (steps : List Step) (text piece rest : Text) → AllByRecursion (IsStepOf x) steps → (text ≡ [] → ⊥) → text ≡ behind (steps_text x steps)
+  pub next_step : (steps : List Step) (text piece rest : Text) → AllByRecursion (IsStepOf x) steps → (text ≡ [] → ⊥)
+      → text ≡ behind (steps_text x steps)
       → ReadsTo 46 text piece rest → IsNext steps piece rest
   next_step [] text piece rest h some e reads = absurd (some e)
   next_step (s ∷ steps) text piece rest h some e reads =
@@ -153,7 +165,8 @@ module _ (x : LexiconView) (names : TellsApart x) where
       record { first = s; others = steps; are = refl; of_text = h.0; others_of_text = h.1; piece_is = r.0; rest_is = r.1 }
 
   -- At the end no step is left.
-  pub no_step : (steps : List Step) (text : Text) → AllByRecursion (IsStepOf x) steps → text ≡ [] → text ≡ behind (steps_text x steps) → steps ≡ []
+  pub no_step : (steps : List Step) (text : Text) → AllByRecursion (IsStepOf x) steps → text ≡ []
+      → text ≡ behind (steps_text x steps) → steps ≡ []
   no_step [] text h none e = refl
   no_step (s ∷ steps) text h none e = absurd (some_step s (steps_text x steps) h.0 (sym e ∙ none))
 
@@ -170,10 +183,12 @@ module _ (x : LexiconView) (names : TellsApart x) where
   steps_without (Name a ∷ steps) h =
       without_append 32 (46 ∷ name_text x a) (steps_text x steps) (step_without 32 refl refl refl (Name a) h.0) (steps_without steps h.1)
   steps_without (Bound d ∷ steps) h =
-      without_append 32 (46 ∷ bound_text x (pair_at x d)) (steps_text x steps) (step_without 32 refl refl refl (Bound d) h.0) (steps_without steps h.1)
+      without_append 32 (46 ∷ bound_text x (pair_at x d)) (steps_text x steps) (step_without 32 refl refl refl (Bound d) h.0)
+      (steps_without steps h.1)
 
   -- The text of a type parameter has no space.
   pub type_without : (t : Term) → IsReadableType x t → IsWithout 32 (type_text x t)
   type_without t h =
       ap (λ z. list_all (λ c. not (c == 32)) z) (by_steps x t)
-      ∙ without_append 32 (param_text (head t)) (steps_text x (steps_of t)) (no_space (head t) h.0) (steps_without (steps_of t) (each_step x t h.1))
+      ∙ without_append 32 (param_text (head t)) (steps_text x (steps_of t)) (no_space (head t) h.0)
+      (steps_without (steps_of t) (each_step x t h.1))

@@ -104,7 +104,8 @@ premises_text (n ∷ ns) = codes " from " ++ joined (codes ", ") (map decimal (n
 -- the line with this number: `  2. τ_0_0.Next : N by ASSOCCONF N 1 from 1`
 abbrev pub line_text : LexiconView → ℕ → TermLine → Text
 line_text x n l =
-    codes "  " ++ (decimal n ++ (codes ". " ++ (statement_text x l.statement ++ (codes " by " ++ (rule_text x l.rule ++ premises_text l.premises)))))
+    codes "  "
+    ++ (decimal n ++ (codes ". " ++ (statement_text x l.statement ++ (codes " by " ++ (rule_text x l.rule ++ premises_text l.premises)))))
 
 -- the texts of lines that are numbered from n on
 abbrev pub texts_from : LexiconView → ℕ → List TermLine → List Text

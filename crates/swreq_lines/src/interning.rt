@@ -35,7 +35,8 @@ fn intern_both(
 ) -> Result<Requirement, AllocError>
     ensures extends { Extends table.old table.new }
     ensures ids { IfOk result (HasIdsOf table.new) }
-    ensures stands { IfOk result (λ r. requirement_of table.new r ≡ Equals (as_term t.now) (as_term u.now)) }
+    ensures stands { IfOk result
+        (λ r. requirement_of table.new r ≡ Equals (as_term t.now) (as_term u.now)) }
 {
     let left = intern(table, t)?;
     let right = intern(table, u)?;

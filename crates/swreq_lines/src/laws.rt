@@ -20,7 +20,8 @@ use swreq_names::laws::{names_are_words, words_have_word_bytes};
 
 /// No name of a text has a line feed.
 pub fn names_are_of_one_line(text: &[u8])
-    ensures { (s : Skeleton) (x : LexiconView) → StandsFor text.now s → IsLexiconOf text.now s x → AreNamesOfOneLine x }
+    ensures { (s : Skeleton) (x : LexiconView) → StandsFor text.now s
+        → IsLexiconOf text.now s x → AreNamesOfOneLine x }
 {
     names_are_words(text);
     words_have_word_bytes();
@@ -29,19 +30,25 @@ pub fn names_are_of_one_line(text: &[u8])
 /// Each line that is written of lines of a text is good, and what is read of them are those lines. Over a table that begins with that
 /// of the written lines they have the same ids.
 pub fn written_lines_are_read_back()
-    ensures good { (x : LexiconView) (written : List TermLine) (n : ℕ) → TellsApart x → AreNamesOfOneLine x → AllByRecursion (IsReadableLine x) written
+    ensures good { (x : LexiconView) (written : List TermLine) (n : ℕ) → TellsApart x
+        → AreNamesOfOneLine x → AllByRecursion (IsReadableLine x) written
         → length (lines_text x written) ≤ 1048576 → IsFirstNotGood x (lines_text x written) n → ⊥ }
-    ensures same { (x : LexiconView) (terms : List Term) (written : List TermLine) (read : List Line) → TellsApart x → AreNamesOfOneLine x
+    ensures same { (x : LexiconView) (terms : List Term) (written : List TermLine)
+        (read : List Line) → TellsApart x → AreNamesOfOneLine x
         → AllByRecursion (IsReadableLine x) written → length (lines_text x written) ≤ 1048576
         → AreLinesOf x terms (lines_text x written) read → map (line_of terms) read ≡ written }
-    ensures ids { (x : LexiconView) (old new : List Term) (written read : List Line) → TellsApart x → AreNamesOfOneLine x
-        → Extends old new → AreDistinct new → ((l : Line) → Contains written l → HasLineIds x old l) → ((l : Line) → Contains read l → HasLineIds x new l)
-        → AllByRecursion (IsReadableLine x) (map (line_of old) written) → length (lines_text x (map (line_of old) written)) ≤ 1048576
+    ensures ids { (x : LexiconView) (old new : List Term) (written read : List Line)
+        → TellsApart x → AreNamesOfOneLine x
+        → Extends old new → AreDistinct new → ((l : Line) → Contains written l → HasLineIds x old l)
+        → ((l : Line) → Contains read l → HasLineIds x new l)
+        → AllByRecursion (IsReadableLine x) (map (line_of old) written)
+        → length (lines_text x (map (line_of old) written)) ≤ 1048576
         → AreLinesOf x new (lines_text x (map (line_of old) written)) read → read ≡ written }
 {}
 
 /// The text of a line, with its number, determines the line.
 pub fn texts_tell_lines_apart()
-    ensures { (x : LexiconView) (n : ℕ) (l k : TermLine) → TellsApart x → IsReadableLine x l → IsReadableLine x k
+    ensures { (x : LexiconView) (n : ℕ) (l k : TermLine) → TellsApart x
+        → IsReadableLine x l → IsReadableLine x k
         → line_text x n l ≡ line_text x n k → l ≡ k }
 {}

@@ -69,7 +69,8 @@ pub fn read_lines(
     requires names { TellsApart names.now }
     requires short { length text.now ≤ 1048576 }
     ensures extends { Extends table.old table.new }
-    ensures ids { IfOk result (λ lines. (l : Line) → Contains lines.items l → HasLineIds names.now table.new l) }
+    ensures ids { IfOk result
+        (λ lines. (l : Line) → Contains lines.items l → HasLineIds names.now table.new l) }
     ensures lines { IfOk result (λ lines. AreLinesOf names.now table.new text.now lines.items) }
     ensures refused { IfErr result (IsRefused names.now text.now) }
 {

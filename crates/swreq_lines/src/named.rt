@@ -15,7 +15,8 @@ use swreq_param::{AssocId, NameId, ProtoId};
 /// The protocol with this name.
 pub(crate) fn protocol_named(names: &Lexicon, name: &[u8]) -> ProtoId
     requires { TellsApart names.now }
-    ensures { (p : ProtoId) → IsProtocol names.now p → name.now ≡ protocol_name names.now p → result ≡ p }
+    ensures { (p : ProtoId) → IsProtocol names.now p
+        → name.now ≡ protocol_name names.now p → result ≡ p }
 {
     match names.find_proto(name) {
         Some(p) => p,
@@ -37,7 +38,8 @@ pub(crate) fn name_named(names: &Lexicon, name: &[u8]) -> NameId
 /// The associated type of a protocol and a name.
 pub(crate) fn associated(names: &Lexicon, p: ProtoId, a: NameId) -> AssocId
     requires { TellsApart names.now }
-    ensures { (d : AssocId) → IsAssociated names.now d → pair p a ≡ pair_at names.now d → result ≡ d }
+    ensures { (d : AssocId) → IsAssociated names.now d
+        → pair p a ≡ pair_at names.now d → result ≡ d }
 {
     match names.declares(p, a) {
         Some(d) => d,

@@ -21,9 +21,11 @@ pub(crate) struct Piece<'a> {
 /// The text up to the first such byte, or the whole text where it has none.
 pub(crate) fn next_piece(text: &[u8], byte: u8) -> Piece<'_>
     ensures without { IsWithout byte result.piece.now }
-    ensures whole { (text.now ≡ result.piece.now ++ (byte ∷ result.rest.now)) ⊎ ((text.now ≡ result.piece.now) × (result.rest.now ≡ [])) }
+    ensures whole { (text.now ≡ result.piece.now ++ (byte ∷ result.rest.now))
+        ⊎ ((text.now ≡ result.piece.now) × (result.rest.now ≡ [])) }
     ensures shorter { length result.rest.now ≤ length text.now - 1 }
-    ensures piece { (piece tail : Text) → IsWithout byte piece → Ends byte tail → text.now ≡ piece ++ tail
+    ensures piece { (piece tail : Text) → IsWithout byte piece → Ends byte tail
+        → text.now ≡ piece ++ tail
         → (result.piece.now ≡ piece) × (result.rest.now ≡ behind tail) }
 {
     match find(text, byte) {

@@ -12,7 +12,8 @@ use std::alloc::{AllocError, Global};
 
 /// The numbers after the word `from`, with a comma and a space between each two.
 pub(crate) fn read_premises(alloc: Global, text: &[u8]) -> Result<Vec<usize>, AllocError>
-    ensures { (ns : List ℕ) → AllByRecursion IsShort ns → text.now ≡ behind (premises_text ns) → IfOk result (λ v. v.items ≡ ns) }
+    ensures { (ns : List ℕ) → AllByRecursion IsShort ns → text.now ≡ behind (premises_text ns)
+        → IfOk result (λ v. v.items ≡ ns) }
 {
     let mut numbers = Vec::new(alloc);
     let mut rest = next_word(text).rest;

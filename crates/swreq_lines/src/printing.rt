@@ -24,7 +24,8 @@ fn put_statement(
     out: &mut Vec<u8>,
 ) -> Result<(), AllocError>
     requires { HasStatementIds table.now st.now }
-    ensures { OnOk result (out.new.items ≡ out.old.items ++ statement_text names.now (statement_of table.now st.now)) }
+    ensures { OnOk result (out.new.items
+        ≡ out.old.items ++ statement_text names.now (statement_of table.now st.now)) }
 {
     match st {
         Statement::Valid { t } => type_text(alloc, names, table, *t, out),
@@ -47,7 +48,8 @@ fn put_protocol(
     out: &mut Vec<u8>,
 ) -> Result<(), AllocError>
     requires { IfSome protocol (IsProtocol names.now) }
-    ensures { OnOk result (out.new.items ≡ out.old.items ++ field_text (protocol_name names.now) protocol) }
+    ensures { OnOk result
+        (out.new.items ≡ out.old.items ++ field_text (protocol_name names.now) protocol) }
 {
     match protocol {
         Some(p) => put_spaced(names.proto_name(p), out),
@@ -128,7 +130,8 @@ pub(crate) fn put_line(
     out: &mut Vec<u8>,
 ) -> Result<(), AllocError>
     requires { HasLineIds names.now table.now line.now }
-    ensures { OnOk result (out.new.items ≡ out.old.items ++ line_text names.now n (line_of table.now line.now)) }
+    ensures { OnOk result
+        (out.new.items ≡ out.old.items ++ line_text names.now n (line_of table.now line.now)) }
 {
     append_bytes(out, b"  ")?;
     append_number(out, n as u64)?;
@@ -147,7 +150,8 @@ fn put_lines(
     out: &mut Vec<u8>,
 ) -> Result<(), AllocError>
     requires { (l : Line) → Contains lines.now l → HasLineIds names.now table.now l }
-    ensures { OnOk result (out.new.items ≡ out.old.items ++ lines_text names.now (map (line_of table.now) lines.now)) }
+    ensures { OnOk result (out.new.items
+        ≡ out.old.items ++ lines_text names.now (map (line_of table.now) lines.now)) }
 {
     for k in 0..lines.len() {
         let line = &lines[k];
@@ -167,7 +171,8 @@ pub fn lines_text(
     out: &mut Vec<u8>,
 ) -> Result<(), AllocError>
     requires { (l : Line) → Contains lines.now l → HasLineIds names.now table.now l }
-    ensures ok { OnOk result (out.new.items ≡ out.old.items ++ lines_text names.now (map (line_of table.now) lines.now)) }
+    ensures ok { OnOk result (out.new.items
+        ≡ out.old.items ++ lines_text names.now (map (line_of table.now) lines.now)) }
     ensures err { OnErr result (out.new.items ≡ out.old.items) }
 {
     let mut text = Vec::new(alloc);

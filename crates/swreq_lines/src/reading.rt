@@ -33,7 +33,8 @@ pub(crate) struct WrittenLine {
 /// What a line says if it is good. Of another it is any line.
 fn written_line(alloc: Global, names: &Lexicon, text: &[u8]) -> Result<WrittenLine, AllocError>
     requires { TellsApart names.now }
-    ensures { (n : ℕ) (l : TermLine) → IsShort n → IsReadableLine names.now l → text.now ≡ line_text names.now n l
+    ensures { (n : ℕ) (l : TermLine) → IsShort n → IsReadableLine names.now l
+        → text.now ≡ line_text names.now n l
         → IfOk result (λ w. line_meant w ≡ l) }
 {
     // Two spaces, and the number.
@@ -74,7 +75,8 @@ fn is_text_of(
     text: &[u8],
 ) -> Result<bool, AllocError>
     requires { HasLineIds names.now table.now line.now }
-    ensures { IfOk result (λ b. IsTrue b ↔ (text.now ≡ line_text names.now n (line_of table.now line.now))) }
+    ensures { IfOk result
+        (λ b. IsTrue b ↔ (text.now ≡ line_text names.now n (line_of table.now line.now))) }
 {
     let mut printed = Vec::new(alloc);
     put_line(alloc, names, table, n, line, &mut printed)?;

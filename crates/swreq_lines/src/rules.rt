@@ -143,7 +143,8 @@ fn behind_fields<'a>(fields: Fields, none: &'a [u8], one: &'a [u8], two: &'a [u8
 /// The rule with which a text begins, and the text after the space that ends it.
 pub(crate) fn read_rule<'a>(names: &Lexicon, text: &'a [u8]) -> ReadRule<'a>
     requires { TellsApart names.now }
-    ensures { (r : DerivRule) (tail : Text) → HasReadableFields names.now (fields_of r) → Ends 32 tail → text.now ≡ rule_text names.now r ++ tail
+    ensures { (r : DerivRule) (tail : Text) → HasReadableFields names.now (fields_of r)
+        → Ends 32 tail → text.now ≡ rule_text names.now r ++ tail
         → (result.rule ≡ r) × (result.rest.now ≡ behind tail) }
 {
     let name = next_word(text);

@@ -45,7 +45,8 @@ pub(crate) struct Stated<'a> {
 /// The requirement on a type parameter with this word after `:`.
 fn property(names: &Lexicon, t: TypeParam, word: &[u8]) -> WrittenStatement
     requires { TellsApart names.now }
-    ensures { (p : Option ProtoId) → IfSome p (IsProtocol names.now) → word.now ≡ property_text names.now p
+    ensures { (p : Option ProtoId) → IfSome p (IsProtocol names.now)
+        → word.now ≡ property_text names.now p
         → statement_meant result ≡ property_of (as_term t) p }
 {
     if word == b"AnyObject".as_slice() {
@@ -58,8 +59,10 @@ fn property(names: &Lexicon, t: TypeParam, word: &[u8]) -> WrittenStatement
 /// The statement on a type parameter of which this is the text after `:`.
 fn behind_colon<'a>(names: &Lexicon, t: TypeParam, text: &'a [u8]) -> Stated<'a>
     requires { TellsApart names.now }
-    ensures { (p : Option ProtoId) (rest : Text) → IfSome p (IsProtocol names.now) → text.now ≡ property_text names.now p ++ (codes " by " ++ rest)
-        → (statement_meant result.statement ≡ property_of (as_term t) p) × (result.rest.now ≡ rest) }
+    ensures { (p : Option ProtoId) (rest : Text) → IfSome p (IsProtocol names.now)
+        → text.now ≡ property_text names.now p ++ (codes " by " ++ rest)
+        → (statement_meant result.statement ≡ property_of (as_term t) p)
+        × (result.rest.now ≡ rest) }
 {
     let word = next_word(text);
     let by = next_word(word.rest);
@@ -77,8 +80,10 @@ fn behind_equals<'a>(
     text: &'a [u8],
 ) -> Result<Stated<'a>, AllocError>
     requires { TellsApart names.now }
-    ensures { (u : Term) (rest : Text) → IsReadableType names.now u → text.now ≡ type_text names.now u ++ (codes " by " ++ rest)
-        → IfOk result (λ s. (statement_meant s.statement ≡ Requires (Equals (as_term t) u)) × (s.rest.now ≡ rest)) }
+    ensures { (u : Term) (rest : Text) → IsReadableType names.now u
+        → text.now ≡ type_text names.now u ++ (codes " by " ++ rest)
+        → IfOk result (λ s.
+        (statement_meant s.statement ≡ Requires (Equals (as_term t) u)) × (s.rest.now ≡ rest)) }
 {
     let word = next_word(text);
     let by = next_word(word.rest);
@@ -96,7 +101,8 @@ pub(crate) fn read_statement<'a>(
     text: &'a [u8],
 ) -> Result<Stated<'a>, AllocError>
     requires { TellsApart names.now }
-    ensures { (st : TermStatement) (rest : Text) → IsReadableStatement names.now st → text.now ≡ statement_text names.now st ++ (codes " by " ++ rest)
+    ensures { (st : TermStatement) (rest : Text) → IsReadableStatement names.now st
+        → text.now ≡ statement_text names.now st ++ (codes " by " ++ rest)
         → IfOk result (λ s. (statement_meant s.statement ≡ st) × (s.rest.now ≡ rest)) }
 {
     let subject = next_word(text);

@@ -34,7 +34,8 @@ fn read_param(text: &[u8]) -> ParamId
 /// The step that is written as `A` or `[P]A`.
 fn read_step(names: &Lexicon, text: &[u8]) -> Step
     requires { TellsApart names.now }
-    ensures { (s : Step) → IsStepOf names.now s → text.now ≡ behind (step_text names.now s) → result ≡ s }
+    ensures { (s : Step) → IsStepOf names.now s
+        → text.now ≡ behind (step_text names.now s) → result ≡ s }
 {
     let bracket = next_piece(text, b'[');
     if bracket.piece.is_empty() {
@@ -49,7 +50,8 @@ fn read_step(names: &Lexicon, text: &[u8]) -> Step
 /// The steps that are written one after the other, with a dot between each two.
 fn read_steps(alloc: Global, names: &Lexicon, text: &[u8]) -> Result<Vec<Step>, AllocError>
     requires { TellsApart names.now }
-    ensures { (steps : List Step) → AllByRecursion (IsStepOf names.now) steps → text.now ≡ behind (steps_text names.now steps)
+    ensures { (steps : List Step) → AllByRecursion (IsStepOf names.now) steps
+        → text.now ≡ behind (steps_text names.now steps)
         → IfOk result (λ v. v.items ≡ steps) }
 {
     let mut steps = Vec::new(alloc);
@@ -69,7 +71,8 @@ pub(crate) fn read_type(
     text: &[u8],
 ) -> Result<TypeParam, AllocError>
     requires { TellsApart names.now }
-    ensures { (t : Term) → IsReadableType names.now t → text.now ≡ type_text names.now t → IfOk result (λ p. as_term p ≡ t) }
+    ensures { (t : Term) → IsReadableType names.now t → text.now ≡ type_text names.now t
+        → IfOk result (λ p. as_term p ≡ t) }
 {
     let head = next_piece(text, b'.');
     let steps = read_steps(alloc, names, head.rest)?;

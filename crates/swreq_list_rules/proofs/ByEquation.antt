@@ -41,14 +41,18 @@ module _ (s : Setting) (is : IsSetting s) (list : List TermRequirement) (rules :
   pub shown_valid : (r : TermRequirement) → AreShownBy s rules r → Valid r
   shown_valid (Conforms t p) h = shown_derivable (text_in s) is.text.closed machine list is_machine t h
   shown_valid (IsAnyObject t) h = shown_derivable (text_in s) is.text.closed machine list is_machine t h
-  shown_valid (Equals t u) h =
-      (shown_derivable (text_in s) is.text.closed machine list is_machine t h.0, shown_derivable (text_in s) is.text.closed machine list is_machine u h.1)
+  shown_valid (Equals t u) h = (
+    shown_derivable (text_in s) is.text.closed machine list is_machine t h.0,
+    shown_derivable (text_in s) is.text.closed machine list is_machine u h.1,
+  )
 
   pub valid_shown : (r : TermRequirement) → Valid r → AreShownBy s rules r
   valid_shown (Conforms t p) h = derivable_shown (text_in s) is.text.closed machine list is_machine t h
   valid_shown (IsAnyObject t) h = derivable_shown (text_in s) is.text.closed machine list is_machine t h
-  valid_shown (Equals t u) h =
-      (derivable_shown (text_in s) is.text.closed machine list is_machine t h.0, derivable_shown (text_in s) is.text.closed machine list is_machine u h.1)
+  valid_shown (Equals t u) h = (
+    derivable_shown (text_in s) is.text.closed machine list is_machine t h.0,
+    derivable_shown (text_in s) is.text.closed machine list is_machine u h.1,
+  )
 
   by_linked : (r : TermRequirement) → Valid r → IsDerivable r ↔ AreSidesLinked r
   by_linked (Conforms t p) v = by_sides (text_in s) is.text.closed machine list is_machine (Conforms t p) v

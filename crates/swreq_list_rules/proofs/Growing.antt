@@ -42,13 +42,15 @@ module _ (s : Setting) where
   none_of : {A : Type 0} (q : TermRequirement) → Contains [] q → A
   none_of q h = no_member q h
 
-  to_empty : (u v : Word) → ProtocolEquation (symbols_in s) (facts_in s) u v → UsableEquation (symbols_in s) (facts_in s) (source_in s []) u v
+  to_empty : (u v : Word) → ProtocolEquation (symbols_in s) (facts_in s) u v
+      → UsableEquation (symbols_in s) (facts_in s) (source_in s []) u v
   to_empty u v (twice p h) = twice p h
   to_empty u v (member k h) = member k h
   to_empty u v (of_protocol p q h) = of_protocol p q h
   to_empty u v (of_source q h) = absurd h
 
-  of_empty : (u v : Word) → UsableEquation (symbols_in s) (facts_in s) (source_in s []) u v → ProtocolEquation (symbols_in s) (facts_in s) u v
+  of_empty : (u v : Word) → UsableEquation (symbols_in s) (facts_in s) (source_in s []) u v
+      → ProtocolEquation (symbols_in s) (facts_in s) u v
   of_empty u v (twice p h) = twice p h
   of_empty u v (member k h) = member k h
   of_empty u v (of_protocol p q h) = of_protocol p q h
@@ -99,7 +101,8 @@ module _ (s : Setting) where
       said_more : said_in s (view.waiting ++ more) ≡ said_in s view.waiting ++ said_in s more
       said_more = map-append (requirement_of s.table.now) view.waiting more
 
-      waits_cases : (q : TermRequirement) → Contains (said_in s (view.waiting ++ more)) q → Contains (said_in s view.waiting) q ⊎ Contains (said_in s more) q
+      waits_cases : (q : TermRequirement) → Contains (said_in s (view.waiting ++ more)) q
+          → Contains (said_in s view.waiting) q ⊎ Contains (said_in s more) q
       waits_cases q h = Contains-append_cases (said_in s view.waiting) (said_in s more) q (subst (λ z. Contains z q) said_more h)
 
       waits_first : (q : TermRequirement) → Contains (said_in s view.waiting) q → Contains (said_in s (view.waiting ++ more)) q
@@ -157,7 +160,8 @@ module _ (s : Setting) where
         known = λ q h. way.known q (was_there waiting k d l q h);
         added_in = λ q h. elim (Contains-push_cases added r q h) [
           | inl i ↦ way.added_in q i
-          | inr e ↦ subst (λ z. Contains list z) e (way.waiting_in r (contains_map (requirement_of s.table.now) waiting (get_or waiting k d) (Contains-get_or waiting k d l)))
+          | inr e ↦ subst (λ z. Contains list z) e
+              (way.waiting_in r (contains_map (requirement_of s.table.now) waiting (get_or waiting k d) (Contains-get_or waiting k d l)))
         ];
         waiting_in = λ q h. way.waiting_in q (said_before waiting k d l (requirement_of s.table.now) q h);
         others_wait = λ q h. elim (way.others_wait q h) [
@@ -216,7 +220,8 @@ module _ (s : Setting) where
       in_text = λ t p h. are.rules.in_text t p (back _ h);
     };
     known = are.known;
-    waits = λ q h. (to q (are.waits q h).0, λ u. (are.waits q h).1 (valid_down (symbols_in s) (facts_in s) (params_in s) other list all q u));
+    waits =
+        λ q h. (to q (are.waits q h).0, λ u. (are.waits q h).1 (valid_down (symbols_in s) (facts_in s) (params_in s) other list all q u));
     others = λ q h. elim (are.others q (back q h)) [
       | inl u ↦ inl (valid_up (symbols_in s) (facts_in s) (params_in s) other list all q u)
       | inr w ↦ inr w

@@ -57,7 +57,8 @@ module _ {X : Type 0} (xs : List X) (k : ℕ) (d : X) (l : k < length xs) where
   pub was_there : (x : X) → Contains (remove xs k) x → Contains xs x
   was_there x h = elim (Contains-append_cases (take k xs) (drop (suc k) xs) x (subst (λ z. Contains z x) without h)) [
     | inl i ↦ subst (λ z. Contains z x) (sym split) (Contains-append_left (take k xs) (one ∷ drop (suc k) xs) x i)
-    | inr i ↦ subst (λ z. Contains z x) (sym split) (Contains-append_right (take k xs) (one ∷ drop (suc k) xs) x (later_member one x (drop (suc k) xs) i))
+    | inr i ↦ subst (λ z. Contains z x) (sym split)
+        (Contains-append_right (take k xs) (one ∷ drop (suc k) xs) x (later_member one x (drop (suc k) xs) i))
   ]
 
   pub is_left : (x : X) → Contains xs x → (x ≡ one) ⊎ Contains (remove xs k) x

@@ -16,7 +16,8 @@ use Rattle.swreq_rounds.proofs.Presented.{presents_to}
 
 -- A source derives what another does where it has those of its requirements that are valid by it.
 pub derives_usable : {f : TermFacts} {a : Source} {st : TermStatement} → Derivable f a st → (s : Source)
-    → ((g : ParamId) → HasParam a g → HasParam s g) → ((r : TermRequirement) → HasRequirement a r → HasValidSides f s r → HasRequirement s r)
+    → ((g : ParamId) → HasParam a g → HasParam s g)
+    → ((r : TermRequirement) → HasRequirement a r → HasValidSides f s r → HasRequirement s r)
     → Derivable f s st
 derives_usable (generic {g = g} h) s ps rs = generic (ps g h)
 derives_usable (conf {t = t} {p = p} h v) s ps rs = let a = derives_usable (v refl) s ps rs in conf (rs (Conforms t p) h a) (λ e. a)

@@ -40,7 +40,8 @@ abbrev pub AreShownBy : Setting → List Rule → TermRequirement → Type 0
 AreShownBy s rules q = ShowsUsable (symbols_in s) (facts_in s) (source_over (Signature s.params)) (Links rules) q
 
 -- So far the rules are those of these members of the list, all of which are usable among themselves, and the other members wait.
-pub record AreUnderway (s : Setting) (list : List TermRequirement) (added : List TermRequirement) (found : List Rule) (waiting : List Requirement) : Type 0 where
+pub record AreUnderway (s : Setting) (list : List TermRequirement) (added : List TermRequirement) (found : List Rule)
+    (waiting : List Requirement) : Type 0 where
   pub rules : AreListRules (symbols_in s) (facts_in s) (params_in s) added found
   pub usable : IsListWellFormed (facts_in s) (source_in s added)
   pub in_text : IsInText (symbols_in s) (source_in s list)

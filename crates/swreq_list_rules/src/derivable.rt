@@ -23,7 +23,8 @@ pub(crate) fn has_valid_sides(
 ) -> Result<bool, AllocError>
     requires setting { IsSetting setting.now }
     requires r { IsRequirementIn setting.now.table.now setting.now.world.now.lexicon r }
-    ensures { IfOk result (λ b. IsTrue b ↔ AreShownBy setting.now rules.now (requirement_of setting.now.table.now r)) }
+    ensures { IfOk result (λ b.
+        IsTrue b ↔ AreShownBy setting.now rules.now (requirement_of setting.now.table.now r)) }
 {
     let over = Over::Signature(setting.params);
     is_usable(alloc, setting.world, setting.table, rules, over, r)
@@ -40,7 +41,8 @@ pub fn is_derivable_by(
     requires setting { IsSetting setting.now }
     requires r { IsRequirementIn setting.now.table.now setting.now.world.now.lexicon r }
     ensures { (list : List TermRequirement) → AreRulesOfList setting.now list rules.now
-        → IfOk result (λ b. IsTrue b ↔ Derivable (facts_in setting.now) (source_in setting.now list) (Requires (requirement_of setting.now.table.now r))) }
+        → IfOk result (λ b. IsTrue b ↔ Derivable (facts_in setting.now) (source_in setting.now list)
+        (Requires (requirement_of setting.now.table.now r))) }
 {
     let valid = has_valid_sides(alloc, setting, rules, r)?;
     if !valid {

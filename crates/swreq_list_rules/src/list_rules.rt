@@ -90,7 +90,8 @@ impl<'b> ListRules<'b> {
         requires setting { IsSetting setting.now }
         requires r { IsRequirementIn setting.now.table.now setting.now.world.now.lexicon r }
         ensures { (list : List TermRequirement) → AreOfList setting.now list self.now
-            → IfOk result (λ b. IsTrue b ↔ Derivable (facts_in setting.now) (source_in setting.now list) (Requires (requirement_of setting.now.table.now r))) }
+            → IfOk result (λ b. IsTrue b ↔ Derivable (facts_in setting.now)
+            (source_in setting.now list) (Requires (requirement_of setting.now.table.now r))) }
     {
         is_derivable_by(alloc, setting, &self.rules, r)
     }

@@ -26,8 +26,10 @@ fn first_usable(
     requires setting { IsSetting setting.now }
     requires waiting { AreKnownIn setting.now waiting.now }
     ensures { IfOk result (λ o. MatchOption o
-        ((r : Requirement) → Contains waiting.now r → AreShownBy setting.now rules.now (requirement_of setting.now.table.now r) → ⊥)
-        (λ k. (k < length waiting.now) × ((r : Requirement) → get_or waiting.now k r ≡ r → AreShownBy setting.now rules.now (requirement_of setting.now.table.now r)))) }
+        ((r : Requirement) → Contains waiting.now r
+        → AreShownBy setting.now rules.now (requirement_of setting.now.table.now r) → ⊥)
+        (λ k. (k < length waiting.now) × ((r : Requirement) → get_or waiting.now k r ≡ r
+        → AreShownBy setting.now rules.now (requirement_of setting.now.table.now r)))) }
 {
     for k in 0..waiting.len() {
         if has_valid_sides(alloc, setting, rules, waiting[k])? {
@@ -46,7 +48,8 @@ fn completed_by<'b>(
 ) -> Result<CompleteRules<'b>, Failed>
     requires setting { IsSetting setting.now }
     requires r { IsRequirementIn setting.now.table.now setting.now.world.now.lexicon r }
-    ensures { IfOk result (AreCompletedBy setting.now (requirement_of setting.now.table.now r) rules.entry) }
+    ensures { IfOk result
+        (AreCompletedBy setting.now (requirement_of setting.now.table.now r) rules.entry) }
 {
     let sides = equation(alloc, setting.world, setting.table, None, &r)?;
     extend(alloc, rules, &[sides], setting.limits, &mut Quiet)
@@ -62,7 +65,8 @@ pub(crate) fn settle<'b>(
 ) -> Result<ListRules<'b>, Failed>
     requires setting { IsSetting setting.now }
     requires waiting { AreKnownIn setting.now waiting.items }
-    ensures { (list added : List TermRequirement) → AreUnderway setting.now list added rules.entry waiting.items
+    ensures { (list added : List TermRequirement)
+        → AreUnderway setting.now list added rules.entry waiting.items
         → IfOk result (AreOfList setting.now list) }
 {
     let mut rules = rules;

@@ -78,20 +78,25 @@ item_places (items.Query q) = []
 
 members_places : (ms : List AssocDecl) → all_places (flat_map parts.of_member ms) ≡ flat_map member_places ms
 members_places [] = refl
-members_places (m ∷ ms) = flat_map-append places (parts.of_member m) (flat_map parts.of_member ms) ∙ ap (λ ns. member_places m ++ ns) (members_places ms)
+members_places (m ∷ ms) =
+    flat_map-append places (parts.of_member m) (flat_map parts.of_member ms) ∙ ap (λ ns. member_places m ++ ns) (members_places ms)
 
-protocol_parts : (p : ProtocolDecl) → p.name.start ∷ (bounds_places p.inherits ++ (clause_places p.clause ++ flat_map member_places p.members)) ≡ protocol_places p
+protocol_parts : (p : ProtocolDecl)
+    → p.name.start ∷ (bounds_places p.inherits ++ (clause_places p.clause ++ flat_map member_places p.members)) ≡ protocol_places p
 protocol_parts p =
     ap (λ ns. p.name.start ∷ (bounds_places p.inherits ++ ns))
-    (sym (flat_map-append places (parts.of_clause p.clause) (flat_map parts.of_member p.members) ∙ ap (λ ns. clause_places p.clause ++ ns) (members_places p.members)))
+    (sym (flat_map-append places (parts.of_clause p.clause) (flat_map parts.of_member p.members)
+    ∙ ap (λ ns. clause_places p.clause ++ ns) (members_places p.members)))
 
 params_places : (k : ℕ) (ps : List ParamDecl) → all_places (map parts.of_param (numbered k ps)) ≡ flat_map param_places ps
 params_places k [] = refl
 params_places k (p ∷ ps) = ap (λ ns. param_places p ++ ns) (params_places (k + 1) ps)
 
-signature_parts : (params : List ParamDecl) (clause : List ReqDecl) → flat_map param_places params ++ clause_places clause ≡ signature_places params clause
+signature_parts : (params : List ParamDecl) (clause : List ReqDecl)
+    → flat_map param_places params ++ clause_places clause ≡ signature_places params clause
 signature_parts params clause =
-    sym (flat_map-append places (map parts.of_param (numbered 0 params)) (parts.of_clause clause) ∙ ap (λ ns. ns ++ clause_places clause) (params_places 0 params))
+    sym (flat_map-append places (map parts.of_param (numbered 0 params)) (parts.of_clause clause)
+    ∙ ap (λ ns. ns ++ clause_places clause) (params_places 0 params))
 
 -- ---- tokens at places
 
@@ -137,8 +142,12 @@ none = record { begin = λ ts v m. tt }
 at_same : {A : Type 0} {g : Line A} {f e : A → List ℕ} → Places g f → ((v : A) → f v ≡ e v) → Places g e
 at_same p l = record { begin = λ ts v m. subst (λ ns. Begin ns ts) (l v) (p.begin ts v m) }
 
-at_both : {A B : Type 0} {g : Line A} {h : Line B} {f : A → List ℕ} {e : B → List ℕ} → Places g f → Places h e → Places (sequence g h) (λ p. f p.0 ++ e p.1)
-at_both {f} {e} p q = record { begin = λ ts v x. subst (λ us. Begin (f v.0 ++ e v.1) us) (sym x.2) (begin_both (f v.0) (e v.1) x.0 x.1 (p.begin x.0 v.0 x.3) (q.begin x.1 v.1 x.4)) }
+at_both : {A B : Type 0} {g : Line A} {h : Line B} {f : A → List ℕ} {e : B → List ℕ} → Places g f → Places h e
+    → Places (sequence g h) (λ p. f p.0 ++ e p.1)
+at_both {f} {e} p q = record {
+  begin = λ ts v x.
+      subst (λ us. Begin (f v.0 ++ e v.1) us) (sym x.2) (begin_both (f v.0) (e v.1) x.0 x.1 (p.begin x.0 v.0 x.3) (q.begin x.1 v.1 x.4));
+}
 
 at_first : {A B : Type 0} {g : Line A} {h : Line B} {f : A → List ℕ} → Places g f → Places (sequence g h) (λ p. f p.0)
 at_first {f} p = record { begin = λ ts v x. subst (λ us. Begin (f v.0) us) (sym x.2) (begin_left (f v.0) x.0 x.1 (p.begin x.0 v.0 x.3)) }
@@ -152,9 +161,11 @@ at_mapped {f} p = record { begin = λ ts w m. subst (λ x. Begin (f x) ts) m.2 (
 at_alternative : {A : Type 0} {g h : Line A} {f : A → List ℕ} → Places g f → Places h f → Places (alternative g h) f
 at_alternative p q = record { begin = λ ts v m. ⊎_elim (p.begin ts v) (q.begin ts v) m }
 
-at_parts : {A : Type 0} (g : Line A) (f : A → List ℕ) → Places g f → (ts : Tokens) (vs : List A) → Parts (Matches number g) ts vs → Begin (flat_map f vs) ts
+at_parts : {A : Type 0} (g : Line A) (f : A → List ℕ) → Places g f → (ts : Tokens) (vs : List A) → Parts (Matches number g) ts vs
+    → Begin (flat_map f vs) ts
 at_parts g f p ts [] e = tt
-at_parts g f p ts (v ∷ vs) (a, b, s, m, ms) = subst (λ us. Begin (f v ++ flat_map f vs) us) (sym s) (begin_both (f v) (flat_map f vs) a b (p.begin a v m) (at_parts g f p b vs ms))
+at_parts g f p ts (v ∷ vs) (a, b, s, m, ms) =
+    subst (λ us. Begin (f v ++ flat_map f vs) us) (sym s) (begin_both (f v) (flat_map f vs) a b (p.begin a v m) (at_parts g f p b vs ms))
 
 at_repetition : {A : Type 0} {limit : Limit Kind} {g : Line A} {f : A → List ℕ} → Places g f → Places (repetition limit g) (flat_map f)
 at_repetition {A} {limit} {g} {f} p = record { begin = λ ts vs m. at_parts g f p ts vs m.0 }
@@ -174,17 +185,21 @@ at_separated {A} {ss} {g} {f} p = at_mapped (at_both {f = f} {e = flat_map f} p 
 at_in_angles : {A : Type 0} {g : Line A} {f : A → List ℕ} → Places g f → Places (in_angles g) (flat_map f)
 at_in_angles p = at_after (at_before (at_separated p))
 
-at_continued : {A B : Type 0} {g : Line A} {h : Line (A → B)} {m : A → List ℕ} {f : B → List ℕ} → Places g m → PlacesOf h m f → Places (continued g h) f
+at_continued : {A B : Type 0} {g : Line A} {h : Line (A → B)} {m : A → List ℕ} {f : B → List ℕ} → Places g m → PlacesOf h m f
+    → Places (continued g h) f
 at_continued {m} {f} p q = at_mapped (record {
   begin = λ ts v x.
       let r = q.begin x.1 v.1 x.4 v.0 in
-      subst (λ ns. Begin ns ts) r.1 (subst (λ us. Begin (m v.0 ++ r.0) us) (sym x.2) (begin_both (m v.0) r.0 x.0 x.1 (p.begin x.0 v.0 x.3) r.2));
+      subst (λ ns. Begin ns ts) r.1
+      (subst (λ us. Begin (m v.0 ++ r.0) us) (sym x.2) (begin_both (m v.0) r.0 x.0 x.1 (p.begin x.0 v.0 x.3) r.2));
 })
 
-of_mapped : {A B C : Type 0} {k : C → A → B} {g : Line C} {m : A → List ℕ} {n : C → List ℕ} {f : B → List ℕ} → Places g n → ((c : C) (v : A) → m v ++ n c ≡ f (k c v)) → PlacesOf (mapped k g) m f
+of_mapped : {A B C : Type 0} {k : C → A → B} {g : Line C} {m : A → List ℕ} {n : C → List ℕ} {f : B → List ℕ} → Places g n
+    → ((c : C) (v : A) → m v ++ n c ≡ f (k c v)) → PlacesOf (mapped k g) m f
 of_mapped {n} {f} p l = record { begin = λ ts h x v. (n x.0, l x.0 v ∙ ap (λ k. f (k v)) x.2, p.begin ts x.0 x.1) }
 
-of_alternative : {A B : Type 0} {g h : Line (A → B)} {m : A → List ℕ} {f : B → List ℕ} → PlacesOf g m f → PlacesOf h m f → PlacesOf (alternative g h) m f
+of_alternative : {A B : Type 0} {g h : Line (A → B)} {m : A → List ℕ} {f : B → List ℕ} → PlacesOf g m f → PlacesOf h m f
+    → PlacesOf (alternative g h) m f
 of_alternative p q = record { begin = λ ts k x. ⊎_elim (p.begin ts k) (q.begin ts k) x }
 
 -- ---- the lines of the source
@@ -226,7 +241,8 @@ inherit_line = at_after (at_separated entity_line)
 
 requirement_line : Places lines.requirement requirement_places
 unfolding lines.requirement
-requirement_line = at_continued type_line (of_alternative (of_mapped (at_after bounds_line) (λ c v. refl)) (of_mapped (at_after type_line) (λ c v. refl)))
+requirement_line =
+    at_continued type_line (of_alternative (of_mapped (at_after bounds_line) (λ c v. refl)) (of_mapped (at_after type_line) (λ c v. refl)))
 
 where_line : Places lines.where_clause clause_places
 unfolding lines.where_clause
@@ -248,7 +264,8 @@ protocol_line : Places lines.protocol protocol_places
 unfolding lines.protocol
 protocol_line =
     at_mapped (at_same
-    (at_after (at_both name_places (at_second (at_both inherits_line (at_both conditions_line (at_after (at_before (at_repetition {f = member_places} member_line))))))))
+    (at_after (at_both name_places
+    (at_second (at_both inherits_line (at_both conditions_line (at_after (at_before (at_repetition {f = member_places} member_line))))))))
     (λ p. protocol_parts (record { name = p.0; primaries = p.1.0; inherits = p.1.1.0; clause = p.1.1.1.0; members = p.1.1.1.1 })))
 
 param_line : Places lines.param param_places
@@ -265,20 +282,24 @@ params_line = at_or_else refl generics_line
 
 function_line : Places lines.function function_places
 unfolding lines.function
-function_line = at_mapped (at_same (at_after (at_second (at_both params_line (at_after (at_after (at_before conditions_line)))))) (λ p. signature_parts p.1.0 p.1.1))
+function_line = at_mapped (at_same (at_after (at_second (at_both params_line (at_after (at_after (at_before conditions_line))))))
+    (λ p. signature_parts p.1.0 p.1.1))
 
 inner_line : Places lines.inner_function function_places
 unfolding lines.inner_function
 inner_line = at_before (at_after function_line)
 
-struct_parts : (params : List ParamDecl) (clause : List ReqDecl) (fs : List FunctionDecl) → flat_map param_places params ++ (clause_places clause ++ flat_map function_places fs) ≡ signature_places params clause ++ flat_map function_places fs
+struct_parts : (params : List ParamDecl) (clause : List ReqDecl) (fs : List FunctionDecl) → flat_map param_places params
+    ++ (clause_places clause ++ flat_map function_places fs) ≡ signature_places params clause ++ flat_map function_places fs
 struct_parts params clause fs =
-    sym (append_assoc (flat_map param_places params) (clause_places clause) (flat_map function_places fs)) ∙ ap (λ ns. ns ++ flat_map function_places fs) (signature_parts params clause)
+    sym (append_assoc (flat_map param_places params) (clause_places clause) (flat_map function_places fs))
+    ∙ ap (λ ns. ns ++ flat_map function_places fs) (signature_parts params clause)
 
 structure_line : Places lines.structure struct_places
 unfolding lines.structure
 structure_line =
-    at_mapped (at_same (at_after (at_second (at_both params_line (at_both conditions_line (at_after (at_before (at_repetition {f = function_places} inner_line)))))))
+    at_mapped (at_same (at_after
+    (at_second (at_both params_line (at_both conditions_line (at_after (at_before (at_repetition {f = function_places} inner_line)))))))
     (λ p. struct_parts p.1.0 p.1.1.0 p.1.1.1))
 
 declaration_line : Places lines.declaration item_places
@@ -322,13 +343,15 @@ slices_from : (text : List ℕ) (from : ℕ) (ts : List lexed.Token) → AreSlic
 slices_from text from [] s = tt
 slices_from text from (t ∷ ts) (next a b c d e s) = (a, from_less from t.end (omega arith) ts (slices_from text t.end ts s))
 
-begin_above : (text : List ℕ) (n : ℕ) (ns : List ℕ) (ts : List lexed.Token) → From (suc n) ts → Begin ns (with_terminals text ts) → Above n ns
+begin_above : (text : List ℕ) (n : ℕ) (ns : List ℕ) (ts : List lexed.Token) → From (suc n) ts
+    → Begin ns (with_terminals text ts) → Above n ns
 begin_above text n [] ts f h = tt
 begin_above text n (m ∷ ns) [] f h = absurd h
 begin_above text n (m ∷ ns) (t ∷ ts) f (inl h) = (let i = f.0 in let j = h.0 in omega arith, begin_above text n ns ts f.1 h.1)
 begin_above text n (m ∷ ns) (t ∷ ts) f (inr h) = begin_above text n (m ∷ ns) ts f.1 h
 
-begin_ascend : (text : List ℕ) (from : ℕ) (ts : List lexed.Token) → AreSlices text from ts → (ns : List ℕ) → Begin ns (with_terminals text ts) → Ascend ns
+begin_ascend : (text : List ℕ) (from : ℕ) (ts : List lexed.Token) → AreSlices text from ts → (ns : List ℕ)
+    → Begin ns (with_terminals text ts) → Ascend ns
 begin_ascend text from ts s [] h = tt
 begin_ascend text from [] s (n ∷ ns) h = absurd h
 begin_ascend text from (t ∷ ts) (next a b c d e s) (n ∷ ns) (inl h) =
@@ -337,6 +360,8 @@ begin_ascend text from (t ∷ ts) (next a b c d e s) (n ∷ ns) (inl h) =
 begin_ascend text from (t ∷ ts) (next a b c d e s) (n ∷ ns) (inr h) = begin_ascend text t.end ts s (n ∷ ns) h
 
 -- The places of the parts of a text ascend.
-pub parts_ascend : (text : List ℕ) (from : ℕ) (ts : List lexed.Token) → AreSlices text from ts → (vs : List Item) → Matches number lines.source (with_terminals text ts) vs → Ascend (flat_map item_places vs)
+pub parts_ascend : (text : List ℕ) (from : ℕ) (ts : List lexed.Token) → AreSlices text from ts → (vs : List Item)
+    → Matches number lines.source (with_terminals text ts) vs → Ascend (flat_map item_places vs)
 unfolding lines.source
-parts_ascend text from ts s vs m = begin_ascend text from ts s (flat_map item_places vs) (at_parts lines.item item_places item_line (with_terminals text ts) vs m.0)
+parts_ascend text from ts s vs m =
+    begin_ascend text from ts s (flat_map item_places vs) (at_parts lines.item item_places item_line (with_terminals text ts) vs m.0)

@@ -95,7 +95,8 @@ signature_total params clause =
 
 module _ (w : WordsView) where
   module _ (context : Context) where
-    arguments_count : (t : Term) (at : ℕ) (names : List Span) (us : List TypeDecl) → length (arguments w context t at names us) ≤ sum_by type_size us
+    arguments_count : (t : Term) (at : ℕ) (names : List Span) (us : List TypeDecl)
+        → length (arguments w context t at names us) ≤ sum_by type_size us
     arguments_count t at [] us = omega arith
     arguments_count t at (a ∷ names) [] = omega arith
     arguments_count t at (a ∷ names) (u ∷ us) =
@@ -119,7 +120,8 @@ module _ (w : WordsView) where
   signature_count : (g : Signature) (params : List ParamDecl) (clause : List ReqDecl)
       → length (in_signature w g params clause) ≤ sum_by param_size params + clause_size clause
   signature_count g params clause =
-      let i = constraints_count (contexts.Signature g) (parts.of_signature params clause) in let j = signature_total params clause in omega arith
+      let i = constraints_count (contexts.Signature g) (parts.of_signature params clause) in
+      let j = signature_total params clause in omega arith
 
   function_count : (g : Signature) (f : FunctionDecl) → length (in_signature w g f.params f.clause) ≤ function_size f
   function_count g f = let i = signature_count g f.params f.clause in omega arith
@@ -130,8 +132,10 @@ module _ (w : WordsView) where
   few : skeleton_size w.skeleton ≤ 1048576 → HasFewRequirements w
   unfolding skeleton_size
   few h = record {
-    protocols = λ k d l. let i = one_sum protocol_size w.skeleton.protocols k d l in let j = protocol_count (get_or w.skeleton.protocols k d) in omega arith;
-    structs = λ n k d l. let i = one_sum struct_size w.skeleton.structs k d l in let j = struct_count n (get_or w.skeleton.structs k d) in omega arith;
+    protocols = λ k d l.
+        let i = one_sum protocol_size w.skeleton.protocols k d l in let j = protocol_count (get_or w.skeleton.protocols k d) in omega arith;
+    structs = λ n k d l.
+        let i = one_sum struct_size w.skeleton.structs k d l in let j = struct_count n (get_or w.skeleton.structs k d) in omega arith;
     functions = λ n k d l. let i = one_sum function_size w.skeleton.functions k d l in
         let j = function_count (Function n) (get_or w.skeleton.functions k d) in omega arith;
     nested = λ n m k d l q e o.
@@ -146,6 +150,7 @@ module _ (w : WordsView) where
     queries = let i = count_sum query_size w.skeleton.queries (λ q. omega arith) in omega arith;
   }
 
-pub few_requirements : (text : List ℕ) (w : WordsView) → ((ts : List lexed.Token) → HasTokens text ts → AreSlices text (first_offset (chars text)) ts)
+pub few_requirements : (text : List ℕ) (w : WordsView)
+    → ((ts : List lexed.Token) → HasTokens text ts → AreSlices text (first_offset (chars text)) ts)
     → length text ≤ 1048576 → StandsFor text w.skeleton → HasFewRequirements w
 few_requirements text w slices limit stands = few w (let i = skeleton_within text w.skeleton slices stands in omega arith)

@@ -19,7 +19,9 @@ use Rattle.swreq_lowering.specs.Adding.{Spells, Adds, Lists}
 pub extends_interned : (old new : List Term) (t : Term) (id : TermId) → Interned old new t id → Extends old new
 extends_interned old new t id n =
     ⊎_elim (λ e. subst (Extends old) (sym e) (unchanged old))
-    (λ e. subst (Extends old) (sym e.1) (record { longer = let l = length-append old (t ∷ []) in omega arith; stands = λ u h. get_or_append_left old (t ∷ []) self u.place h })) n.grown
+    (λ e. subst (Extends old) (sym e.1)
+    (record { longer = let l = length-append old (t ∷ []) in omega arith; stands = λ u h. get_or_append_left old (t ∷ []) self u.place h }))
+    n.grown
 
 pub spelled : (old new : List Term) (t : Term) (id : TermId) → Interned old new t id → Spells old new t id
 spelled old new t id n = record { extends = extends_interned old new t id n; is_of = n.is_of; stands = n.stands }
@@ -44,9 +46,11 @@ pub placed_stay : (old new : List Term) (rs : List Written) → Extends old new 
 placed_stay old new [] b h = refl
 placed_stay old new (r ∷ rs) b h =
     let e = requirement_stays old new r.requirement b (h 0 r (omega arith)) in
-    λ i. record { requirement = e i; left_at = r.left_at; right_at = r.right_at } ∷ placed_stay old new rs b (λ k d l. h (suc k) d (omega arith)) i
+    λ i. record { requirement = e i; left_at = r.left_at; right_at = r.right_at }
+    ∷ placed_stay old new rs b (λ k d l. h (suc k) d (omega arith)) i
 
-all_push : (terms : List Term) (rs : List Written) (r : Written) → AreOf terms rs → HasIdsOf terms r.requirement → AreOf terms (rs ++ r ∷ [])
+all_push : (terms : List Term) (rs : List Written) (r : Written) → AreOf terms rs → HasIdsOf terms r.requirement
+    → AreOf terms (rs ++ r ∷ [])
 all_push terms [] r h g zero d l = g
 all_push terms [] r h g (suc k) d l = absurd (omega arith)
 all_push terms (q ∷ rs) r h g zero d l = h 0 d (omega arith)
@@ -57,7 +61,8 @@ all_push terms (q ∷ rs) r h g (suc k) d l = all_push terms rs r (λ k d l. h (
 pub adds_nothing : (terms : List Term) (rs : List Written) → Adds terms terms rs rs []
 adds_nothing terms rs = record { extends = unchanged terms; are_of = λ h. h; placed = λ h. sym (append-nil (placed terms rs)) }
 
-pub adds_then : (a b c : List Term) (us vs ws : List Written) (ps qs : List PlacedRequirement) → Adds a b us vs ps → Adds b c vs ws qs → Adds a c us ws (ps ++ qs)
+pub adds_then : (a b c : List Term) (us vs ws : List Written) (ps qs : List PlacedRequirement) → Adds a b us vs ps → Adds b c vs ws qs
+    → Adds a c us ws (ps ++ qs)
 adds_then a b c us vs ws ps qs p q = record {
   extends = onward a b c p.extends q.extends;
   are_of = λ h. q.are_of (p.are_of h);
@@ -65,7 +70,8 @@ adds_then a b c us vs ws ps qs p q = record {
 }
 
 -- one requirement, whose ids are of the new table
-pub adds_one : (old new : List Term) (ws vs : List Written) (r : Written) (p : PlacedRequirement) → Extends old new → vs ≡ ws ++ r ∷ [] → HasIdsOf new r.requirement → placed_by new r ≡ p → Adds old new ws vs (p ∷ [])
+pub adds_one : (old new : List Term) (ws vs : List Written) (r : Written) (p : PlacedRequirement) → Extends old new → vs ≡ ws ++ r ∷ []
+    → HasIdsOf new r.requirement → placed_by new r ≡ p → Adds old new ws vs (p ∷ [])
 adds_one old new ws vs r p b e h q =
     subst (λ us. Adds old new ws us (p ∷ [])) (sym e) (record {
       extends = b;
@@ -74,7 +80,8 @@ adds_one old new ws vs r p b e h q =
     })
 
 -- a table that has grown before
-pub adds_later : (a b c : List Term) (us vs : List Written) (ps : List PlacedRequirement) → Extends a b → Adds b c us vs ps → Adds a c us vs ps
+pub adds_later : (a b c : List Term) (us vs : List Written) (ps : List PlacedRequirement) → Extends a b
+    → Adds b c us vs ps → Adds a c us vs ps
 adds_later a b c us vs ps g p = record {
   extends = onward a b c g p.extends;
   are_of = λ h. p.are_of (are_of_stay a b us g h);

@@ -48,20 +48,24 @@ module _ (w : WordsView) where
   type_head : (t : TypeDecl) → head (type_in w Protocol t) ≡ self_param
   type_head t = heads_same (protocol_head w t.head) (map (step_of w) t.steps) ∙ first_by t.head (bytes_eq self_bytes (word w.text t.head))
 
-  bound_over : (t : Term) (e : Entity) (b : Bool) → head t ≡ self_param → IsOverSelf (cond b (IsAnyObject t) (Conforms t (proto_of w e.span)))
+  bound_over : (t : Term) (e : Entity) (b : Bool) → head t ≡ self_param
+      → IsOverSelf (cond b (IsAnyObject t) (Conforms t (proto_of w e.span)))
   bound_over t e true h = h
   bound_over t e false h = h
 
-  arguments_over : (t : Term) (at : ℕ) (names : List Span) (us : List TypeDecl) → head t ≡ self_param → All Over (arguments w Protocol t at names us)
+  arguments_over : (t : Term) (at : ℕ) (names : List Span) (us : List TypeDecl) → head t ≡ self_param
+      → All Over (arguments w Protocol t at names us)
   arguments_over t at [] us h = all_none Over
   arguments_over t at (a ∷ names) [] h = all_none Over
-  arguments_over t at (a ∷ names) (u ∷ us) h = all_cons Over _ (arguments w Protocol t at names us) (h, type_head u) (arguments_over t at names us h)
+  arguments_over t at (a ∷ names) (u ∷ us) h =
+      all_cons Over _ (arguments w Protocol t at names us) (h, type_head u) (arguments_over t at names us h)
 
   bounds_over : (t : Term) (at : ℕ) (es : List Entity) → head t ≡ self_param → All Over (in_bounds w Protocol t at es)
   bounds_over t at es h = all_pieces Over (in_bound w Protocol t at) es one
     where
       one : (e : Entity) → All Over (in_bound w Protocol t at e)
-      one e = all_cons Over (of_one_side (bound_of w t e) at) (arguments w Protocol t e.span.start (primaries_named w e.span) e.args) (bound_over t e e.layout h) (arguments_over t e.span.start (primaries_named w e.span) e.args h)
+      one e = all_cons Over (of_one_side (bound_of w t e) at) (arguments w Protocol t e.span.start (primaries_named w e.span) e.args)
+          (bound_over t e e.layout h) (arguments_over t e.span.start (primaries_named w e.span) e.args h)
 
   requirement_over : (r : ReqDecl) → All Over (in_requirement w Protocol r)
   requirement_over (requirements.Bound t bounds) = bounds_over (type_in w Protocol t) t.head.start bounds (type_head t)
@@ -78,5 +82,7 @@ module _ (w : WordsView) where
   pub protocol_over : (p : ProtocolDecl) → All Over (in_protocol w p)
   protocol_over p =
       subst (All Over) (sym (protocol_walked w p))
-      (all_append Over (in_bounds w Protocol self p.name.start p.inherits) (in_clause w Protocol p.clause ++ in_members w p.members) (bounds_over self p.name.start p.inherits refl)
-      (all_append Over (in_clause w Protocol p.clause) (in_members w p.members) (clause_over p.clause) (all_pieces Over (in_member w) p.members member_over)))
+      (all_append Over (in_bounds w Protocol self p.name.start p.inherits) (in_clause w Protocol p.clause ++ in_members w p.members)
+      (bounds_over self p.name.start p.inherits refl)
+      (all_append Over (in_clause w Protocol p.clause) (in_members w p.members) (clause_over p.clause)
+      (all_pieces Over (in_member w) p.members member_over)))

@@ -14,7 +14,8 @@ pub from_below : {A : Type 0} (test : A → Bool) (i : ℕ) (xs : List A) (k : �
 from_below test i [] k e = cc
 from_below test i (x ∷ xs) k e = by (test x) e (from_below test (i + 1) xs k)
   where
-    by : (b : Bool) → cond b (Some i) (position_from test (i + 1) xs) ≡ Some k → (position_from test (i + 1) xs ≡ Some k → k < i + 1 + length xs) → k < i + suc (length xs)
+    by : (b : Bool) → cond b (Some i) (position_from test (i + 1) xs) ≡ Some k
+        → (position_from test (i + 1) xs ≡ Some k → k < i + 1 + length xs) → k < i + suc (length xs)
     by true e h = let l : i ≡ k = cc in omega arith
     by false e h = let l : k < i + 1 + length xs = h e in omega arith
 
@@ -24,18 +25,21 @@ place_below ds name k e =
     let m = length-map ds (λ (d : Declaration). d.name) in
     omega arith
 
-outer_by : (o p : Option ℕ) (k : ℕ) → (elim o as (λ _. Option Param) [ None ↦ option_map Own p | Some j ↦ Some (Outer j) ]) ≡ Some (Outer k) → o ≡ Some k
+outer_by : (o p : Option ℕ) (k : ℕ)
+    → (elim o as (λ _. Option Param) [ None ↦ option_map Own p | Some j ↦ Some (Outer j) ]) ≡ Some (Outer k) → o ≡ Some k
 outer_by None None k e = cc
 outer_by None (Some j) k e = cc
 outer_by (Some j) p k e = cc
 
-own_by : (o p : Option ℕ) (k : ℕ) → (elim o as (λ _. Option Param) [ None ↦ option_map Own p | Some j ↦ Some (Outer j) ]) ≡ Some (Own k) → p ≡ Some k
+own_by : (o p : Option ℕ) (k : ℕ)
+    → (elim o as (λ _. Option Param) [ None ↦ option_map Own p | Some j ↦ Some (Outer j) ]) ≡ Some (Own k) → p ≡ Some k
 own_by None None k e = cc
 own_by None (Some j) k e = cc
 own_by (Some j) p k e = cc
 
 pub outer_below : (d : Spaces) (g : Signature) (name : List ℕ) (k : ℕ) → param_of d g name ≡ Some (Outer k) → k < length (outer_params d g)
-outer_below d g name k e = place_below (outer_params d g) name k (outer_by (place (outer_params d g) name) (place (own_params d g) name) k e)
+outer_below d g name k e =
+    place_below (outer_params d g) name k (outer_by (place (outer_params d g) name) (place (own_params d g) name) k e)
 
 pub own_below : (d : Spaces) (g : Signature) (name : List ℕ) (k : ℕ) → param_of d g name ≡ Some (Own k) → k < length (own_params d g)
 own_below d g name k e = place_below (own_params d g) name k (own_by (place (outer_params d g) name) (place (own_params d g) name) k e)

@@ -52,13 +52,15 @@ module _ {A : Type 0} where
   one_sum f (x ∷ xs) zero d h = let k = sum_by-cons f x xs in omega arith
   one_sum f (x ∷ xs) (suc k) d h = let i = one_sum f xs k d (omega arith) in let j = sum_by-cons f x xs in omega arith
 
-  pub pieces_sum : {B : Type 0} (f : A → List B) (size : A → ℕ) (xs : List A) → ((x : A) → length (f x) ≤ size x) → length (flat_map f xs) ≤ sum_by size xs
+  pub pieces_sum : {B : Type 0} (f : A → List B) (size : A → ℕ) (xs : List A) → ((x : A) → length (f x) ≤ size x)
+      → length (flat_map f xs) ≤ sum_by size xs
   pieces_sum f size xs h = let e = length-flat_map f xs in let k = sum_by-le-sum_by (λ x. length (f x)) size xs h in omega arith
 
 -- ---- the parts of a text
 
 unfoldable pub skeleton_size : Skeleton → ℕ
-skeleton_size s = sum_by protocol_size s.protocols + (sum_by struct_size s.structs + (sum_by function_size s.functions + sum_by query_size s.queries))
+skeleton_size s =
+    sum_by protocol_size s.protocols + (sum_by struct_size s.structs + (sum_by function_size s.functions + sum_by query_size s.queries))
 
 size_of_parts : (parts : List Item) → skeleton_size (skeleton_of parts) ≡ sum_by item_size parts
 unfolding skeleton_size
@@ -84,7 +86,8 @@ length_terminals : (text : List ℕ) (ts : List lexed.Token) → length (with_te
 length_terminals text [] = refl
 length_terminals text (t ∷ ts) = ap suc (length_terminals text ts)
 
-pub skeleton_within : (text : List ℕ) (s : Skeleton) → ((ts : List lexed.Token) → HasTokens text ts → AreSlices text (first_offset (chars text)) ts) → StandsFor text s → skeleton_size s ≤ length text
+pub skeleton_within : (text : List ℕ) (s : Skeleton) → ((ts : List lexed.Token) → HasTokens text ts
+    → AreSlices text (first_offset (chars text)) ts) → StandsFor text s → skeleton_size s ≤ length text
 skeleton_within text s slices (found, tokens, (parts, m, e)) =
     let i = tokens_within text (first_offset (chars text)) found (slices found tokens) in
     let j = parts_bound (with_terminals text found) parts m in
@@ -105,8 +108,10 @@ module _ (text : List ℕ) where
   bounds_names es = pieces_sum (names.in_entity text) entity_size es entity_names
 
   requirement_names : (r : ReqDecl) → length (names.in_requirement text r) ≤ requirement_size r
-  requirement_names (requirements.Bound t bounds) = let i = length-append (names.in_type text t) (names.in_bounds text bounds) in let j = type_names t in let k = bounds_names bounds in omega arith
-  requirement_names (requirements.Same t u) = let i = length-append (names.in_type text t) (names.in_type text u) in let j = type_names t in let k = type_names u in omega arith
+  requirement_names (requirements.Bound t bounds) = let i = length-append (names.in_type text t) (names.in_bounds text bounds) in
+      let j = type_names t in let k = bounds_names bounds in omega arith
+  requirement_names (requirements.Same t u) =
+      let i = length-append (names.in_type text t) (names.in_type text u) in let j = type_names t in let k = type_names u in omega arith
 
   clause_names : (rs : List ReqDecl) → length (names.in_clause text rs) ≤ clause_size rs
   clause_names rs = pieces_sum (names.in_requirement text) requirement_size rs requirement_names
@@ -118,7 +123,8 @@ module _ (text : List ℕ) where
 
   protocol_names : (p : ProtocolDecl) → length (names.in_protocol text p) ≤ protocol_size p
   protocol_names p =
-      let i = length-append (names.in_bounds text p.inherits) (names.in_clause text p.clause ++ flat_map (names.in_member text) p.members) in
+      let i =
+      length-append (names.in_bounds text p.inherits) (names.in_clause text p.clause ++ flat_map (names.in_member text) p.members) in
       let j = length-append (names.in_clause text p.clause) (flat_map (names.in_member text) p.members) in
       let k = bounds_names p.inherits in let l = clause_names p.clause in
       let m = pieces_sum (names.in_member text) member_size p.members member_names in omega arith
@@ -134,7 +140,8 @@ module _ (text : List ℕ) where
 
   struct_names : (s : StructDecl) → length (names.in_struct text s) ≤ struct_size s
   struct_names s =
-      let i = length-append (flat_map (names.in_param text) s.params) (names.in_clause text s.clause ++ flat_map (names.in_function text) s.functions) in
+      let i = length-append (flat_map (names.in_param text) s.params)
+      (names.in_clause text s.clause ++ flat_map (names.in_function text) s.functions) in
       let j = length-append (names.in_clause text s.clause) (flat_map (names.in_function text) s.functions) in
       let k = pieces_sum (names.in_param text) param_size s.params param_names in
       let l = clause_names s.clause in
@@ -143,8 +150,10 @@ module _ (text : List ℕ) where
   ask_names : (a : Ask) → length (names.in_ask text a) ≤ ask_size a
   ask_names asks.Signature = omega arith
   ask_names (asks.Reduced t) = type_names t
-  ask_names (asks.Is t bound) = let i = length-append (names.in_type text t) (names.in_entity text bound) in let j = type_names t in let k = entity_names bound in omega arith
-  ask_names (asks.Same t u) = let i = length-append (names.in_type text t) (names.in_type text u) in let j = type_names t in let k = type_names u in omega arith
+  ask_names (asks.Is t bound) = let i = length-append (names.in_type text t) (names.in_entity text bound) in let j = type_names t in
+      let k = entity_names bound in omega arith
+  ask_names (asks.Same t u) =
+      let i = length-append (names.in_type text t) (names.in_type text u) in let j = type_names t in let k = type_names u in omega arith
 
   query_names : (q : QueryDecl) → length (names.in_query text q) ≤ query_size q
   query_names q = let i = ask_names q.ask in omega arith
@@ -167,12 +176,14 @@ module _ (text : List ℕ) where
 
 module _ {A B : Type 0} (measure : B → ℕ) (size : A → ℕ) where
   -- what stands at a place counts no more than all
-  mapped_sum : (f : A → B) (xs : List A) (i : ℕ) (none : B) → measure none ≡ 0 → ((x : A) → measure (f x) ≤ size x) → measure (get_or (map f xs) i none) ≤ sum_by size xs
+  mapped_sum : (f : A → B) (xs : List A) (i : ℕ) (none : B) → measure none ≡ 0 → ((x : A) → measure (f x) ≤ size x)
+      → measure (get_or (map f xs) i none) ≤ sum_by size xs
   mapped_sum f [] i none z h = omega arith
   mapped_sum f (x ∷ xs) zero none z h = let j = h x in let k = sum_by-cons size x xs in omega arith
   mapped_sum f (x ∷ xs) (suc i) none z h = let j = mapped_sum f xs i none z h in let k = sum_by-cons size x xs in omega arith
 
-  found_sum : (f : Option A → B) (xs : List A) (i : ℕ) → measure (f None) ≡ 0 → ((x : A) → measure (f (Some x)) ≤ size x) → measure (f (slice_get xs i)) ≤ sum_by size xs
+  found_sum : (f : Option A → B) (xs : List A) (i : ℕ) → measure (f None) ≡ 0 → ((x : A) → measure (f (Some x)) ≤ size x)
+      → measure (f (slice_get xs i)) ≤ sum_by size xs
   found_sum f [] i z h = omega arith
   found_sum f (x ∷ xs) zero z h = let j = h x in let k = sum_by-cons size x xs in omega arith
   found_sum f (x ∷ xs) (suc i) z h = let j = found_sum f xs i z h in let k = sum_by-cons size x xs in omega arith
@@ -195,18 +206,22 @@ declared_count text ps = length-map (map (λ g. g.name) ps) (declaration text) �
 
 module _ (text : List ℕ) (s : Skeleton) where
   struct_declared : (i : ℕ) → length (get_or (spaces text s).struct_params i []) ≤ sum_by struct_size s.structs
-  struct_declared i = mapped_sum length struct_size (λ t. of_params text t.params) s.structs i [] refl (λ t. let j = declared_count text t.params in let k = struct_count t in omega arith)
+  struct_declared i = mapped_sum length struct_size (λ t. of_params text t.params) s.structs i [] refl
+      (λ t. let j = declared_count text t.params in let k = struct_count t in omega arith)
 
   function_declared : (i : ℕ) → length (get_or (spaces text s).params i []) ≤ sum_by function_size s.functions
-  function_declared i = mapped_sum length function_size (λ f. of_params text f.params) s.functions i [] refl (λ f. let j = declared_count text f.params in let k = function_count f in omega arith)
+  function_declared i = mapped_sum length function_size (λ f. of_params text f.params) s.functions i [] refl
+      (λ f. let j = declared_count text f.params in let k = function_count f in omega arith)
 
   within_struct : (j : ℕ) (t : StructDecl) → length (get_or (map (λ f. of_params text f.params) t.functions) j []) ≤ struct_size t
   within_struct j t =
-      let i = mapped_sum length function_size (λ f. of_params text f.params) t.functions j [] refl (λ f. let k = declared_count text f.params in let l = function_count f in omega arith) in
+      let i = mapped_sum length function_size (λ f. of_params text f.params) t.functions j [] refl
+      (λ f. let k = declared_count text f.params in let l = function_count f in omega arith) in
       omega arith
 
   nested_declared : (i j : ℕ) → length (get_or (get_or (spaces text s).nested_params i []) j []) ≤ sum_by struct_size s.structs
-  nested_declared i j = mapped_sum (λ (l : List (List Declaration)). length (get_or l j [])) struct_size (λ t. map (λ f. of_params text f.params) t.functions) s.structs i [] refl (within_struct j)
+  nested_declared i j = mapped_sum (λ (l : List (List Declaration)). length (get_or l j [])) struct_size
+      (λ t. map (λ f. of_params text f.params) t.functions) s.structs i [] refl (within_struct j)
 
   few_outer : skeleton_size s ≤ 1048576 → (g : Signature) → length (declared_outer (spaces text s) g) < 2 ^ 32
   unfolding skeleton_size
@@ -223,7 +238,8 @@ module _ (text : List ℕ) (s : Skeleton) where
   short_nested_names : skeleton_size s ≤ 1048576 → (i : ℕ) → length (get_or (spaces text s).nested i []) ≤ 1048576
   unfolding skeleton_size
   short_nested_names h i =
-      let j = mapped_sum length struct_size (λ t. declarations text (map (λ f. f.name) t.functions)) s.structs i [] refl nested_names in omega arith
+      let j = mapped_sum length struct_size (λ t. declarations text (map (λ f. f.name) t.functions)) s.structs i [] refl nested_names in
+      omega arith
     where
       nested_names : (t : StructDecl) → length (declarations text (map (λ f. f.name) t.functions)) ≤ struct_size t
       nested_names t =
@@ -250,7 +266,8 @@ module _ (text : List ℕ) (s : Skeleton) where
   short_own h (Struct i) = let k = struct_at i in omega arith
   short_own h (Function i) = let k = found_sum length function_size params_of_function s.functions i refl function_count in omega arith
   short_own h (Nested i j) =
-      let k = found_sum (λ (fs : List FunctionDecl). length (params_of_function (slice_get fs j))) struct_size functions_of s.structs i refl (nested_within j) in omega arith
+      let k = found_sum (λ (fs : List FunctionDecl). length (params_of_function (slice_get fs j))) struct_size functions_of s.structs i refl
+      (nested_within j) in omega arith
 
   -- ---- signatures
 
@@ -269,7 +286,8 @@ module _ (text : List ℕ) (s : Skeleton) where
   functions_count : (t : StructDecl) → 1 + length t.functions ≤ struct_size t
   functions_count t = let i = count_sum function_size t.functions (λ f. omega arith) in omega arith
 
-  merged_count : (i : ℕ) (ts : List StructDecl) (k : ℕ) (fs : List FunctionDecl) → length (merged_from i ts k fs) ≤ sum_by struct_size ts + length fs
+  merged_count : (i : ℕ) (ts : List StructDecl) (k : ℕ) (fs : List FunctionDecl)
+      → length (merged_from i ts k fs) ≤ sum_by struct_size ts + length fs
   merged_count i [] k fs = let j = from_count k (length fs) in omega arith
   merged_count i (t ∷ ts) k fs =
       let n = prefix_len (stands_before t) fs in
@@ -287,7 +305,8 @@ module _ (text : List ℕ) (s : Skeleton) where
 
   short_order : skeleton_size s ≤ 1048576 → length (in_order s) ≤ 1048576
   unfolding skeleton_size
-  short_order h = let i = merged_count 0 s.structs 0 s.functions in let j = count_sum function_size s.functions (λ f. omega arith) in omega arith
+  short_order h =
+      let i = merged_count 0 s.structs 0 s.functions in let j = count_sum function_size s.functions (λ f. omega arith) in omega arith
 
   short_structs : skeleton_size s ≤ 1048576 → All (λ t. length t.params ≤ 1048576) s.structs
   unfolding skeleton_size
@@ -295,7 +314,8 @@ module _ (text : List ℕ) (s : Skeleton) where
 
   short_functions : skeleton_size s ≤ 1048576 → All (λ f. length f.params ≤ 1048576) s.functions
   unfolding skeleton_size
-  short_functions h k d l = let i = one_sum function_size s.functions k d l in let j = function_count (get_or s.functions k d) in omega arith
+  short_functions h k d l =
+      let i = one_sum function_size s.functions k d l in let j = function_count (get_or s.functions k d) in omega arith
 
   short_nested : skeleton_size s ≤ 1048576 → All (λ t. All (λ f. length f.params ≤ 1048576) t.functions) s.structs
   unfolding skeleton_size
@@ -309,14 +329,17 @@ module _ (text : List ℕ) (s : Skeleton) where
   unfolding skeleton_size
   small h = record {
     protocols = let i = count_sum protocol_size s.protocols (λ p. omega arith) in omega arith;
-    associated = let i = pieces_sum (λ (p : ProtocolDecl). p.members) protocol_size s.protocols (λ p. let j = count_sum member_size p.members (λ m. omega arith) in omega arith) in omega arith;
+    associated = let i = pieces_sum (λ (p : ProtocolDecl). p.members) protocol_size s.protocols
+        (λ p. let j = count_sum member_size p.members (λ m. omega arith) in omega arith) in omega arith;
     names = λ ranking are.
         let i = all_names text s in
-        let j = few_names ranking (names.walked text s) (rising_from_sorted bytes_cmp ranking are.sorted) (λ q h. (same_names text s q).1 ((are.same q).0 h)) in
+        let j = few_names ranking (names.walked text s) (rising_from_sorted bytes_cmp ranking are.sorted)
+        (λ q h. (same_names text s q).1 ((are.same q).0 h)) in
         omega arith;
   }
 
-  pub short_lists : ((ts : List lexed.Token) → HasTokens text ts → AreSlices text (first_offset (chars text)) ts) → length text ≤ 1048576 → StandsFor text s → HasShortLists text s
+  pub short_lists : ((ts : List lexed.Token) → HasTokens text ts → AreSlices text (first_offset (chars text)) ts) → length text ≤ 1048576
+      → StandsFor text s → HasShortLists text s
   short_lists slices limit stands =
       let h : skeleton_size s ≤ 1048576 = let i = skeleton_within text s slices stands in omega arith in
       record {

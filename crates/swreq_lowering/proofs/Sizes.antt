@@ -91,10 +91,15 @@ split ts a b e = ap length e ∙ length-append a b
 none : {A : Type 0} {g : Line A} → Bounds g (λ v. 0)
 none = record { bound = λ ts v m. omega arith }
 
-at_sequence : {A B : Type 0} {g : Line A} {h : Line B} {m : A → ℕ} {n : B → ℕ} {size : A × B → ℕ} → Bounds g m → Bounds h n → ((p : A × B) → size p ≤ m p.0 + n p.1) → Bounds (sequence g h) size
-at_sequence p q l = record { bound = λ ts v x. let i = p.bound x.0 v.0 x.3 in let j = q.bound x.1 v.1 x.4 in let k = split ts x.0 x.1 x.2 in let o = l v in omega arith }
+at_sequence : {A B : Type 0} {g : Line A} {h : Line B} {m : A → ℕ} {n : B → ℕ} {size : A × B → ℕ} → Bounds g m → Bounds h n
+    → ((p : A × B) → size p ≤ m p.0 + n p.1) → Bounds (sequence g h) size
+at_sequence p q l = record {
+  bound =
+      λ ts v x. let i = p.bound x.0 v.0 x.3 in let j = q.bound x.1 v.1 x.4 in let k = split ts x.0 x.1 x.2 in let o = l v in omega arith;
+}
 
-at_both : {A B : Type 0} {g : Line A} {h : Line B} {m : A → ℕ} {n : B → ℕ} → Bounds g m → Bounds h n → Bounds (sequence g h) (λ p. m p.0 + n p.1)
+at_both : {A B : Type 0} {g : Line A} {h : Line B} {m : A → ℕ} {n : B → ℕ} → Bounds g m → Bounds h n
+    → Bounds (sequence g h) (λ p. m p.0 + n p.1)
 at_both p q = at_sequence p q (λ x. omega arith)
 
 at_mapped : {A B : Type 0} {f : A → B} {g : Line A} {size : B → ℕ} → Bounds g (λ v. size (f v)) → Bounds (mapped f g) size
@@ -103,9 +108,11 @@ at_mapped {size} p = record { bound = λ ts w m. subst (λ x. size x ≤ length 
 at_alternative : {A : Type 0} {g h : Line A} {size : A → ℕ} → Bounds g size → Bounds h size → Bounds (alternative g h) size
 at_alternative p q = record { bound = λ ts v m. ⊎_elim (p.bound ts v) (q.bound ts v) m }
 
-at_parts : {A : Type 0} (g : Line A) (size : A → ℕ) → Bounds g size → (ts : Tokens) (vs : List A) → Parts (Matches number g) ts vs → sum_by size vs ≤ length ts
+at_parts : {A : Type 0} (g : Line A) (size : A → ℕ) → Bounds g size → (ts : Tokens) (vs : List A) → Parts (Matches number g) ts vs
+    → sum_by size vs ≤ length ts
 at_parts g size p ts [] e = omega arith
-at_parts g size p ts (v ∷ vs) (a, b, s, m, ms) = let i = p.bound a v m in let j = at_parts g size p b vs ms in let k = split ts a b s in let c = sum_by-cons size v vs in omega arith
+at_parts g size p ts (v ∷ vs) (a, b, s, m, ms) =
+    let i = p.bound a v m in let j = at_parts g size p b vs ms in let k = split ts a b s in let c = sum_by-cons size v vs in omega arith
 
 at_repetition : {A : Type 0} {limit : Limit Kind} {g : Line A} {size : A → ℕ} → Bounds g size → Bounds (repetition limit g) (sum_by size)
 at_repetition {A} {limit} {g} {size} p = record { bound = λ ts vs m. at_parts g size p ts vs m.0 }
@@ -120,18 +127,26 @@ at_or_else : {A : Type 0} {default : A} {g : Line A} {size : A → ℕ} → size
 at_or_else {size} z p = at_alternative p (record { bound = λ ts v m. let e = ap size m.1 in omega arith })
 
 at_separated : {A : Type 0} {ss : List Terminal} {g : Line A} {size : A → ℕ} → Bounds g size → Bounds (separated ss g) (sum_by size)
-at_separated {A} {ss} {g} {size} p = at_mapped (at_sequence p (at_repetition {size = size} (at_after p)) (λ x. let c = sum_by-cons size x.0 x.1 in omega arith))
+at_separated {A} {ss} {g} {size} p =
+    at_mapped (at_sequence p (at_repetition {size = size} (at_after p)) (λ x. let c = sum_by-cons size x.0 x.1 in omega arith))
 
 at_in_angles : {A : Type 0} {g : Line A} {size : A → ℕ} → Bounds g size → Bounds (in_angles g) (sum_by size)
 at_in_angles p = at_after (at_before (at_separated p))
 
-at_continued : {A B : Type 0} {g : Line A} {h : Line (A → B)} {m : A → ℕ} {size : B → ℕ} → Bounds g m → BoundsOf h m size → Bounds (continued g h) size
-at_continued p q = at_mapped (record { bound = λ ts v x. let i = p.bound x.0 v.0 x.3 in let j = q.bound x.1 v.1 x.4 v.0 in let k = split ts x.0 x.1 x.2 in omega arith })
+at_continued : {A B : Type 0} {g : Line A} {h : Line (A → B)} {m : A → ℕ} {size : B → ℕ} → Bounds g m → BoundsOf h m size
+    → Bounds (continued g h) size
+at_continued p q = at_mapped (record {
+  bound = λ ts v x. let i = p.bound x.0 v.0 x.3 in let j = q.bound x.1 v.1 x.4 v.0 in let k = split ts x.0 x.1 x.2 in omega arith;
+})
 
-of_mapped : {A B C : Type 0} {f : C → A → B} {g : Line C} {m : A → ℕ} {n : C → ℕ} {size : B → ℕ} → Bounds g n → ((c : C) (v : A) → size (f c v) ≤ m v + n c) → BoundsOf (mapped f g) m size
-of_mapped {f} {m} {n} {size} p l = record { bound = λ ts h x v. subst (λ k. size (k v) ≤ m v + length ts) x.2 (let i = p.bound ts x.0 x.1 in let j = l x.0 v in omega arith) }
+of_mapped : {A B C : Type 0} {f : C → A → B} {g : Line C} {m : A → ℕ} {n : C → ℕ} {size : B → ℕ} → Bounds g n
+    → ((c : C) (v : A) → size (f c v) ≤ m v + n c) → BoundsOf (mapped f g) m size
+of_mapped {f} {m} {n} {size} p l = record {
+  bound = λ ts h x v. subst (λ k. size (k v) ≤ m v + length ts) x.2 (let i = p.bound ts x.0 x.1 in let j = l x.0 v in omega arith);
+}
 
-of_alternative : {A B : Type 0} {g h : Line (A → B)} {m : A → ℕ} {size : B → ℕ} → BoundsOf g m size → BoundsOf h m size → BoundsOf (alternative g h) m size
+of_alternative : {A B : Type 0} {g h : Line (A → B)} {m : A → ℕ} {size : B → ℕ} → BoundsOf g m size → BoundsOf h m size
+    → BoundsOf (alternative g h) m size
 of_alternative p q = record { bound = λ ts f x. ⊎_elim (p.bound ts f) (q.bound ts f) x }
 
 of_empty : {A B : Type 0} {f : A → B} {m : A → ℕ} {size : B → ℕ} → ((v : A) → size (f v) ≤ m v) → BoundsOf (empty f) m size
@@ -142,7 +157,8 @@ of_empty {m} {size} l = record { bound = λ ts f x v. subst (λ k. size (k v) �
 token_bound : {ts : List Terminal} → Bounds (terminal ts) (λ t. 1)
 token_bound = record { bound = λ ts t m. let k = ap length m.0 in omega arith }
 
-at_after_token : {B : Type 0} {ts : List Terminal} {h : Line B} {size : B → ℕ} → Bounds h size → Bounds (after (terminal ts) h) (λ v. 1 + size v)
+at_after_token : {B : Type 0} {ts : List Terminal} {h : Line B} {size : B → ℕ} → Bounds h size
+    → Bounds (after (terminal ts) h) (λ v. 1 + size v)
 at_after_token p = at_mapped (at_sequence token_bound p (λ x. omega arith))
 
 name_bound : Bounds lines.name (λ s. 1)
@@ -186,7 +202,8 @@ inherit_bound = at_after (at_separated entity_bound)
 
 requirement_bound : Bounds lines.requirement requirement_size
 unfolding lines.requirement
-requirement_bound = at_continued type_bound (of_alternative (of_mapped (at_after bounds_bound) (λ c v. omega arith)) (of_mapped (at_after type_bound) (λ c v. omega arith)))
+requirement_bound = at_continued type_bound
+    (of_alternative (of_mapped (at_after bounds_bound) (λ c v. omega arith)) (of_mapped (at_after type_bound) (λ c v. omega arith)))
 
 where_bound : Bounds lines.where_clause clause_size
 unfolding lines.where_clause
@@ -210,7 +227,8 @@ primaries_bound = none
 protocol_bound : Bounds lines.protocol protocol_size
 unfolding lines.protocol
 protocol_bound =
-    at_mapped (at_after (at_sequence name_bound (at_both primaries_bound (at_both inherits_bound (at_both conditions_bound (at_after (at_before (at_repetition {size = member_size} member_bound))))))
+    at_mapped (at_after (at_sequence name_bound (at_both primaries_bound
+    (at_both inherits_bound (at_both conditions_bound (at_after (at_before (at_repetition {size = member_size} member_bound))))))
     (λ p. omega arith)))
 
 param_bound : Bounds lines.param param_size
@@ -227,7 +245,8 @@ params_bound = at_or_else refl generics_bound
 
 function_bound : Bounds lines.function function_size
 unfolding lines.function
-function_bound = at_mapped (at_after (at_sequence name_bound (at_both params_bound (at_after (at_after (at_before conditions_bound)))) (λ p. omega arith)))
+function_bound = at_mapped
+    (at_after (at_sequence name_bound (at_both params_bound (at_after (at_after (at_before conditions_bound)))) (λ p. omega arith)))
 
 inner_bound : Bounds lines.inner_function function_size
 unfolding lines.inner_function
@@ -236,7 +255,8 @@ inner_bound = at_before (at_after function_bound)
 structure_bound : Bounds lines.structure struct_size
 unfolding lines.structure
 structure_bound =
-    at_mapped (at_after (at_sequence name_bound (at_both params_bound (at_both conditions_bound (at_after (at_before (at_repetition {size = function_size} inner_bound))))) (λ p. omega arith)))
+    at_mapped (at_after (at_sequence name_bound (at_both params_bound
+    (at_both conditions_bound (at_after (at_before (at_repetition {size = function_size} inner_bound))))) (λ p. omega arith)))
 
 bound_step_bound : Bounds lines.bound_step (λ s. 1)
 unfolding lines.bound_step

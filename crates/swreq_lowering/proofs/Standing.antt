@@ -85,7 +85,8 @@ ascend_apart (i ∷ ns) ms a n m (inr h) k = ascend_apart ns ms a.1 n m h k
 pairs_none : {A : Type 0} (R : A → A → Type 0) → AllPairs R []
 pairs_none R i j d l m = absurd (omega arith)
 
-pairs_append : {A : Type 0} (R : A → A → Type 0) (xs ys : List A) → AllPairs R xs → AllPairs R ys → All (λ x. All (R x) ys) xs → AllPairs R (xs ++ ys)
+pairs_append : {A : Type 0} (R : A → A → Type 0) (xs ys : List A) → AllPairs R xs → AllPairs R ys
+    → All (λ x. All (R x) ys) xs → AllPairs R (xs ++ ys)
 pairs_append R [] ys h k a = k
 pairs_append R (x ∷ xs) ys h k a =
     AllPairs-cons R x (xs ++ ys) (all_append (R x) xs ys (λ j d m. h zero (suc j) d (omega arith) (omega arith)) (a zero x (omega arith)))
@@ -117,18 +118,21 @@ module _ (w : WordsView) (whole : List (Context × Constraint)) where
   goes_append : (ns ms : List ℕ) (rs qs : List PlacedRequirement) → Goes ns rs → Goes ms qs → Goes (ns ++ ms) (rs ++ qs)
   goes_append ns ms rs qs g h = record {
     stand = all_append (λ r. (n : ℕ) × Has n (ns ++ ms) × EndsAt w whole r n) rs qs
-        (λ k d l. let r = g.stand k d l in (r.0, has_left r.0 ns ms r.1, r.2)) (λ k d l. let r = h.stand k d l in (r.0, has_right r.0 ns ms r.1, r.2));
+        (λ k d l. let r = g.stand k d l in (r.0, has_left r.0 ns ms r.1, r.2))
+        (λ k d l. let r = h.stand k d l in (r.0, has_right r.0 ns ms r.1, r.2));
     order = λ a. pairs_append (InOrder w whole) rs qs (g.order (ascend_front ns ms a)) (h.order (ascend_back ns ms a))
         (λ k d l j e m. let r = g.stand k d l in let q = h.stand j e m in (r.0, q.0, r.2, q.2, ascend_apart ns ms a r.0 q.0 r.1 q.1));
   }
 
   -- one requirement and more, whose places are after its own
-  goes_cons : (n : ℕ) (ns : List ℕ) (r : PlacedRequirement) (rs : List PlacedRequirement) → EndsAt w whole r n → Goes ns rs → Goes (n ∷ ns) (r ∷ rs)
+  goes_cons : (n : ℕ) (ns : List ℕ) (r : PlacedRequirement) (rs : List PlacedRequirement) → EndsAt w whole r n → Goes ns rs
+      → Goes (n ∷ ns) (r ∷ rs)
   goes_cons n ns r rs h g = goes_append (n ∷ []) ns (r ∷ []) rs one g
     where
       one : Goes (n ∷ []) (r ∷ [])
       one = record {
-        stand = all_cons (λ q. (m : ℕ) × Has m (n ∷ []) × EndsAt w whole q m) r [] (n, inl refl, h) (all_none (λ q. (m : ℕ) × Has m (n ∷ []) × EndsAt w whole q m));
+        stand = all_cons (λ q. (m : ℕ) × Has m (n ∷ []) × EndsAt w whole q m) r [] (n, inl refl, h)
+            (all_none (λ q. (m : ℕ) × Has m (n ∷ []) × EndsAt w whole q m));
         order = λ a. AllPairs-cons (InOrder w whole) r [] (all_none (InOrder w whole r)) (pairs_none (InOrder w whole));
       }
 
@@ -139,50 +143,74 @@ module _ (w : WordsView) (whole : List (Context × Constraint)) where
   -- ---- what one constraint requires
 
   module _ (context : Context) (subject : Subject) (bounds : List Entity) (there : Contains whole (context, bound subject bounds)) where
-    bound_ends : (e : Entity) → Contains bounds e → EndsAt w whole (of_one_side (bound_of w (subject_of w context subject) e) (subject_at subject)) e.span.start
+    bound_ends : (e : Entity) → Contains bounds e
+        → EndsAt w whole (of_one_side (bound_of w (subject_of w context subject) e) (subject_at subject)) e.span.start
     bound_ends e h = (
       (context, bound subject bounds),
       there,
-      record { left = first_word subject; right = first_word subject; last = e.span; written = of_bound h; left_at = at_first_word subject; right_at = at_first_word subject; last_at = refl },
+      record {
+        left = first_word subject;
+        right = first_word subject;
+        last = e.span;
+        written = of_bound h;
+        left_at = at_first_word subject;
+        right_at = at_first_word subject;
+        last_at = refl;
+      },
     )
 
-    argument_ends : (e : Entity) (a : Span) (u : TypeDecl) → Contains bounds e → IsArgumentOf w e a u → EndsAt w whole (argument w context (subject_of w context subject) e.span.start a u) u.head.start
-    argument_ends e a u h n =
-        ((context, bound subject bounds), there, record { left = e.span; right = u.head; last = u.head; written = of_argument h n; left_at = refl; right_at = refl; last_at = refl })
+    argument_ends : (e : Entity) (a : Span) (u : TypeDecl) → Contains bounds e → IsArgumentOf w e a u
+        → EndsAt w whole (argument w context (subject_of w context subject) e.span.start a u) u.head.start
+    argument_ends e a u h n = (
+      (context, bound subject bounds),
+      there,
+      record { left = e.span; right = u.head; last = u.head; written = of_argument h n; left_at = refl; right_at = refl; last_at = refl },
+    )
 
-    arguments_go : (e : Entity) → Contains bounds e → (ns : List Span) (us : List TypeDecl) → ((k : ℕ) (a : Span) (u : TypeDecl) → slice_get ns k ≡ Some a → slice_get us k ≡ Some u → IsArgumentOf w e a u)
+    arguments_go : (e : Entity) → Contains bounds e → (ns : List Span) (us : List TypeDecl)
+        → ((k : ℕ) (a : Span) (u : TypeDecl) → slice_get ns k ≡ Some a → slice_get us k ≡ Some u → IsArgumentOf w e a u)
         → Goes (flat_map type_places us) (arguments w context (subject_of w context subject) e.span.start ns us)
     arguments_go e h [] us n = goes_none (flat_map type_places us)
     arguments_go e h (a ∷ ns) [] n = goes_none []
     arguments_go e h (a ∷ ns) (u ∷ us) n =
-        goes_cons u.head.start (flat_map type_places us) (argument w context (subject_of w context subject) e.span.start a u) (arguments w context (subject_of w context subject) e.span.start ns us)
+        goes_cons u.head.start (flat_map type_places us) (argument w context (subject_of w context subject) e.span.start a u)
+        (arguments w context (subject_of w context subject) e.span.start ns us)
         (argument_ends e a u h (n zero a u refl refl)) (arguments_go e h ns us (λ k. n (suc k)))
 
-    entity_goes : (e : Entity) → Contains bounds e → Goes (entity_places e) (in_bound w context (subject_of w context subject) (subject_at subject) e)
+    entity_goes : (e : Entity) → Contains bounds e
+        → Goes (entity_places e) (in_bound w context (subject_of w context subject) (subject_at subject) e)
     entity_goes e h =
-        goes_cons e.span.start (flat_map type_places e.args) (of_one_side (bound_of w (subject_of w context subject) e) (subject_at subject))
+        goes_cons e.span.start (flat_map type_places e.args)
+        (of_one_side (bound_of w (subject_of w context subject) e) (subject_at subject))
         (arguments w context (subject_of w context subject) e.span.start (primaries_named w e.span) e.args) (bound_ends e h)
         (arguments_go e h (primaries_named w e.span) e.args (λ k a u n m. (k, n, m)))
 
-    bounds_go : (es : List Entity) → All (Contains bounds) es → Goes (bounds_places es) (in_bounds w context (subject_of w context subject) (subject_at subject) es)
+    bounds_go : (es : List Entity) → All (Contains bounds) es
+        → Goes (bounds_places es) (in_bounds w context (subject_of w context subject) (subject_at subject) es)
     bounds_go [] h = goes_none []
     bounds_go (e ∷ es) h =
         goes_append (entity_places e) (bounds_places es) (in_bound w context (subject_of w context subject) (subject_at subject) e)
-        (in_bounds w context (subject_of w context subject) (subject_at subject) es) (entity_goes e (All-head (Contains bounds) e es h)) (bounds_go es (All-tail (Contains bounds) e es h))
+        (in_bounds w context (subject_of w context subject) (subject_at subject) es) (entity_goes e (All-head (Contains bounds) e es h))
+        (bounds_go es (All-tail (Contains bounds) e es h))
 
   constraint_goes : (context : Context) (c : Constraint) → Contains whole (context, c) → Goes (places c) (of_constraint w context c)
   constraint_goes context (bound subject bounds) h =
-      goes_behind (first_word subject).start (bounds_places bounds) (in_bounds w context (subject_of w context subject) (subject_at subject) bounds)
+      goes_behind (first_word subject).start (bounds_places bounds)
+      (in_bounds w context (subject_of w context subject) (subject_at subject) bounds)
       (bounds_go context subject bounds h bounds (All-contains_itself bounds))
   constraint_goes context (same t u) h =
       goes_behind t.head.start (u.head.start ∷ []) (equality (type_in w context t) t.head.start (type_in w context u) u.head.start ∷ [])
-      (goes_cons u.head.start [] (equality (type_in w context t) t.head.start (type_in w context u) u.head.start) []
-      ((context, same t u), h, record { left = t.head; right = u.head; last = u.head; written = of_equality; left_at = refl; right_at = refl; last_at = refl }) (goes_none []))
+      (goes_cons u.head.start [] (equality (type_in w context t) t.head.start (type_in w context u) u.head.start) [] (
+        (context, same t u),
+        h,
+        record { left = t.head; right = u.head; last = u.head; written = of_equality; left_at = refl; right_at = refl; last_at = refl },
+      ) (goes_none []))
 
   some_go : (cs : List (Context × Constraint)) → All (Contains whole) cs → Goes (scoped_places cs) (required w cs)
   some_go [] h = goes_none []
   some_go (c ∷ cs) h =
-      goes_append (places c.1) (scoped_places cs) (of_constraint w c.0 c.1) (required w cs) (constraint_goes c.0 c.1 (All-head (Contains whole) c cs h)) (some_go cs (All-tail (Contains whole) c cs h))
+      goes_append (places c.1) (scoped_places cs) (of_constraint w c.0 c.1) (required w cs)
+      (constraint_goes c.0 c.1 (All-head (Contains whole) c cs h)) (some_go cs (All-tail (Contains whole) c cs h))
 
 -- ---- what the constraints of a protocol or a signature require
 
@@ -196,17 +224,22 @@ module _ (w : WordsView) where
   protocol_goes : (p : ProtocolDecl) → Goes w (of_protocol p) (scoped_places (of_protocol p)) (in_protocol w p)
   protocol_goes p = all_go (of_protocol p) (in_protocol w p) (read_required contexts.Protocol (parts.of_protocol p))
 
-  signature_required : (g : Signature) (params : List ParamDecl) (clause : List ReqDecl) → in_signature w g params clause ≡ required w (of_signature g params clause)
+  signature_required : (g : Signature) (params : List ParamDecl) (clause : List ReqDecl)
+      → in_signature w g params clause ≡ required w (of_signature g params clause)
   signature_required g params clause = read_required (contexts.Signature g) (parts.of_signature params clause)
 
-  signature_goes : (g : Signature) (params : List ParamDecl) (clause : List ReqDecl) → Goes w (of_signature g params clause) (scoped_places (of_signature g params clause)) (in_signature w g params clause)
-  signature_goes g params clause = all_go (of_signature g params clause) (in_signature w g params clause) (signature_required g params clause)
+  signature_goes : (g : Signature) (params : List ParamDecl) (clause : List ReqDecl)
+      → Goes w (of_signature g params clause) (scoped_places (of_signature g params clause)) (in_signature w g params clause)
+  signature_goes g params clause =
+      all_go (of_signature g params clause) (in_signature w g params clause) (signature_required g params clause)
 
-  nested_goes : (i : ℕ) (s : StructDecl) (j : ℕ) (f : FunctionDecl) → Goes w (of_nested i s j f) (scoped_places (of_nested i s j f)) (in_nested w i s j f)
+  nested_goes : (i : ℕ) (s : StructDecl) (j : ℕ) (f : FunctionDecl)
+      → Goes w (of_nested i s j f) (scoped_places (of_nested i s j f)) (in_nested w i s j f)
   nested_goes i s j f =
       all_go (of_nested i s j f) (in_nested w i s j f)
       ((λ n. signature_required (Struct i) s.params s.clause n ++ signature_required (Nested i j) f.params f.clause n)
-      ∙ sym (flat_map-append (λ (c : Context × Constraint). of_constraint w c.0 c.1) (of_struct i s) (of_signature (Nested i j) f.params f.clause)))
+      ∙ sym (flat_map-append (λ (c : Context × Constraint). of_constraint w c.0 c.1) (of_struct i s)
+      (of_signature (Nested i j) f.params f.clause)))
 
   stand : (cs : List (Context × Constraint)) (ns : List ℕ) (rs : List PlacedRequirement) → Goes w cs ns rs → All (StandsInOne w cs) rs
   stand cs ns rs g k d l = let r = g.stand k d l in (r.0, r.2)
@@ -214,8 +247,10 @@ module _ (w : WordsView) where
   pub protocol_stands : (p : ProtocolDecl) → All (StandsInOne w (of_protocol p)) (in_protocol w p)
   protocol_stands p = stand (of_protocol p) (scoped_places (of_protocol p)) (in_protocol w p) (protocol_goes p)
 
-  pub signature_stands : (g : Signature) (params : List ParamDecl) (clause : List ReqDecl) → All (StandsInOne w (of_signature g params clause)) (in_signature w g params clause)
-  signature_stands g params clause = stand (of_signature g params clause) (scoped_places (of_signature g params clause)) (in_signature w g params clause) (signature_goes g params clause)
+  pub signature_stands : (g : Signature) (params : List ParamDecl) (clause : List ReqDecl)
+      → All (StandsInOne w (of_signature g params clause)) (in_signature w g params clause)
+  signature_stands g params clause = stand (of_signature g params clause) (scoped_places (of_signature g params clause))
+      (in_signature w g params clause) (signature_goes g params clause)
 
   pub nested_stands : (i : ℕ) (s : StructDecl) (j : ℕ) (f : FunctionDecl) → All (StandsInOne w (of_nested i s j f)) (in_nested w i s j f)
   nested_stands i s j f = stand (of_nested i s j f) (scoped_places (of_nested i s j f)) (in_nested w i s j f) (nested_goes i s j f)
@@ -228,13 +263,16 @@ module _ (w : WordsView) where
 
   signature_in_order : (g : Signature) (params : List ParamDecl) (clause : List ReqDecl) → Ascend (signature_places params clause)
       → AllPairs (InOrder w (of_signature g params clause)) (in_signature w g params clause)
-  signature_in_order g params clause a = (signature_goes g params clause).order (subst Ascend (read_places (contexts.Signature g) (parts.of_signature params clause)) a)
+  signature_in_order g params clause a =
+      (signature_goes g params clause).order (subst Ascend (read_places (contexts.Signature g) (parts.of_signature params clause)) a)
 
-  nested_in_order : (i : ℕ) (s : StructDecl) (j : ℕ) (f : FunctionDecl) → Ascend (signature_places s.params s.clause ++ function_places f) → AllPairs (InOrder w (of_nested i s j f)) (in_nested w i s j f)
+  nested_in_order : (i : ℕ) (s : StructDecl) (j : ℕ) (f : FunctionDecl) → Ascend (signature_places s.params s.clause ++ function_places f)
+      → AllPairs (InOrder w (of_nested i s j f)) (in_nested w i s j f)
   nested_in_order i s j f a =
       (nested_goes i s j f).order
       (subst Ascend
-      ((λ n. read_places (contexts.Signature (Struct i)) (parts.of_signature s.params s.clause) n ++ read_places (contexts.Signature (Nested i j)) (parts.of_signature f.params f.clause) n)
+      ((λ n. read_places (contexts.Signature (Struct i)) (parts.of_signature s.params s.clause) n
+      ++ read_places (contexts.Signature (Nested i j)) (parts.of_signature f.params f.clause) n)
       ∙ sym (flat_map-append (λ (c : Context × Constraint). places c.1) (of_struct i s) (of_signature (Nested i j) f.params f.clause))) a)
 
 -- ---- the parts of a text
@@ -266,14 +304,17 @@ functions_ascend (items.Function f ∷ vs) a =
     (functions_ascend vs (ascend_back (function_places f) (flat_map item_places vs) a))
 functions_ascend (items.Query q ∷ vs) a = functions_ascend vs a
 
-nested_ascend : (ns : List ℕ) (fs : List FunctionDecl) → Ascend (ns ++ flat_map function_places fs) → All (λ f. Ascend (ns ++ function_places f)) fs
+nested_ascend : (ns : List ℕ) (fs : List FunctionDecl) → Ascend (ns ++ flat_map function_places fs)
+    → All (λ f. Ascend (ns ++ function_places f)) fs
 nested_ascend ns [] a = all_none (λ f. Ascend (ns ++ function_places f))
 nested_ascend ns (f ∷ fs) a =
     all_cons (λ g. Ascend (ns ++ function_places g)) f fs
-    (ascend_front (ns ++ function_places f) (flat_map function_places fs) (subst Ascend (sym (append_assoc ns (function_places f) (flat_map function_places fs))) a))
+    (ascend_front (ns ++ function_places f) (flat_map function_places fs)
+    (subst Ascend (sym (append_assoc ns (function_places f) (flat_map function_places fs))) a))
     (nested_ascend ns fs (ascend_skip ns (function_places f) (flat_map function_places fs) a))
 
-module _ (text : List ℕ) (slices : (ts : List lexed.Token) → HasTokens text ts → AreSlices text (first_offset (chars text)) ts) (w : WordsView) (stands : StandsFor text w.skeleton) where
+module _ (text : List ℕ) (slices : (ts : List lexed.Token) → HasTokens text ts → AreSlices text (first_offset (chars text)) ts)
+    (w : WordsView) (stands : StandsFor text w.skeleton) where
   abbrev found : List Item
   found = stands.2.0
 
@@ -282,22 +323,29 @@ module _ (text : List ℕ) (slices : (ts : List lexed.Token) → HasTokens text 
 
   struct_ascends : (s : StructDecl) → Contains w.skeleton.structs s → Ascend (struct_places s)
   struct_ascends s h =
-      All-contains (λ r. Ascend (struct_places r)) (filter_map struct_of found) s (structs_ascend found ascend) (subst (λ ss. Contains ss s) (ap (λ (k : Skeleton). k.structs) stands.2.2) h)
+      All-contains (λ r. Ascend (struct_places r)) (filter_map struct_of found) s (structs_ascend found ascend)
+      (subst (λ ss. Contains ss s) (ap (λ (k : Skeleton). k.structs) stands.2.2) h)
 
   pub protocols_in_order : (p : ProtocolDecl) → Contains w.skeleton.protocols p → AllPairs (InOrder w (of_protocol p)) (in_protocol w p)
   protocols_in_order p h =
       protocol_in_order w p
-      (All-contains (λ q. Ascend (protocol_places q)) (filter_map protocol_of found) p (protocols_ascend found ascend) (subst (λ ps. Contains ps p) (ap (λ (k : Skeleton). k.protocols) stands.2.2) h))
+      (All-contains (λ q. Ascend (protocol_places q)) (filter_map protocol_of found) p (protocols_ascend found ascend)
+      (subst (λ ps. Contains ps p) (ap (λ (k : Skeleton). k.protocols) stands.2.2) h))
 
   pub structs_in_order : (i : ℕ) (s : StructDecl) → Contains w.skeleton.structs s → AllPairs (InOrder w (of_struct i s)) (in_struct w i s)
-  structs_in_order i s h = signature_in_order w (Struct i) s.params s.clause (ascend_front (signature_places s.params s.clause) (flat_map function_places s.functions) (struct_ascends s h))
+  structs_in_order i s h = signature_in_order w (Struct i) s.params s.clause
+      (ascend_front (signature_places s.params s.clause) (flat_map function_places s.functions) (struct_ascends s h))
 
-  pub functions_in_order : (i : ℕ) (f : FunctionDecl) → Contains w.skeleton.functions f → AllPairs (InOrder w (of_function i f)) (in_function w i f)
+  pub functions_in_order : (i : ℕ) (f : FunctionDecl) → Contains w.skeleton.functions f
+      → AllPairs (InOrder w (of_function i f)) (in_function w i f)
   functions_in_order i f h =
       signature_in_order w (Function i) f.params f.clause
-      (All-contains (λ g. Ascend (function_places g)) (filter_map function_of found) f (functions_ascend found ascend) (subst (λ fs. Contains fs f) (ap (λ (k : Skeleton). k.functions) stands.2.2) h))
+      (All-contains (λ g. Ascend (function_places g)) (filter_map function_of found) f (functions_ascend found ascend)
+      (subst (λ fs. Contains fs f) (ap (λ (k : Skeleton). k.functions) stands.2.2) h))
 
-  pub all_nested_in_order : (i : ℕ) (s : StructDecl) (j : ℕ) (f : FunctionDecl) → Contains w.skeleton.structs s → Contains s.functions f → AllPairs (InOrder w (of_nested i s j f)) (in_nested w i s j f)
+  pub all_nested_in_order : (i : ℕ) (s : StructDecl) (j : ℕ) (f : FunctionDecl) → Contains w.skeleton.structs s → Contains s.functions f
+      → AllPairs (InOrder w (of_nested i s j f)) (in_nested w i s j f)
   all_nested_in_order i s j f h k =
       nested_in_order w i s j f
-      (All-contains (λ g. Ascend (signature_places s.params s.clause ++ function_places g)) s.functions f (nested_ascend (signature_places s.params s.clause) s.functions (struct_ascends s h)) k)
+      (All-contains (λ g. Ascend (signature_places s.params s.clause ++ function_places g)) s.functions f
+      (nested_ascend (signature_places s.params s.clause) s.functions (struct_ascends s h)) k)

@@ -28,19 +28,23 @@ module _ (w : WordsView) where
   members_walked [] = refl
   members_walked (m ∷ ms) =
       flat_map-append (of_constraint w contexts.Protocol) (of_member m) (flat_map of_member ms)
-      ∙ (λ i. (of_constraint w contexts.Protocol (bound (associated m.name) m.inherits) ++ clause_walked contexts.Protocol m.clause i) ++ members_walked ms i)
+      ∙ (λ i. (of_constraint w contexts.Protocol (bound (associated m.name) m.inherits) ++ clause_walked contexts.Protocol m.clause i)
+      ++ members_walked ms i)
 
-  pub protocol_walked : (p : ProtocolDecl) → in_protocol w p ≡ of_constraint w contexts.Protocol (bound (self_of p.name) p.inherits) ++ (in_clause w contexts.Protocol p.clause ++ in_members w p.members)
+  pub protocol_walked : (p : ProtocolDecl) → in_protocol w p ≡ of_constraint w contexts.Protocol (bound (self_of p.name) p.inherits)
+      ++ (in_clause w contexts.Protocol p.clause ++ in_members w p.members)
   protocol_walked p =
       ap (λ rs. of_constraint w contexts.Protocol (bound (self_of p.name) p.inherits) ++ rs)
       (flat_map-append (of_constraint w contexts.Protocol) (of_clause p.clause) (flat_map of_member p.members)
       ∙ (λ i. clause_walked contexts.Protocol p.clause i ++ members_walked p.members i))
 
-  params_walked : (g : Signature) (k : ℕ) (ps : List ParamDecl) → required (contexts.Signature g) (map of_param (numbered k ps)) ≡ in_params w g k ps
+  params_walked : (g : Signature) (k : ℕ) (ps : List ParamDecl)
+      → required (contexts.Signature g) (map of_param (numbered k ps)) ≡ in_params w g k ps
   params_walked g k [] = refl
   params_walked g k (p ∷ ps) = ap (λ rs. of_constraint w (contexts.Signature g) (of_param (k, p)) ++ rs) (params_walked g (k + 1) ps)
 
-  pub signature_walked : (g : Signature) (params : List ParamDecl) (clause : List ReqDecl) → in_signature w g params clause ≡ in_params w g 0 params ++ in_clause w (contexts.Signature g) clause
+  pub signature_walked : (g : Signature) (params : List ParamDecl) (clause : List ReqDecl)
+      → in_signature w g params clause ≡ in_params w g 0 params ++ in_clause w (contexts.Signature g) clause
   signature_walked g params clause =
       flat_map-append (of_constraint w (contexts.Signature g)) (map of_param (numbered 0 params)) (of_clause clause)
       ∙ (λ i. params_walked g 0 params i ++ clause_walked (contexts.Signature g) clause i)

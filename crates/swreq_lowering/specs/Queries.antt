@@ -39,7 +39,8 @@ module _ (w : WordsView) where
   abbrev pub asked_of : Signature → FuncId → Ask → TermQuery
   asked_of g f asks.Signature = AsksSignature f
   asked_of g f (asks.Reduced t) = AsksReduced f (type_in w (contexts.Signature g) t)
-  asked_of g f (asks.Is t e) = cond e.layout (AsksAnyObject f (type_in w (contexts.Signature g) t)) (AsksConforms f (type_in w (contexts.Signature g) t) (proto_of w e.span))
+  asked_of g f (asks.Is t e) = cond e.layout (AsksAnyObject f (type_in w (contexts.Signature g) t))
+      (AsksConforms f (type_in w (contexts.Signature g) t) (proto_of w e.span))
   asked_of g f (asks.Same t u) = AsksEquals f (type_in w (contexts.Signature g) t) (type_in w (contexts.Signature g) u)
 
   -- the signature with these words in a query

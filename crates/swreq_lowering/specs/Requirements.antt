@@ -6,8 +6,8 @@
 --     <T: Q>                    [T : Q], at the name T
 --     T: P & Q                  [T : P], then [T : Q], at the first word of T
 --     T: AnyObject              [T : AnyObject], at the first word of T
---     T: P<U, V>                [T : P], then [T.A == U] and [T.B == V], where A and B are the primary names of P; the place of the left side of an
---                               equality is that of the name P, and the place of its right side is that of the argument
+--     T: P<U, V>                [T : P], then [T.A == U] and [T.B == V], where A and B are the primary names of P; the place of the left
+--                               side of an equality is that of the name P, and the place of its right side is that of the argument
 --     T == U                    [T == U], at the first words of T and of U
 --
 -- What stands in the table on the left of `:` stands also before the arguments of an inheritance entry.

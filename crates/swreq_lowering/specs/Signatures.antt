@@ -91,8 +91,8 @@ is_signature _ _ = false
 abbrev pub place_in : List Signature → Signature → Option ℕ
 place_in order g = position_from (is_signature g) 0 order
 
--- The place of a signature in written order: the functions of a struct follow it. For a struct or a function at the top that has no place it is 0;
--- where the names of a text resolve, each signature that is asked has one.
+-- The place of a signature in written order: the functions of a struct follow it. For a struct or a function at the top that has no place
+-- it is 0; where the names of a text resolve, each signature that is asked has one.
 abbrev pub func_id : List Signature → Signature → FuncId
 func_id order (Struct i) = record { place = unwrap_or (place_in order (Struct i)) 0 }
 func_id order (Function i) = record { place = unwrap_or (place_in order (Function i)) 0 }

@@ -58,19 +58,23 @@ module _ (w : WordsView) where
   abbrev pub IsArgumentOf : Entity → Span → TypeDecl → Type 0
   IsArgumentOf e a u = (k : ℕ) × (slice_get (primaries_named w e.span) k ≡ Some a) × (slice_get e.args k ≡ Some u)
 
-  -- The requirement is one of this constraint. Its sides stand at these words of the constraint, and `last` is the word with which it is written out.
+  -- The requirement is one of this constraint. Its sides stand at these words of the constraint, and `last` is the word with which it is
+  -- written out.
   pub data IsWrittenAt (context : Context) : Constraint → TermRequirement → (left right last : Span) → Type 0 where
     -- `T: P` and `T: AnyObject` stand at the first word of T, and are written out with what stands on the right of the colon.
     of_bound : {subject : Subject} {bounds : List Entity} {e : Entity}
         → Contains bounds e
-        → IsWrittenAt context (bound subject bounds) (bound_of w (subject_of w context subject) e) (first_word subject) (first_word subject) e.span
+        → IsWrittenAt context (bound subject bounds) (bound_of w (subject_of w context subject) e) (first_word subject)
+        (first_word subject) e.span
     -- In `T: P<U>` the equality of `T.A` with U, where A is the primary name that has U, stands at the name P and at the first word of U.
     of_argument : {subject : Subject} {bounds : List Entity} {e : Entity} {a : Span} {u : TypeDecl}
         → Contains bounds e
         → IsArgumentOf e a u
-        → IsWrittenAt context (bound subject bounds) (Equals (member_named w (subject_of w context subject) a) (type_in w context u)) e.span u.head u.head
+        → IsWrittenAt context (bound subject bounds)
+        (Equals (member_named w (subject_of w context subject) a) (type_in w context u)) e.span u.head u.head
     -- `T == U` stands at the first words of T and of U.
-    of_equality : {t u : TypeDecl} → IsWrittenAt context (same t u) (Equals (type_in w context t) (type_in w context u)) t.head u.head u.head
+    of_equality : {t u : TypeDecl}
+        → IsWrittenAt context (same t u) (Equals (type_in w context t) (type_in w context u)) t.head u.head u.head
 
   -- The requirement is one of this constraint, its places are where its words begin, and the last of them begins at n.
   pub record StandsIn (c : Context × Constraint) (r : PlacedRequirement) (n : ℕ) : Type 0 where

@@ -87,7 +87,8 @@ pub fn words_of<'a>(text: &'a [u8], skeleton: &'a Skeleton, lexicon: &'a Lexicon
     requires limit { length text.now ≤ 1048576 }
     requires stands { StandsFor text.now skeleton.now }
     requires declared { HasDeclared text.now skeleton.now lexicon.now.resolved }
-    ensures { words_by result ≡ record { text = text.now; skeleton = skeleton.now; lexicon = lexicon.now } }
+    ensures { words_by result
+        ≡ record { text = text.now; skeleton = skeleton.now; lexicon = lexicon.now } }
 {
     lists_are_short(text);
     Words {

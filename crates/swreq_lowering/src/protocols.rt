@@ -24,7 +24,8 @@ fn add_member(
     m: &AssocDecl,
     into: &mut Vec<Written>,
 ) -> Result<(), AllocError>
-    ensures adds { OnOk result (Adds table.old table.new into.old.items into.new.items (in_member (words_by words.now) m.now)) }
+    ensures adds { OnOk result (Adds table.old table.new into.old.items into.new.items
+        (in_member (words_by words.now) m.now)) }
     ensures extends { Extends table.old table.new }
 {
     let context = Context::Protocol;
@@ -45,7 +46,8 @@ fn add_members(
     members: &[AssocDecl],
     into: &mut Vec<Written>,
 ) -> Result<(), AllocError>
-    ensures adds { OnOk result (Adds table.old table.new into.old.items into.new.items (in_members (words_by words.now) members.now)) }
+    ensures adds { OnOk result (Adds table.old table.new into.old.items into.new.items
+        (in_members (words_by words.now) members.now)) }
     ensures extends { Extends table.old table.new }
 {
     for m in members {
@@ -62,7 +64,8 @@ pub fn of_protocol(
     words: &Words<'_>,
     p: &ProtocolDecl,
 ) -> Result<Vec<Written>, AllocError>
-    ensures lists { IfOk result (λ v. Lists table.old table.new (in_protocol (words_by words.now) p.now) v.items) }
+    ensures lists { IfOk result
+        (λ v. Lists table.old table.new (in_protocol (words_by words.now) p.now) v.items) }
     ensures extends { Extends table.old table.new }
 {
     let context = Context::Protocol;

@@ -19,7 +19,8 @@ use swreq_param::{ParamTable, TermId};
 
 /// The signature that a query asks, or the first function at the top where there is none.
 pub fn asked_signature(words: &Words<'_>, q: &QueryDecl) -> Signature
-    ensures { result ≡ asked_signature (signature_in_query (words_by words.now) q.now.outer q.now.function) }
+    ensures { result
+        ≡ asked_signature (signature_in_query (words_by words.now) q.now.outer q.now.function) }
 {
     match signature_in_query(words, q.outer, q.function) {
         Some(signature) => signature,
@@ -48,7 +49,8 @@ pub fn query(
     f: FuncId,
     ask: &Ask,
 ) -> Result<Query, AllocError>
-    ensures asks { IfOk result (Asks table.old table.new (asked_of (words_by words.now) signature f ask.now)) }
+    ensures asks { IfOk result
+        (Asks table.old table.new (asked_of (words_by words.now) signature f ask.now)) }
     ensures extends { Extends table.old table.new }
 {
     let context = Context::Signature(signature);
@@ -73,7 +75,8 @@ pub fn query(
 /// A query of a conformance or a layout.
 fn is_query(words: &Words<'_>, f: FuncId, t: TermId, bound: &Entity) -> Query
     ensures means { (terms : List Term) → query_by terms result
-        ≡ cond bound.now.layout (AsksAnyObject f (term_at terms t)) (AsksConforms f (term_at terms t) (proto_of (words_by words.now) bound.now.span)) }
+        ≡ cond bound.now.layout (AsksAnyObject f (term_at terms t))
+        (AsksConforms f (term_at terms t) (proto_of (words_by words.now) bound.now.span)) }
     ensures of { (terms : List Term) → IsOf terms t → HasQueryIdsOf terms result }
 {
     if bound.layout {

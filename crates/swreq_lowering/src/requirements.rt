@@ -37,7 +37,8 @@ struct Argument<'a> {
 
 /// What a bound requires of a type parameter, but for its arguments.
 fn bound_of(words: &Words<'_>, subject: TermId, e: &Entity) -> Requirement
-    ensures means { (terms : List Term) → requirement_of terms result ≡ bound_of (words_by words.now) (term_at terms subject) e.now }
+    ensures means { (terms : List Term) → requirement_of terms result
+        ≡ bound_of (words_by words.now) (term_at terms subject) e.now }
     ensures of { (terms : List Term) → IsOf terms subject → HasIdsOf terms result }
 {
     if e.layout {
@@ -62,7 +63,8 @@ fn add_argument(
 ) -> Result<(), AllocError>
     requires { IsOf table.old subject }
     ensures adds { OnOk result (Adds table.old table.new into.old.items into.new.items
-        (argument (words_by words.now) context (term_at table.old subject) a.now.at a.now.name a.now.given.now ∷ [])) }
+        (argument (words_by words.now) context
+        (term_at table.old subject) a.now.at a.now.name a.now.given.now ∷ [])) }
     ensures extends { Extends table.old table.new }
 {
     let left = table.member(subject, Step::Name(name_of(words, a.name)))?;
@@ -140,7 +142,8 @@ pub fn add_bounds(
 ) -> Result<(), AllocError>
     requires { IsOf table.old subject.term }
     ensures adds { OnOk result (Adds table.old table.new into.old.items into.new.items
-        (in_bounds (words_by words.now) context (term_at table.old subject.term) subject.at bounds.now)) }
+        (in_bounds (words_by words.now) context
+        (term_at table.old subject.term) subject.at bounds.now)) }
     ensures extends { Extends table.old table.new }
 {
     for e in bounds {
@@ -160,7 +163,8 @@ fn add_same(
     into: &mut Vec<Written>,
 ) -> Result<(), AllocError>
     ensures adds { OnOk result (Adds table.old table.new into.old.items into.new.items
-        (equality (type_in (words_by words.now) context left.now) left.now.head.start (type_in (words_by words.now) context right.now) right.now.head.start ∷ [])) }
+        (equality (type_in (words_by words.now) context left.now) left.now.head.start
+        (type_in (words_by words.now) context right.now) right.now.head.start ∷ [])) }
     ensures extends { Extends table.old table.new }
 {
     let t = spell(table, words, context, left)?;
@@ -184,7 +188,8 @@ fn add_subject(
     into: &mut Vec<Written>,
 ) -> Result<(), AllocError>
     ensures adds { OnOk result (Adds table.old table.new into.old.items into.new.items
-        (in_bounds (words_by words.now) context (type_in (words_by words.now) context subject.now) subject.now.head.start bounds.now)) }
+        (in_bounds (words_by words.now) context
+        (type_in (words_by words.now) context subject.now) subject.now.head.start bounds.now)) }
     ensures extends { Extends table.old table.new }
 {
     let t = spell(table, words, context, subject)?;

@@ -27,7 +27,8 @@ fn add_param(
     p: &ParamDecl,
     into: &mut Vec<Written>,
 ) -> Result<(), AllocError>
-    ensures adds { OnOk result (Adds table.old table.new into.old.items into.new.items (in_param (words_by words.now) signature index p.now)) }
+    ensures adds { OnOk result (Adds table.old table.new into.old.items into.new.items
+        (in_param (words_by words.now) signature index p.now)) }
     ensures extends { Extends table.old table.new }
 {
     let depth = own_depth(words.skeleton, signature);
@@ -49,7 +50,8 @@ fn add_params(
     into: &mut Vec<Written>,
 ) -> Result<(), AllocError>
     requires { length params.now < 2 ^ 32 }
-    ensures adds { OnOk result (Adds table.old table.new into.old.items into.new.items (in_params (words_by words.now) signature 0 params.now)) }
+    ensures adds { OnOk result (Adds table.old table.new into.old.items into.new.items
+        (in_params (words_by words.now) signature 0 params.now)) }
     ensures extends { Extends table.old table.new }
 {
     let mut i = 0;
@@ -72,7 +74,8 @@ fn add_signature(
     into: &mut Vec<Written>,
 ) -> Result<(), AllocError>
     requires { length params.now < 2 ^ 32 }
-    ensures adds { OnOk result (Adds table.old table.new into.old.items into.new.items (in_signature (words_by words.now) signature params.now clause.now)) }
+    ensures adds { OnOk result (Adds table.old table.new into.old.items into.new.items
+        (in_signature (words_by words.now) signature params.now clause.now)) }
     ensures extends { Extends table.old table.new }
 {
     add_params(table, words, signature, params, into)?;
@@ -88,7 +91,8 @@ pub fn of_struct(
     s: &StructDecl,
 ) -> Result<Vec<Written>, AllocError>
     requires { length s.now.params < 2 ^ 32 }
-    ensures lists { IfOk result (λ v. Lists table.old table.new (in_struct (words_by words.now) place s.now) v.items) }
+    ensures lists { IfOk result
+        (λ v. Lists table.old table.new (in_struct (words_by words.now) place s.now) v.items) }
     ensures extends { Extends table.old table.new }
 {
     let mut into = Vec::new(alloc);
@@ -113,7 +117,8 @@ pub fn of_function(
     f: &FunctionDecl,
 ) -> Result<Vec<Written>, AllocError>
     requires { length f.now.params < 2 ^ 32 }
-    ensures lists { IfOk result (λ v. Lists table.old table.new (in_function (words_by words.now) place f.now) v.items) }
+    ensures lists { IfOk result
+        (λ v. Lists table.old table.new (in_function (words_by words.now) place f.now) v.items) }
     ensures extends { Extends table.old table.new }
 {
     let mut into = Vec::new(alloc);
@@ -140,7 +145,8 @@ pub fn of_nested(
     f: &FunctionDecl,
 ) -> Result<Vec<Written>, AllocError>
     requires { length f.now.params < 2 ^ 32 }
-    ensures lists { IfOk result (λ v. Lists table.old table.new (in_inner (words_by words.now) outer function f.now) v.items) }
+    ensures lists { IfOk result (λ v.
+        Lists table.old table.new (in_inner (words_by words.now) outer function f.now) v.items) }
     ensures extends { Extends table.old table.new }
 {
     let mut into = Vec::new(alloc);

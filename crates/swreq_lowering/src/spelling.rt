@@ -25,7 +25,8 @@ pub fn spell(
     context: Context,
     t: &TypeDecl,
 ) -> Result<TermId, AllocError>
-    ensures spells { IfOk result (Spells table.old table.new (type_in (words_by words.now) context t.now)) }
+    ensures spells { IfOk result
+        (Spells table.old table.new (type_in (words_by words.now) context t.now)) }
     ensures extends { Extends table.old table.new }
 {
     let head = spell_head(table, words, context, t.head)?;
@@ -39,7 +40,8 @@ fn spell_head(
     context: Context,
     head: Span,
 ) -> Result<TermId, AllocError>
-    ensures spells { IfOk result (Spells table.old table.new (head_in (words_by words.now) context head)) }
+    ensures spells { IfOk result
+        (Spells table.old table.new (head_in (words_by words.now) context head)) }
     ensures extends { Extends table.old table.new }
 {
     match context {
@@ -54,7 +56,8 @@ fn spell_protocol_head(
     words: &Words<'_>,
     head: Span,
 ) -> Result<TermId, AllocError>
-    ensures spells { IfOk result (Spells table.old table.new (protocol_head (words_by words.now) head)) }
+    ensures spells { IfOk result
+        (Spells table.old table.new (protocol_head (words_by words.now) head)) }
     ensures extends { Extends table.old table.new }
 {
     let base = table.param(SELF)?;
@@ -71,7 +74,8 @@ fn spell_signature_head(
     signature: Signature,
     head: Span,
 ) -> Result<TermId, AllocError>
-    ensures spells { IfOk result (Spells table.old table.new (signature_head (words_by words.now) signature head)) }
+    ensures spells { IfOk result
+        (Spells table.old table.new (signature_head (words_by words.now) signature head)) }
     ensures extends { Extends table.old table.new }
 {
     match param_named(words, signature, word(words.text, head)) {

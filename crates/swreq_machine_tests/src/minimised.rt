@@ -37,7 +37,8 @@ fn count_over(
     watch: &mut Recorder,
 ) -> Result<Option<usize>, Fail>
     requires text { IsTextOver table.old world.now }
-    requires protocols { AreRulesOf (world_by table.old world.now) (last_rules protocols.now.rounds) }
+    requires protocols { AreRulesOf (world_by table.old world.now)
+        (last_rules protocols.now.rounds) }
     requires some { 0 < length world.now.signatures }
     requires limits { AreInRange limits }
 {

@@ -31,7 +31,8 @@ module _ (rules : List Rule) where
     irreducible = least_irreducible rules (locally rules complete.meet) u least
 
     -- what the reduced word tells
-    pub vanishes_decided : (s : Symbol) (w end : List Symbol) (b : Bool) → w ≡ u ++ s ∷ [] → Linked (Step rules) w end → IsLeast (Linked (Step rules)) end
+    pub vanishes_decided : (s : Symbol) (w end : List Symbol) (b : Bool) → w ≡ u ++ s ∷ [] → Linked (Step rules) w end
+        → IsLeast (Linked (Step rules)) end
         → Decides b (end ≡ u) → Decides b (Vanishes rules u s)
     vanishes_decided s w end b e l m d = (
       (λ t. subst (λ x. Linked (Step rules) x u) e (subst (Linked (Step rules) w) (d.0 t) l)),
@@ -39,9 +40,15 @@ module _ (rules : List Rule) where
     )
 
     -- a left side within the word
-    not_within : (rule : Rule) (n : ℕ) → slice_get rules n ≡ Some rule → (before after : List Symbol) → u ≡ before ++ (rule.left ++ after) → ⊥
+    not_within : (rule : Rule) (n : ℕ) → slice_get rules n ≡ Some rule → (before after : List Symbol)
+        → u ≡ before ++ (rule.left ++ after) → ⊥
     not_within rule n is before after e =
-        irreducible (before ++ (rule.right ++ after)) (record { rule = rule; number = suc n; is_rule = (n, refl, is); at = record { before = before; after = after; source = e; target = refl } })
+        irreducible (before ++ (rule.right ++ after)) (record {
+          rule = rule;
+          number = suc n;
+          is_rule = (n, refl, is);
+          at = record { before = before; after = after; source = e; target = refl };
+        })
 
     -- a left side that ends the word with one symbol more
     at_end : (s : Symbol) (rule : Rule) (n : ℕ) → slice_get rules n ≡ Some rule → (before : List Symbol) → u ++ s ∷ [] ≡ before ++ rule.left
@@ -50,9 +57,16 @@ module _ (rules : List Rule) where
         let some = greater_some rule.right rule.left rule.down in
         elim (cut u (s ∷ []) before rule.left e) [
           | left q f g ↦ (let size = simp length-append at (ap length g) in
-              let none : q ≡ [] = nil_from_length q (omega (arith, size, some)) in
-              (length u, omega arith, sym (subst (λ x. s ∷ [] ≡ x ++ rule.left) none g) ∙ sym (ap (λ x. x ++ s ∷ []) (cut_rest u u [] (sym (append-nil u))))))
-          | right y q f g ↦ (length before, (let size = simp length-append at (ap length f) in omega (arith, size)), g ∙ ap (λ x. x ++ s ∷ []) (sym (cut_rest u before (y ∷ q) f)))
+              let none : q ≡ [] = nil_from_length q (omega (arith, size, some)) in (
+                length u,
+                omega arith,
+                sym (subst (λ x. s ∷ [] ≡ x ++ rule.left) none g) ∙ sym (ap (λ x. x ++ s ∷ []) (cut_rest u u [] (sym (append-nil u)))),
+              ))
+          | right y q f g ↦ (
+            length before,
+            (let size = simp length-append at (ap length f) in omega (arith, size)),
+            g ∙ ap (λ x. x ++ s ∷ []) (sym (cut_rest u before (y ∷ q) f)),
+          )
         ]
 
     -- one that ends before the word with one symbol more does
@@ -62,7 +76,8 @@ module _ (rules : List Rule) where
         let f : u ++ s ∷ [] ≡ (before ++ rule.left) ++ (x ∷ a) = e ∙ sym (append_assoc before rule.left (x ∷ a)) in
         elim (cut u (s ∷ []) (before ++ rule.left) (x ∷ a) f) [
           | left q g h ↦ (let size = simp length-append at (ap length h) in
-              not_within rule n is before [] (shorter u (before ++ rule.left) q g (omega (arith, size)) ∙ ap (λ y. before ++ y) (sym (append-nil rule.left))))
+              not_within rule n is before []
+              (shorter u (before ++ rule.left) q g (omega (arith, size)) ∙ ap (λ y. before ++ y) (sym (append-nil rule.left))))
           | right y q g h ↦ not_within rule n is before (y ∷ q) (g ∙ append_assoc before rule.left (y ∷ q))
         ]
       where
@@ -70,7 +85,8 @@ module _ (rules : List Rule) where
         shorter a b [] g h = sym (append-nil a) ∙ sym g
         shorter a b (x ∷ q) g h = absurd (omega (arith, h))
 
-    in_word : (s : Symbol) (rule : Rule) (n : ℕ) → slice_get rules n ≡ Some rule → (before after : List Symbol) → u ++ s ∷ [] ≡ before ++ (rule.left ++ after)
+    in_word : (s : Symbol) (rule : Rule) (n : ℕ) → slice_get rules n ≡ Some rule → (before after : List Symbol)
+        → u ++ s ∷ [] ≡ before ++ (rule.left ++ after)
         → (at : ℕ) × (at ≤ length u) × (rule.left ≡ drop at u ++ s ∷ [])
     in_word s rule n is before [] e = at_end s rule n is before (e ∙ ap (λ x. before ++ x) (append-nil rule.left))
     in_word s rule n is before (x ∷ a) e = absurd (not_before s rule n is before a x e)
@@ -87,7 +103,8 @@ module _ (rules : List Rule) where
             omega (arith, size, k, m)
         none (x ∷ a) f = not_before s rule n is before a x f
 
-    pub none_before : (s : Symbol) (w : List Symbol) (longest from : ℕ) → w ≡ u ++ s ∷ [] → from ≡ length w - longest → NoneLonger rules longest
+    pub none_before : (s : Symbol) (w : List Symbol) (longest from : ℕ) → w ≡ u ++ s ∷ [] → from ≡ length w - longest
+        → NoneLonger rules longest
         → NoneEarlier rules w from
     none_before s w longest from e f short =
         subst (NoneEarlier rules w) (sym f) (subst (λ z. NoneEarlier rules z (length z - longest)) (sym e) (none_far s longest short))

@@ -22,7 +22,8 @@ use Rattle.swreq_map.proofs.Ending.{ends_left_side}
 
 -- ---- protocols that vanish after the word
 
-module _ (rules : List Rule) (protocols : ℕ) (u symbols : List Symbol) (k : ℕ) (x : Symbol) (found : List ℕ) (here : slice_get symbols k ≡ Some x)
+module _ (rules : List Rule) (protocols : ℕ) (u symbols : List Symbol) (k : ℕ) (x : Symbol) (found : List ℕ)
+    (here : slice_get symbols k ≡ Some x)
     (so_far : AreConforming rules protocols u (take k symbols) found) where
   more : take (suc k) symbols ≡ take k symbols ++ x ∷ []
   more = take_one symbols k x here

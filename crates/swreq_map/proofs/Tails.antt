@@ -35,7 +35,8 @@ module _ (rules : List Rule) (complete : IsComplete rules) (u : List Symbol) (le
       (subst (λ w. Linked (Step rules) w (take from u ++ drop from u)) (sym (append_assoc (take from u) (drop from u) (x ∷ []))) longer)
 
   -- where no left side that ends after the word reaches before the ending, what stays after the ending stays after the word
-  pub stays_behind : (x : Symbol) → from ≤ length u → NoneLonger rules (length u - from) → IsLeast (Linked (Step rules)) (drop from u ++ x ∷ []) → Vanishes rules u x → ⊥
+  pub stays_behind : (x : Symbol) → from ≤ length u → NoneLonger rules (length u - from)
+      → IsLeast (Linked (Step rules)) (drop from u ++ x ∷ []) → Vanishes rules u x → ⊥
   stays_behind x within short stays h =
       let f = ends_left_side rules complete u least x h in
       let rule = f.1 in
@@ -45,12 +46,19 @@ module _ (rules : List Rule) (complete : IsComplete rules) (u : List Symbol) (le
       let most = short f.0 rule f.3 in
       let far : from + (at - from) ≡ at = omega (arith, size, most, within, f.4) in
       let parted : drop from u ≡ take (at - from) (drop from u) ++ drop at u
-      = sym (take-append-drop (at - from) (drop from u)) ∙ ap (λ v. take (at - from) (drop from u) ++ v) (drop-drop (at - from) from u ∙ ap (λ n. drop n u) far) in
+      = sym (take-append-drop (at - from) (drop from u))
+      ∙ ap (λ v. take (at - from) (drop from u) ++ v) (drop-drop (at - from) from u ∙ ap (λ n. drop n u) far) in
       let before = take (at - from) (drop from u) in
       let source : drop from u ++ x ∷ [] ≡ before ++ (rule.left ++ [])
-      = ap (λ v. v ++ x ∷ []) parted ∙ append_assoc before (drop at u) (x ∷ []) ∙ ap (λ v. before ++ v) (sym left ∙ sym (append-nil rule.left)) in
+      = ap (λ v. v ++ x ∷ []) parted ∙ append_assoc before (drop at u) (x ∷ [])
+      ∙ ap (λ v. before ++ v) (sym left ∙ sym (append-nil rule.left)) in
       least_irreducible rules (locally rules complete.meet) (drop from u ++ x ∷ []) stays (before ++ (rule.right ++ []))
-      (record { rule = rule; number = suc f.0; is_rule = (f.0, refl, f.3); at = record { before = before; after = []; source = source; target = refl } })
+      (record {
+        rule = rule;
+        number = suc f.0;
+        is_rule = (f.0, refl, f.3);
+        at = record { before = before; after = []; source = source; target = refl };
+      })
 
   -- ---- what the reduced ending tells
 
@@ -61,7 +69,8 @@ module _ (rules : List Rule) (complete : IsComplete rules) (u : List Symbol) (le
     (λ v. refl),
   )
 
-  pub told_staying : (x : Symbol) → from ≤ length u → NoneLonger rules (length u - from) → (end : List Symbol) → IsLeast (Linked (Step rules)) end
+  pub told_staying : (x : Symbol) → from ≤ length u → NoneLonger rules (length u - from) → (end : List Symbol)
+      → IsLeast (Linked (Step rules)) end
       → end ≡ drop from u ++ x ∷ [] → Decides false (Vanishes rules u x)
   told_staying x within short end stays same = (
     (λ t. absurd (false≢true t)),

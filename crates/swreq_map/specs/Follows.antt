@@ -32,4 +32,5 @@ IsMapOf rules m = (rule : Rule) (v : List Symbol) (x : Symbol) → Contains rule
 
 -- exactly the protocols below this number among these symbols that vanish after the word
 abbrev pub AreConforming : List Rule → ℕ → List Symbol → List Symbol → List ℕ → Type 0
-AreConforming rules protocols u symbols found = (p : ℕ) → Contains found p ↔ (Contains symbols (Proto p) × (p < protocols) × Vanishes rules u (Proto p))
+AreConforming rules protocols u symbols found =
+    (p : ℕ) → Contains found p ↔ (Contains symbols (Proto p) × (p < protocols) × Vanishes rules u (Proto p))

@@ -22,7 +22,8 @@ fn make_room(alloc: Global, lists: &mut Vec<Vec<Symbol>>, place: usize) -> Resul
 
 fn push(list: &mut Vec<Symbol>, x: Symbol) -> Result<(), AllocError>
     ensures added { OnOk result (Contains list.new.items x) }
-    ensures kept { (other : Symbol) → Contains list.old.items other → Contains list.new.items other }
+    ensures kept { (other : Symbol) → Contains list.old.items other
+        → Contains list.new.items other }
 {
     list.push(x)?;
     Ok(())
@@ -51,7 +52,8 @@ fn add(
     x: Symbol,
 ) -> Result<(), AllocError>
     ensures added { OnOk result (Follows table.new lists.new.items v.now x) }
-    ensures kept { (w : List Symbol) (y : Symbol) → Follows table.old lists.old.items w y → Follows table.new lists.new.items w y }
+    ensures kept { (w : List Symbol) (y : Symbol) → Follows table.old lists.old.items w y
+        → Follows table.new lists.new.items w y }
     ensures distinct { AreDistinct table.new }
 {
     let id = table.intern(v)?;
@@ -67,8 +69,10 @@ pub fn add_end(
     left: &[Symbol],
 ) -> Result<(), AllocError>
     requires { AreDistinct table.old }
-    ensures added { OnOk result ((v : List Symbol) (x : Symbol) → left.now ≡ v ++ x ∷ [] → IsProperty protocols x → Follows table.new lists.new.items v x) }
-    ensures kept { (w : List Symbol) (y : Symbol) → Follows table.old lists.old.items w y → Follows table.new lists.new.items w y }
+    ensures added { OnOk result ((v : List Symbol) (x : Symbol) → left.now ≡ v ++ x ∷ []
+        → IsProperty protocols x → Follows table.new lists.new.items v x) }
+    ensures kept { (w : List Symbol) (y : Symbol) → Follows table.old lists.old.items w y
+        → Follows table.new lists.new.items w y }
     ensures distinct { AreDistinct table.new }
 {
     let count = left.len();

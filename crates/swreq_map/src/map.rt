@@ -61,7 +61,8 @@ fn candidates(
     from: usize,
 ) -> Result<Vec<Symbol>, AllocError>
     requires { AreDistinct table.now }
-    ensures { IfOk result (λ v. (at : ℕ) (x : Symbol) → from ≤ at → at ≤ length u.now → Follows table.now lists.now (drop at u.now) x
+    ensures { IfOk result (λ v. (at : ℕ) (x : Symbol) → from ≤ at → at ≤ length u.now
+        → Follows table.now lists.now (drop at u.now) x
         → Contains v.items x) }
 {
     let mut found: Vec<Symbol> = Vec::new(alloc);
@@ -102,7 +103,8 @@ impl PropertyMap {
 
     /// Whether the map keeps the symbol with some ending of a word that begins at this place or after it.
     fn is_candidate(&self, u: &[Symbol], from: usize, x: Symbol) -> bool
-        ensures { (at : ℕ) → from ≤ at → at ≤ length u.now → Follows self.now.words self.now.lists (drop at u.now) x → result ≡ true }
+        ensures { (at : ℕ) → from ≤ at → at ≤ length u.now
+            → Follows self.now.words self.now.lists (drop at u.now) x → result ≡ true }
     {
         for at in from..u.len() + 1 {
             if is_among(followers(&self.table, &self.lists, &u[at..]), x) {
@@ -187,8 +189,10 @@ fn conforms(class: &Class<'_, '_>, x: Symbol, room: &mut Vec<Symbol>) -> Option<
     requires least { IsLeast (Linked (Step class.now.rules.now)) class.now.word.now }
     requires fits { length class.now.word.now + 1 ≤ vec_capacity room.old }
     ensures answer { MatchOption result
-        ((p : ℕ) → x ≡ Proto p → p < class.now.protocols → Vanishes class.now.rules.now class.now.word.now x → ⊥)
-        (λ p. (x ≡ Proto p) × (p < class.now.protocols) × Vanishes class.now.rules.now class.now.word.now (Proto p)) }
+        ((p : ℕ) → x ≡ Proto p → p < class.now.protocols
+        → Vanishes class.now.rules.now class.now.word.now x → ⊥)
+        (λ p. (x ≡ Proto p) × (p < class.now.protocols)
+        × Vanishes class.now.rules.now class.now.word.now (Proto p)) }
     ensures room { vec_capacity room.old ≤ vec_capacity room.new }
 {
     match x {
@@ -216,7 +220,8 @@ fn add_conforming(
     requires fits { length class.now.word.now + 1 ≤ vec_capacity room.old }
     requires so_far { AreConforming class.now.rules.now class.now.protocols class.now.word.now
         (take k symbols.now) found.old.items }
-    ensures found { OnOk result (AreConforming class.now.rules.now class.now.protocols class.now.word.now
+    ensures found { OnOk result
+        (AreConforming class.now.rules.now class.now.protocols class.now.word.now
         (take (k + 1) symbols.now) found.new.items) }
     ensures room { vec_capacity room.old ≤ vec_capacity room.new }
 {
@@ -238,7 +243,8 @@ fn conforming(
 ) -> Result<Vec<u32>, AllocError>
     requires least { IsLeast (Linked (Step class.now.rules.now)) class.now.word.now }
     requires fits { length class.now.word.now + 1 ≤ vec_capacity room.old }
-    ensures found { IfOk result (λ v. AreConforming class.now.rules.now class.now.protocols class.now.word.now
+    ensures found { IfOk result
+        (λ v. AreConforming class.now.rules.now class.now.protocols class.now.word.now
         symbols.now v.items) }
     ensures room { vec_capacity room.old ≤ vec_capacity room.new }
 {

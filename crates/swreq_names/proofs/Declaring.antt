@@ -17,7 +17,8 @@ use Rattle.swreq_names.proofs.Pieces.{mapped_more}
 -- ---- one name
 
 module _ (ranks : List (List ℕ)) (lists : List (List ℕ)) (size : length lists ≡ length ranks) (place : ℕ) (name : List ℕ) where
-  pub added_at : IsRising bytes_cmp ranks → (k : ℕ) → slice_get ranks k ≡ Some name → (r : ℕ) (q : List ℕ) → slice_get ranks r ≡ Some q → (j : ℕ)
+  pub added_at : IsRising bytes_cmp ranks → (k : ℕ) → slice_get ranks k ≡ Some name → (r : ℕ) (q : List ℕ)
+      → slice_get ranks r ≡ Some q → (j : ℕ)
       → Contains (get_or (with_item lists k place) r []) j ↔ (Contains (get_or lists r []) j ⊎ ((j ≡ place) × (q ≡ name)))
   added_at rising k is r q f j = (
     λ c. ⊎_elim inl (λ s. inr (s.1, same_Some q name (sym f ∙ ap (slice_get ranks) s.0 ∙ is))) ((both r j).0 c),
@@ -34,31 +35,41 @@ module _ (ranks : List (List ℕ)) (lists : List (List ℕ)) (size : length list
 
 -- ---- the names of one protocol
 
-pub names_more : (items : List Declaration) (i : ℕ) (place j : ℕ) (item : Declaration) (q : List ℕ) {New Old First : Type 0} → i < length items → item ≡ get_or items i item
+pub names_more : (items : List Declaration) (i : ℕ) (place j : ℕ) (item : Declaration) (q : List ℕ) {New Old First : Type 0}
+    → i < length items → item ≡ get_or items i item
     → (New ↔ (Old ⊎ ((j ≡ place) × (q ≡ item.name)))) → (Old ↔ (First ⊎ ((j ≡ place) × Contains (names_of (take i items)) q)))
     → New ↔ (First ⊎ ((j ≡ place) × Contains (names_of (take (i + 1) items)) q))
 names_more items i place j item q {New} {Old} {First} h e one before = (to, from)
   where
     more : names_of (take (i + 1) items) ≡ names_of (take i items) ++ item.name ∷ []
-    more = sym (mapped_more (λ (d : Declaration). d.name) items i item item.name (names_of (take i items)) (names_of (take i items) ++ item.name ∷ []) h e refl refl refl)
+    more = sym (mapped_more (λ (d : Declaration). d.name) items i item item.name (names_of (take i items))
+        (names_of (take i items) ++ item.name ∷ []) h e refl refl refl)
 
     to : New → First ⊎ ((j ≡ place) × Contains (names_of (take (i + 1) items)) q)
     to n =
         ⊎_elim
-        (λ o. ⊎_elim inl (λ s. inr (s.0, subst (λ xs. Contains xs q) (sym more) (Contains-append_left (names_of (take i items)) (item.name ∷ []) q s.1))) (before.0 o))
-        (λ s. inr (s.0, subst (λ xs. Contains xs q) (sym more) (subst (λ x. Contains (names_of (take i items) ++ item.name ∷ []) x) (sym s.1) (Contains-push (names_of (take i items)) item.name)))) (one.0 n)
+        (λ o. ⊎_elim inl (λ s. inr
+        (s.0, subst (λ xs. Contains xs q) (sym more) (Contains-append_left (names_of (take i items)) (item.name ∷ []) q s.1))) (before.0 o))
+        (λ s. inr (
+          s.0,
+          subst (λ xs. Contains xs q) (sym more) (subst (λ x. Contains (names_of (take i items) ++ item.name ∷ []) x) (sym s.1)
+              (Contains-push (names_of (take i items)) item.name)),
+        )) (one.0 n)
 
     from : First ⊎ ((j ≡ place) × Contains (names_of (take (i + 1) items)) q) → New
     from g =
         ⊎_elim (λ f. one.1 (inl (before.1 (inl f))))
-        (λ s. ⊎_elim (λ c. one.1 (inl (before.1 (inr (s.0, c))))) (λ t. one.1 (inr (s.0, sym t))) (Contains-push_cases (names_of (take i items)) item.name q (subst (λ xs. Contains xs q) more s.1))) g
+        (λ s. ⊎_elim (λ c. one.1 (inl (before.1 (inr (s.0, c))))) (λ t. one.1 (inr (s.0, sym t)))
+        (Contains-push_cases (names_of (take i items)) item.name q (subst (λ xs. Contains xs q) more s.1))) g
 
-pub no_names : (items : List Declaration) (place j : ℕ) (q : List ℕ) {First : Type 0} → First ↔ (First ⊎ ((j ≡ place) × Contains (names_of (take 0 items)) q))
+pub no_names : (items : List Declaration) (place j : ℕ) (q : List ℕ) {First : Type 0}
+    → First ↔ (First ⊎ ((j ≡ place) × Contains (names_of (take 0 items)) q))
 no_names items place j q = (inl, λ h. ⊎_elim (λ f. f) (λ s. no_member q s.1) h)
 
 pub all_names_in : (items : List Declaration) (i place j : ℕ) (q : List ℕ) {New First : Type 0} → length items ≤ i
     → New ↔ (First ⊎ ((j ≡ place) × Contains (names_of (take i items)) q)) → New ↔ (First ⊎ ((j ≡ place) × Contains (names_of items) q))
-all_names_in items i place j q {New} {First} h e = subst (λ (xs : List Declaration). New ↔ (First ⊎ ((j ≡ place) × Contains (names_of xs) q))) (take_all i items h) e
+all_names_in items i place j q {New} {First} h e =
+    subst (λ (xs : List Declaration). New ↔ (First ⊎ ((j ≡ place) × Contains (names_of xs) q))) (take_all i items h) e
 
 -- ---- the names of all protocols
 
@@ -74,7 +85,8 @@ module _ (members : List (List Declaration)) (q : List ℕ) (j : ℕ) where
       to : New → (j < i + 1) × Contains (names_of (get_or members j [])) q
       to n =
           ⊎_elim (λ o. let s = before.0 o in let l = s.0 in (omega arith, s.1))
-          (λ s. let k = s.0 in (omega arith, subst (λ xs. Contains xs q) (e ∙ ap (λ x. names_of (get_or members x [])) (sym s.0)) s.1)) (one.0 n)
+          (λ s. let k = s.0 in (omega arith, subst (λ xs. Contains xs q) (e ∙ ap (λ x. names_of (get_or members x [])) (sym s.0)) s.1))
+          (one.0 n)
 
       below : j < i + 1 → (j ≡ i → ⊥) → j < i
       below h n = omega arith
@@ -84,7 +96,8 @@ module _ (members : List (List Declaration)) (q : List ℕ) (j : ℕ) where
           ⊎_elim (λ k. one.1 (inr (k, subst (λ xs. Contains xs q) (ap (λ x. names_of (get_or members x [])) k ∙ sym e) s.1)))
           (λ n. one.1 (inl (before.1 (below s.0 n, s.1)))) (cases_eq j i)
 
-  pub all_members : (i : ℕ) {New : Type 0} → length members ≤ i → New ↔ ((j < i) × Contains (names_of (get_or members j [])) q) → New ↔ Contains (names_of (get_or members j [])) q
+  pub all_members : (i : ℕ) {New : Type 0} → length members ≤ i → New ↔ ((j < i) × Contains (names_of (get_or members j [])) q)
+      → New ↔ Contains (names_of (get_or members j [])) q
   all_members i {New} h e = (λ n. (e.0 n).1, λ c. e.1 (below c, c))
     where
       there : (k n m : ℕ) → k < n → n ≤ m → k < m
@@ -92,9 +105,11 @@ module _ (members : List (List Declaration)) (q : List ℕ) (j : ℕ) where
 
       below : Contains (names_of (get_or members j [])) q → j < i
       below c =
-          ⊎_elim (λ l. there j (length members) i l h) (λ l. no_member q (subst (λ (xs : List Declaration). Contains (names_of xs) q) (get_or_past members j [] l) c)) (cases_lt j (length members))
+          ⊎_elim (λ l. there j (length members) i l h) (λ l. no_member q
+          (subst (λ (xs : List Declaration). Contains (names_of xs) q) (get_or_past members j [] l) c)) (cases_lt j (length members))
 
-pub gathered_more : (members : List (List Declaration)) (all new names : List (List ℕ)) (i : ℕ) → new ≡ all ++ names → names ≡ names_of (get_or members i [])
+pub gathered_more : (members : List (List Declaration)) (all new names : List (List ℕ)) (i : ℕ) → new ≡ all ++ names
+    → names ≡ names_of (get_or members i [])
     → ((j : ℕ) (q : List ℕ) → j < i → Contains (names_of (get_or members j [])) q → Contains all q)
     → (j : ℕ) (q : List ℕ) → j < i + 1 → Contains (names_of (get_or members j [])) q → Contains new q
 gathered_more members all new names i e n before j q h c =
@@ -103,9 +118,11 @@ gathered_more members all new names i e n before j q h c =
     (λ k. Contains-append_left all names q (before j q (below j i h k) c)) (cases_eq j i))
 
 pub all_gathered : (members : List (List Declaration)) (all : List (List ℕ)) (i : ℕ) → length members ≤ i
-    → ((j : ℕ) (q : List ℕ) → j < i → Contains (names_of (get_or members j [])) q → Contains all q) → (j : ℕ) (q : List ℕ) → Contains (names_of (get_or members j [])) q → Contains all q
+    → ((j : ℕ) (q : List ℕ) → j < i → Contains (names_of (get_or members j [])) q → Contains all q) → (j : ℕ) (q : List ℕ)
+    → Contains (names_of (get_or members j [])) q → Contains all q
 all_gathered members all i h before j q c =
-    ⊎_elim (λ l. before j q (there j (length members) i l h) c) (λ l. no_member q (subst (λ (xs : List Declaration). Contains (names_of xs) q) (get_or_past members j [] l) c)) (cases_lt j (length members))
+    ⊎_elim (λ l. before j q (there j (length members) i l h) c) (λ l.
+    no_member q (subst (λ (xs : List Declaration). Contains (names_of xs) q) (get_or_past members j [] l) c)) (cases_lt j (length members))
   where
     there : (k n m : ℕ) → k < n → n ≤ m → k < m
     there k n m h g = omega arith

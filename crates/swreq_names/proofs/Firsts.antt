@@ -34,21 +34,25 @@ module _ (ranks : List (List ℕ)) (firsts : List (Option ℕ)) (size : length f
       here s =
           ap (λ x. get_or (set firsts k (Some at)) x None) s
           ∙ get_or-set_same firsts k (Some at) None (within (length firsts) (length ranks) k size (slice_get_within ranks k name e))
-          ∙ ap (λ b. cond b (Some at) (get_or firsts r None)) (sym (same_true q name (same_Some q name (sym f ∙ ap (slice_get ranks) s ∙ e))))
+          ∙ ap (λ b. cond b (Some at) (get_or firsts r None))
+          (sym (same_true q name (same_Some q name (sym f ∙ ap (slice_get ranks) s ∙ e))))
 
       there : (r ≡ k → ⊥) → get_or (set firsts k (Some at)) r None ≡ cond (bytes_eq q name) (Some at) (get_or firsts r None)
       there n =
           get_or-set_other firsts k r (Some at) None n
-          ∙ ap (λ b. cond b (Some at) (get_or firsts r None)) (sym (same_false q name (λ s. n (one_place bytes_cmp nat_list_cmp_total ranks rising r k name (f ∙ ap Some s) e))))
+          ∙ ap (λ b. cond b (Some at) (get_or firsts r None))
+          (sym (same_false q name (λ s. n (one_place bytes_cmp nat_list_cmp_total ranks rising r k name (f ∙ ap Some s) e))))
 
-  pub not_noted : (Contains ranks name → ⊥) → (r : ℕ) (q : List ℕ) → slice_get ranks r ≡ Some q → get_or firsts r None ≡ cond (bytes_eq q name) (Some at) (get_or firsts r None)
+  pub not_noted : (Contains ranks name → ⊥) → (r : ℕ) (q : List ℕ) → slice_get ranks r ≡ Some q
+      → get_or firsts r None ≡ cond (bytes_eq q name) (Some at) (get_or firsts r None)
   not_noted none r q f =
       ap (λ b. cond b (Some at) (get_or firsts r None))
       (sym (same_false q name (λ s. none (r, slice_get_within ranks r q f, get_or_from_slice_get ranks r q name f ∙ s))))
 
 -- ---- from the last name back to the first
 
-pub one_back : (names : List (List ℕ)) (i : ℕ) (name q : List ℕ) (old new : Option ℕ) → 0 < i → i ≤ length names → name ≡ get_or names (i - 1) name
+pub one_back : (names : List (List ℕ)) (i : ℕ) (name q : List ℕ) (old new : Option ℕ) → 0 < i → i ≤ length names
+    → name ≡ get_or names (i - 1) name
     → new ≡ cond (bytes_eq q name) (Some (i - 1)) old → old ≡ position_from (bytes_eq q) i (drop i names)
     → new ≡ position_from (bytes_eq q) (i - 1) (drop (i - 1) names)
 one_back names i name q old new p h e u o =
@@ -58,7 +62,8 @@ one_back names i name q old new p h e u o =
     ∙ (λ j. cond (bytes_eq q (e j)) (Some (i - 1)) (position_from (bytes_eq q) (sym back j) (drop (sym back j) names)))
     ∙ sym (at_drop_more (position_from (bytes_eq q) (i - 1)) names (i - 1) name lt)
 
-pub none_noted : (n r i : ℕ) (names : List (List ℕ)) (q : List ℕ) → length names ≤ i → get_or (replicate n None) r None ≡ position_from (bytes_eq q) i (drop i names)
+pub none_noted : (n r i : ℕ) (names : List (List ℕ)) (q : List ℕ) → length names ≤ i
+    → get_or (replicate n None) r None ≡ position_from (bytes_eq q) i (drop i names)
 none_noted n r i names q h = all_alike n r None ∙ sym (past names i h i)
   where
     past : (xs : List (List ℕ)) (k : ℕ) → length xs ≤ k → (s : ℕ) → position_from (bytes_eq q) s (drop k xs) ≡ None
@@ -67,7 +72,8 @@ none_noted n r i names q h = all_alike n r None ∙ sym (past names i h i)
     past (x ∷ xs) zero h s = absurd (omega arith)
     past (x ∷ xs) (suc k) h s = past xs k (omega arith) s
 
-pub all_back : (names : List (List ℕ)) (i : ℕ) (q : List ℕ) (first : Option ℕ) → i ≤ 0 → first ≡ position_from (bytes_eq q) i (drop i names) → first ≡ position_from (bytes_eq q) 0 names
+pub all_back : (names : List (List ℕ)) (i : ℕ) (q : List ℕ) (first : Option ℕ) → i ≤ 0 → first ≡ position_from (bytes_eq q) i (drop i names)
+    → first ≡ position_from (bytes_eq q) 0 names
 all_back names i q first h e = let z : i ≡ 0 = omega arith in e ∙ (λ j. position_from (bytes_eq q) (z j) (drop (z j) names))
 
 -- ---- what a look-up finds
@@ -80,7 +86,8 @@ none_placed (x ∷ xs) q s n =
 
 -- ---- the same of declarations
 
-pub declared_back : (ds : List Declaration) (i : ℕ) (d : Declaration) (q : List ℕ) (old new : Option ℕ) → 0 < i → i ≤ length ds → d ≡ get_or ds (i - 1) d
+pub declared_back : (ds : List Declaration) (i : ℕ) (d : Declaration) (q : List ℕ) (old new : Option ℕ) → 0 < i → i ≤ length ds
+    → d ≡ get_or ds (i - 1) d
     → new ≡ cond (bytes_eq q d.name) (Some (i - 1)) old → old ≡ position_from (bytes_eq q) i (drop i (names_of ds))
     → new ≡ position_from (bytes_eq q) (i - 1) (drop (i - 1) (names_of ds))
 declared_back ds i d q old new p h e u o =
@@ -90,5 +97,7 @@ declared_back ds i d q old new p h e u o =
     one_back (names_of ds) i d.name q old new p within
     (ap (λ (x : Declaration). x.name) e ∙ sym (get_or-map (λ (x : Declaration). x.name) ds (i - 1) d d.name lt)) u o
 
-pub none_declared : (n r i : ℕ) (ds : List Declaration) (q : List ℕ) → length ds ≤ i → get_or (replicate n None) r None ≡ position_from (bytes_eq q) i (drop i (names_of ds))
-none_declared n r i ds q h = let size = length-map ds (λ (x : Declaration). x.name) in none_noted n r i (names_of ds) q (omega (arith, size, h))
+pub none_declared : (n r i : ℕ) (ds : List Declaration) (q : List ℕ) → length ds ≤ i
+    → get_or (replicate n None) r None ≡ position_from (bytes_eq q) i (drop i (names_of ds))
+none_declared n r i ds q h =
+    let size = length-map ds (λ (x : Declaration). x.name) in none_noted n r i (names_of ds) q (omega (arith, size, h))

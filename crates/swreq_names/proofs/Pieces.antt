@@ -6,20 +6,25 @@ use Rattle.std.proofs.lemmas.List.Concat.{flat_map-append}
 use Rattle.std.proofs.lemmas.List.Elements.{Contains-append_left, Contains-append_right, Contains-append_cases}
 use Rattle.swreq_orders.proofs.Members.{no_member, first_member, later_member, member_cases}
 
-pub pieces_more : {A B : Type 0} (g : A → List B) (xs : List A) (i : ℕ) (x : A) (start into new : List B) → i < length xs → x ≡ get_or xs i x
+pub pieces_more : {A B : Type 0} (g : A → List B) (xs : List A) (i : ℕ) (x : A) (start into new : List B)
+    → i < length xs → x ≡ get_or xs i x
     → into ≡ start ++ flat_map g (take i xs) → new ≡ into ++ g x → new ≡ start ++ flat_map g (take (i + 1) xs)
 pieces_more g xs i x start into new h e inv k =
     k ∙ ap (λ ys. ys ++ g x) inv ∙ append_assoc start (flat_map g (take i xs)) (g x)
-    ∙ ap (λ ys. start ++ ys) ((λ j. flat_map g (take i xs) ++ g (e j)) ∙ ap (λ ys. flat_map g (take i xs) ++ ys) (sym (append-nil (g (get_or xs i x)))) ∙ sym (flat_map-append g (take i xs) (get_or xs i x ∷ [])) ∙ ap (flat_map g) (sym (take_more xs i x h)))
+    ∙ ap (λ ys. start ++ ys)
+    ((λ j. flat_map g (take i xs) ++ g (e j)) ∙ ap (λ ys. flat_map g (take i xs) ++ ys) (sym (append-nil (g (get_or xs i x))))
+    ∙ sym (flat_map-append g (take i xs) (get_or xs i x ∷ [])) ∙ ap (flat_map g) (sym (take_more xs i x h)))
 
 -- a list with one item for each element of another list, made one item after another
 pub mapped_more : {A B : Type 0} (f : A → B) (xs : List A) (i : ℕ) (x : A) (y : B) (old new : List B) → i < length xs → x ≡ get_or xs i x
     → new ≡ old ++ y ∷ [] → y ≡ f x → old ≡ map f (take i xs) → new ≡ map f (take (i + 1) xs)
 mapped_more f xs i x y old new h e k l o =
-    k ∙ (λ j. o j ++ l j ∷ []) ∙ (λ j. map f (take i xs) ++ f (e j) ∷ []) ∙ sym (map-append f (take i xs) (get_or xs i x ∷ [])) ∙ ap (map f) (sym (take_more xs i x h))
+    k ∙ (λ j. o j ++ l j ∷ []) ∙ (λ j. map f (take i xs) ++ f (e j) ∷ []) ∙ sym (map-append f (take i xs) (get_or xs i x ∷ []))
+    ∙ ap (map f) (sym (take_more xs i x h))
 
 -- the same, after items that were there before
-pub mapped_onto_more : {A B : Type 0} (f : A → B) (xs : List A) (i : ℕ) (x : A) (y : B) (start old new : List B) → i < length xs → x ≡ get_or xs i x
+pub mapped_onto_more : {A B : Type 0} (f : A → B) (xs : List A) (i : ℕ) (x : A) (y : B) (start old new : List B)
+    → i < length xs → x ≡ get_or xs i x
     → new ≡ old ++ y ∷ [] → y ≡ f x → old ≡ start ++ map f (take i xs) → new ≡ start ++ map f (take (i + 1) xs)
 mapped_onto_more f xs i x y start old new h e k l o =
     k ∙ ap (λ ys. ys ++ y ∷ []) o ∙ append_assoc start (map f (take i xs)) (y ∷ [])

@@ -196,7 +196,8 @@ module _ (text : List ℕ) where
   unfolding lines.protocol
   protocol_named = at_mapped (at_after (at_sequence name_named (at_both none (at_both inherits_named (at_both conditions_named
       (at_after (at_before (at_weaker (join_all (names.in_member text)) (at_repetition member_named)))))))
-      (λ p i j. join (word text p.0 ∷ []) (names.in_bounds text p.1.1.0 ++ (names.in_clause text p.1.1.1.0 ++ flat_map (names.in_member text) p.1.1.1.1)) i
+      (λ p i j. join (word text p.0 ∷ [])
+      (names.in_bounds text p.1.1.0 ++ (names.in_clause text p.1.1.1.0 ++ flat_map (names.in_member text) p.1.1.1.1)) i
       (join (names.in_bounds text p.1.1.0) (names.in_clause text p.1.1.1.0 ++ flat_map (names.in_member text) p.1.1.1.1) j.1.0
       (join (names.in_clause text p.1.1.1.0) (flat_map (names.in_member text) p.1.1.1.1) j.1.1.0 j.1.1.1)))))
 
@@ -244,7 +245,8 @@ module _ (text : List ℕ) where
   unfolding lines.ask
   ask_named = at_continued qtype_named (of_alternative
       (of_mapped (at_after qentity_named) (λ c v i j. join (names.in_type text v) (names.in_entity text c) i j))
-      (of_alternative (of_mapped (at_after qtype_named) (λ c v i j. join (names.in_type text v) (names.in_type text c) i j)) (of_empty (λ v i. i))))
+      (of_alternative (of_mapped (at_after qtype_named) (λ c v i j. join (names.in_type text v) (names.in_type text c) i j))
+      (of_empty (λ v i. i))))
 
   asked_named : Names text lines.asked (λ a. AreNames (names.in_ask text a))
   unfolding lines.asked

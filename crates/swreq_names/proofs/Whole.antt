@@ -81,11 +81,13 @@ all_names text s n =
     (join ts (fs ++ qs) (join_all (names.in_struct text) s.structs n.structs)
     (join fs qs (join_all (names.in_function text) s.functions n.functions) (join_all (names.in_query text) s.queries n.queries)))
   where
-    bodies : (ps : List ProtocolDecl) → AllByRecursion (IsProtocolNamed text) ps → AllByRecursion (λ p. AreNames (names.in_protocol text p)) ps
+    bodies : (ps : List ProtocolDecl) → AllByRecursion (IsProtocolNamed text) ps
+        → AllByRecursion (λ p. AreNames (names.in_protocol text p)) ps
     bodies [] n = tt
     bodies (p ∷ ps) n = (n.0.1, bodies ps n.1)
 
-protocol_names : (text : List ℕ) (ps : List ProtocolDecl) → AllByRecursion (IsProtocolNamed text) ps → AreNames (map (λ p. word text p.name) ps)
+protocol_names : (text : List ℕ) (ps : List ProtocolDecl) → AllByRecursion (IsProtocolNamed text) ps
+    → AreNames (map (λ p. word text p.name) ps)
 protocol_names text [] n = tt
 protocol_names text (p ∷ ps) n = (n.0.0, protocol_names text ps n.1)
 
@@ -99,7 +101,8 @@ one_of (w ∷ ws) (suc k) d n l = one_of ws k d n.1 (omega arith)
 contained : (ws : List (List ℕ)) (w : List ℕ) → AreNames ws → Contains ws w → IsSpelled kinds.Name w
 contained ws w n (k, l, e) = subst (IsSpelled kinds.Name) e (one_of ws k w n l)
 
-module _ (text : List ℕ) (s : Skeleton) (slices : (ts : List lexed.Token) → HasTokens text ts → AreSlices text (first_offset (chars text)) ts)
+module _ (text : List ℕ) (s : Skeleton)
+    (slices : (ts : List lexed.Token) → HasTokens text ts → AreSlices text (first_offset (chars text)) ts)
   where
     named : StandsFor text s → IsSkeletonNamed text s
     named (found, tokens, (parts, m, e)) =

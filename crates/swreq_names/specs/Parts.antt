@@ -21,8 +21,8 @@ use Rattle.swreq_names.specs.declared.signature.Signature.TheVariants.{Struct, F
 
 -- ---- constraints
 
--- What a constraint is on: `Self` in a protocol of this name, the associated type of this name, the k-th of a signature's own generic parameters, which has
--- this name, or a written type.
+-- What a constraint is on: `Self` in a protocol of this name, the associated type of this name, the k-th of a signature's own generic
+-- parameters, which has this name, or a written type.
 pub data Subject : Type 0 where
   self_of : Span → Subject
   associated : Span → Subject
@@ -79,7 +79,8 @@ in_nested_at i f = standing (in_signature (Nested i f.0)) (of_signature f.1.para
 
 -- the constraints of a struct, and then those of its functions
 abbrev pub in_struct_at : ℕ × StructDecl → List (Scope × Constraint)
-in_struct_at t = standing (in_signature (Struct t.0)) (of_signature t.1.params t.1.clause) ++ flat_map (in_nested_at t.0) (numbered 0 t.1.functions)
+in_struct_at t =
+    standing (in_signature (Struct t.0)) (of_signature t.1.params t.1.clause) ++ flat_map (in_nested_at t.0) (numbered 0 t.1.functions)
 
 abbrev pub in_function_at : ℕ × FunctionDecl → List (Scope × Constraint)
 in_function_at f = standing (in_signature (Function f.0)) (of_signature f.1.params f.1.clause)
@@ -87,7 +88,8 @@ in_function_at f = standing (in_signature (Function f.0)) (of_signature f.1.para
 -- the constraints of a text: those of protocols, of structs and of functions, each in written order
 abbrev pub constraints : Skeleton → List (Scope × Constraint)
 constraints s =
-    flat_map in_protocol_at (numbered 0 s.protocols) ++ (flat_map in_struct_at (numbered 0 s.structs) ++ flat_map in_function_at (numbered 0 s.functions))
+    flat_map in_protocol_at (numbered 0 s.protocols)
+    ++ (flat_map in_struct_at (numbered 0 s.structs) ++ flat_map in_function_at (numbered 0 s.functions))
 
 -- ---- written types
 

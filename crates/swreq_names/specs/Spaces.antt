@@ -78,7 +78,8 @@ is_declared_before ds name at = elim (place ds name) [ None ↦ false | Some k �
 
 -- what the name refers to in a space of two lists, if that is one of the first list
 abbrev pub refers_to : List Declaration → List Declaration → List ℕ → Option ℕ
-refers_to ds others name = elim (place ds name) [ None ↦ None | Some k ↦ cond (is_declared_before others name (offset_of ds k)) None (Some k) ]
+refers_to ds others name =
+    elim (place ds name) [ None ↦ None | Some k ↦ cond (is_declared_before others name (offset_of ds k)) None (Some k) ]
 
 -- Protocols and structs are one space.
 abbrev pub protocol_of : Spaces → List ℕ → Option ℕ

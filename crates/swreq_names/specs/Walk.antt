@@ -69,7 +69,8 @@ module _ (text : List ℕ) where
   -- the names of a text; `mentioned` has the same
   abbrev pub walked : Skeleton → List (List ℕ)
   walked s =
-      flat_map in_protocol s.protocols ++ (flat_map in_struct s.structs ++ (flat_map in_function s.functions ++ flat_map in_query s.queries))
+      flat_map in_protocol s.protocols
+      ++ (flat_map in_struct s.structs ++ (flat_map in_function s.functions ++ flat_map in_query s.queries))
 
 -- ---- inheritance
 

@@ -21,9 +21,12 @@ struct OfProtocols {
 
 impl OfProtocols {
     fn of(alloc: Global, text: &[u8], protocols: &[ProtocolDecl]) -> Result<Box<Self>, AllocError>
-        ensures names { IfOk result (λ d. d.value.names ≡ declarations text.now (map (λ p. p.name) protocols.now)) }
-        ensures members { IfOk result (λ d. d.value.members.items ≡ map (λ p. declarations text.now (map (λ m. m.name) p.members)) protocols.now) }
-        ensures primaries { IfOk result (λ d. d.value.primaries.items ≡ map (λ p. declarations text.now p.primaries) protocols.now) }
+        ensures names { IfOk result
+            (λ d. d.value.names ≡ declarations text.now (map (λ p. p.name) protocols.now)) }
+        ensures members { IfOk result (λ d. d.value.members.items
+            ≡ map (λ p. declarations text.now (map (λ m. m.name) p.members)) protocols.now) }
+        ensures primaries { IfOk result (λ d.
+            d.value.primaries.items ≡ map (λ p. declarations text.now p.primaries) protocols.now) }
     {
         let found = OfProtocols {
             names: directory_of(alloc, text, protocols)?,
@@ -60,10 +63,14 @@ struct OfStructs {
 
 impl OfStructs {
     fn of(alloc: Global, text: &[u8], structs: &[StructDecl]) -> Result<Box<Self>, AllocError>
-        ensures names { IfOk result (λ d. d.value.names ≡ declarations text.now (map (λ t. t.name) structs.now)) }
-        ensures params { IfOk result (λ d. d.value.params.items ≡ map (λ t. of_params text.now t.params) structs.now) }
-        ensures nested { IfOk result (λ d. d.value.nested.items ≡ map (λ t. declarations text.now (map (λ f. f.name) t.functions)) structs.now) }
-        ensures nested_params { IfOk result (λ d. d.value.nested_params.items ≡ map (λ t. map (λ f. of_params text.now f.params) t.functions) structs.now) }
+        ensures names { IfOk result
+            (λ d. d.value.names ≡ declarations text.now (map (λ t. t.name) structs.now)) }
+        ensures params { IfOk result
+            (λ d. d.value.params.items ≡ map (λ t. of_params text.now t.params) structs.now) }
+        ensures nested { IfOk result (λ d. d.value.nested.items
+            ≡ map (λ t. declarations text.now (map (λ f. f.name) t.functions)) structs.now) }
+        ensures nested_params { IfOk result (λ d. d.value.nested_params.items
+            ≡ map (λ t. map (λ f. of_params text.now f.params) t.functions) structs.now) }
     {
         let found = OfStructs {
             names: directory_of(alloc, text, structs)?,
@@ -84,8 +91,10 @@ struct OfFunctions {
 
 impl OfFunctions {
     fn of(alloc: Global, text: &[u8], functions: &[FunctionDecl]) -> Result<Box<Self>, AllocError>
-        ensures names { IfOk result (λ d. d.value.names ≡ declarations text.now (map (λ f. f.name) functions.now)) }
-        ensures params { IfOk result (λ d. d.value.params.items ≡ map (λ f. of_params text.now f.params) functions.now) }
+        ensures names { IfOk result
+            (λ d. d.value.names ≡ declarations text.now (map (λ f. f.name) functions.now)) }
+        ensures params { IfOk result
+            (λ d. d.value.params.items ≡ map (λ f. of_params text.now f.params) functions.now) }
     {
         let found = OfFunctions {
             names: directory_of(alloc, text, functions)?,
@@ -285,7 +294,8 @@ impl Declared {
 
     /// The protocols that declare the name themselves.
     pub fn declarers(&self, name: &[u8]) -> &[usize]
-        ensures { (j : ℕ) → Contains result.now j ↔ Contains (names_of (slice_index_or self.now.members j [])) name.now }
+        ensures { (j : ℕ) → Contains result.now j
+            ↔ Contains (names_of (slice_index_or self.now.members j [])) name.now }
     {
         self.declarers.of_name(name)
     }
@@ -325,7 +335,8 @@ fn members(
     text: &[u8],
     protocols: &[ProtocolDecl],
 ) -> Result<Vec<Directory>, AllocError>
-    ensures { IfOk result (λ found. found.items ≡ map (λ p. declarations text.now (map (λ m. m.name) p.members)) protocols.now) }
+    ensures { IfOk result (λ found. found.items
+        ≡ map (λ p. declarations text.now (map (λ m. m.name) p.members)) protocols.now) }
 {
     let mut found = Vec::new(alloc);
     for protocol in protocols {
@@ -340,7 +351,8 @@ fn primaries(
     text: &[u8],
     protocols: &[ProtocolDecl],
 ) -> Result<Vec<Directory>, AllocError>
-    ensures { IfOk result (λ found. found.items ≡ map (λ p. declarations text.now p.primaries) protocols.now) }
+    ensures { IfOk result
+        (λ found. found.items ≡ map (λ p. declarations text.now p.primaries) protocols.now) }
 {
     let mut found = Vec::new(alloc);
     for protocol in protocols {
@@ -355,7 +367,8 @@ fn struct_params(
     text: &[u8],
     structs: &[StructDecl],
 ) -> Result<Vec<Directory>, AllocError>
-    ensures { IfOk result (λ found. found.items ≡ map (λ t. of_params text.now t.params) structs.now) }
+    ensures { IfOk result
+        (λ found. found.items ≡ map (λ t. of_params text.now t.params) structs.now) }
 {
     let mut found = Vec::new(alloc);
     for item in structs {
@@ -366,7 +379,8 @@ fn struct_params(
 }
 
 fn nested(alloc: Global, text: &[u8], structs: &[StructDecl]) -> Result<Vec<Directory>, AllocError>
-    ensures { IfOk result (λ found. found.items ≡ map (λ t. declarations text.now (map (λ f. f.name) t.functions)) structs.now) }
+    ensures { IfOk result (λ found. found.items
+        ≡ map (λ t. declarations text.now (map (λ f. f.name) t.functions)) structs.now) }
 {
     let mut found = Vec::new(alloc);
     for item in structs {
@@ -381,7 +395,8 @@ fn params(
     text: &[u8],
     functions: &[FunctionDecl],
 ) -> Result<Vec<Directory>, AllocError>
-    ensures { IfOk result (λ found. found.items ≡ map (λ f. of_params text.now f.params) functions.now) }
+    ensures { IfOk result
+        (λ found. found.items ≡ map (λ f. of_params text.now f.params) functions.now) }
 {
     let mut found = Vec::new(alloc);
     for function in functions {
@@ -396,7 +411,8 @@ fn nested_params(
     text: &[u8],
     structs: &[StructDecl],
 ) -> Result<Vec<OfNested>, AllocError>
-    ensures { IfOk result (λ found. found.items ≡ map (λ t. map (λ f. of_params text.now f.params) t.functions) structs.now) }
+    ensures { IfOk result (λ found.
+        found.items ≡ map (λ t. map (λ f. of_params text.now f.params) t.functions) structs.now) }
 {
     let mut found = Vec::new(alloc);
     for item in structs {

@@ -27,8 +27,10 @@ impl Declarers {
 
     /// The protocols that declare the name.
     pub fn of_name(&self, name: &[u8]) -> &[usize]
-        ensures { (members : List (List Declaration)) → AreDeclarers members self.now.ranks self.now.lists
-            → (j : ℕ) → Contains result.now j ↔ Contains (names_of (slice_index_or members j [])) name.now }
+        ensures { (members : List (List Declaration))
+            → AreDeclarers members self.now.ranks self.now.lists
+            → (j : ℕ)
+            → Contains result.now j ↔ Contains (names_of (slice_index_or members j [])) name.now }
     {
         match self.ranks.find(name) {
             Some(rank) => self.lists.at(rank),
@@ -46,7 +48,8 @@ fn add_name(
     requires { length lists.old ≡ length ranks.now }
     ensures len { OnOk result (length lists.new ≡ length lists.old) }
     ensures added { OnOk result ((r : ℕ) (q : List ℕ) → slice_get ranks.now r ≡ Some q → (j : ℕ)
-        → Contains (slice_index_or lists.new r []) j ↔ (Contains (slice_index_or lists.old r []) j ⊎ ((j ≡ place) × (q ≡ name.now)))) }
+        → Contains (slice_index_or lists.new r []) j
+        ↔ (Contains (slice_index_or lists.old r []) j ⊎ ((j ≡ place) × (q ≡ name.now)))) }
 {
     let _count = ranks.len();
     match ranks.find(name) {
@@ -67,7 +70,8 @@ fn add_names(
     requires { length lists.old ≡ length ranks.now }
     ensures len { OnOk result (length lists.new ≡ length lists.old) }
     ensures added { OnOk result ((r : ℕ) (q : List ℕ) → slice_get ranks.now r ≡ Some q → (j : ℕ)
-        → Contains (slice_index_or lists.new r []) j ↔ (Contains (slice_index_or lists.old r []) j ⊎ ((j ≡ place) × Contains (names_of items.now) q))) }
+        → Contains (slice_index_or lists.new r []) j ↔ (Contains (slice_index_or lists.old r []) j
+        ⊎ ((j ≡ place) × Contains (names_of items.now) q))) }
 {
     for item in items {
         add_name(ranks, item.name.items(), place, lists)?;
@@ -78,7 +82,8 @@ fn add_names(
 /// For each rank, the protocols that declare its name.
 fn lists_of(alloc: Global, ranks: &Ranks, members: &[Directory]) -> Result<Lists<usize>, AllocError>
     ensures { IfOk result (λ lists. (r : ℕ) (q : List ℕ) → slice_get ranks.now r ≡ Some q → (j : ℕ)
-        → Contains (slice_index_or lists r []) j ↔ Contains (names_of (slice_index_or members.now j [])) q) }
+        → Contains (slice_index_or lists r []) j
+        ↔ Contains (names_of (slice_index_or members.now j [])) q) }
 {
     let mut lists = Lists::new(alloc, ranks.len())?;
     for (place, directory) in members.iter().enumerate() {
@@ -102,7 +107,8 @@ fn add_copies(
 
 /// All names that protocols declare.
 fn all_names(alloc: Global, members: &[Directory]) -> Result<Vec<Seq<u8>>, AllocError>
-    ensures { IfOk result (λ all. (j : ℕ) (q : List ℕ) → Contains (names_of (slice_index_or members.now j [])) q → Contains all.items q) }
+    ensures { IfOk result (λ all. (j : ℕ) (q : List ℕ)
+        → Contains (names_of (slice_index_or members.now j [])) q → Contains all.items q) }
 {
     let mut all = Vec::new(alloc);
     for directory in members {

@@ -136,7 +136,8 @@ fn note(place: usize, name: &[u8], ranks: &Ranks, firsts: &mut Vec<Option<usize>
     requires { length firsts.old.items ≡ length ranks.now }
     ensures len { length firsts.new.items ≡ length firsts.old.items }
     ensures noted { (r : ℕ) (q : List ℕ) → slice_get ranks.now r ≡ Some q
-        → slice_index_or firsts.new.items r None ≡ cond (bytes_eq q name.now) (Some place) (slice_index_or firsts.old.items r None) }
+        → slice_index_or firsts.new.items r None
+        ≡ cond (bytes_eq q name.now) (Some place) (slice_index_or firsts.old.items r None) }
 {
     let _count = ranks.len();
     match ranks.find(name) {
@@ -151,7 +152,8 @@ fn first_places(
     items: &[Declaration],
     ranks: &Ranks,
 ) -> Result<Vec<Option<usize>>, AllocError>
-    ensures { IfOk result (λ firsts. (r : ℕ) (q : List ℕ) → slice_get ranks.now r ≡ Some q → slice_index_or firsts.items r None ≡ place items.now q) }
+    ensures { IfOk result (λ firsts. (r : ℕ) (q : List ℕ) → slice_get ranks.now r ≡ Some q
+        → slice_index_or firsts.items r None ≡ place items.now q) }
 {
     let mut firsts = vec![in alloc; None; ranks.len()]?;
     let mut i = items.len();

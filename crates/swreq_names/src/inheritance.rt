@@ -24,7 +24,8 @@ fn named_by(text: &[u8], d: &Declared, e: &Entity) -> Option<usize>
 }
 
 fn add_named(text: &[u8], d: &Declared, e: &Entity, into: &mut Vec<usize>) -> Result<(), AllocError>
-    ensures { OnOk result (into.new.items ≡ into.old.items ++ option_to_list (named_by text.now d.now e.now)) }
+    ensures { OnOk result
+        (into.new.items ≡ into.old.items ++ option_to_list (named_by text.now d.now e.now)) }
 {
     match named_by(text, d, e) {
         Some(place) => Ok(into.push(place)?),
@@ -39,7 +40,8 @@ fn add_bounds(
     entities: &[Entity],
     into: &mut Vec<usize>,
 ) -> Result<(), AllocError>
-    ensures { OnOk result (into.new.items ≡ into.old.items ++ named_in text.now d.now entities.now) }
+    ensures { OnOk result
+        (into.new.items ≡ into.old.items ++ named_in text.now d.now entities.now) }
 {
     for e in entities {
         add_named(text, d, e, into)?;
@@ -73,7 +75,8 @@ fn add_clause(
     clause: &[ReqDecl],
     into: &mut Vec<usize>,
 ) -> Result<(), AllocError>
-    ensures { OnOk result (into.new.items ≡ into.old.items ++ inherited_in_clause text.now d.now clause.now) }
+    ensures { OnOk result
+        (into.new.items ≡ into.old.items ++ inherited_in_clause text.now d.now clause.now) }
 {
     for r in clause {
         add_requirement(text, d, r, into)?;
@@ -87,7 +90,8 @@ fn add_members(
     members: &[AssocDecl],
     into: &mut Vec<usize>,
 ) -> Result<(), AllocError>
-    ensures { OnOk result (into.new.items ≡ into.old.items ++ flat_map (λ m. inherited_in_clause text.now d.now m.clause) members.now) }
+    ensures { OnOk result (into.new.items ≡ into.old.items
+        ++ flat_map (λ m. inherited_in_clause text.now d.now m.clause) members.now) }
 {
     for m in members {
         add_clause(text, d, m.clause.items(), into)?;

@@ -15,7 +15,8 @@ use swreq_lex::laws::tokens_are_slices;
 /// The names of protocols, of associated types and of members are spelled as names: each is a word, and not a reserved one.
 pub fn names_are_words(text: &[u8])
     ensures protocols { (s : Skeleton) → StandsFor text.now s
-        → (name : List ℕ) → Contains (map (λ p. word text.now p.name) s.protocols) name → IsSpelled Name name }
+        → (name : List ℕ)
+        → Contains (map (λ p. word text.now p.name) s.protocols) name → IsSpelled Name name }
     ensures members { (s : Skeleton) → StandsFor text.now s
         → (name : List ℕ) → Contains (mentioned text.now s) name → IsSpelled Name name }
 {
@@ -29,5 +30,6 @@ pub fn words_have_word_bytes()
 
 /// A skeleton has at most one view of its names: what it declares, the lists of direct inheritance, and which protocol inherits which.
 pub fn names_are_one(text: &[u8])
-    ensures { (s : Skeleton) (m n : NamesView) → HasDeclared text.now s m → HasDeclared text.now s n → m ≡ n }
+    ensures { (s : Skeleton) (m n : NamesView) → HasDeclared text.now s m
+        → HasDeclared text.now s n → m ≡ n }
 {}

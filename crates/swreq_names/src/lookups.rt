@@ -25,7 +25,8 @@ fn inherits_any(inherits: &Closure, i: usize, places: &[usize]) -> bool
 
 /// Whether a protocol that this one inherits declares the name.
 fn inherits_name(d: &Declared, inherits: &Closure, i: usize, name: &[u8]) -> bool
-    ensures { result ≡ any_below (λ j. leads inherits.now i j && declares d.now j name.now) (length d.now.members) }
+    ensures { result ≡ any_below (λ j. leads inherits.now i j && declares d.now j name.now)
+        (length d.now.members) }
 {
     inherits_any(inherits, i, d.declarers(name))
 }
@@ -138,7 +139,8 @@ impl Names {
 
     /// Whether a protocol, or one that it inherits, declares the name.
     pub fn has_member(&self, protocol: usize, name: &[u8]) -> bool
-        ensures { result ≡ has_member self.now.declared (leads self.now.inherits) protocol name.now }
+        ensures { result
+            ≡ has_member self.now.declared (leads self.now.inherits) protocol name.now }
     {
         has_member(&self.declared, &self.inherits, protocol, name)
     }

@@ -38,7 +38,8 @@ fn add_all<T: Mentions>(
     parts: &[T],
     into: &mut Vec<Seq<u8>>,
 ) -> Result<(), AllocError>
-    ensures { OnOk result (into.new.items ≡ into.old.items ++ flat_map (T.names text.now) parts.now) }
+    ensures { OnOk result
+        (into.new.items ≡ into.old.items ++ flat_map (T.names text.now) parts.now) }
 {
     for part in parts {
         part.add_names(alloc, text, into)?;
@@ -117,7 +118,8 @@ fn add_both<T: Mentions, U: Mentions>(
     other: &U,
     into: &mut Vec<Seq<u8>>,
 ) -> Result<(), AllocError>
-    ensures { OnOk result (into.new.items ≡ into.old.items ++ (T.names text.now part.now ++ U.names text.now other.now)) }
+    ensures { OnOk result (into.new.items
+        ≡ into.old.items ++ (T.names text.now part.now ++ U.names text.now other.now)) }
 {
     part.add_names(alloc, text, into)?;
     other.add_names(alloc, text, into)?;
@@ -132,7 +134,8 @@ fn add_constraint(
     bounds: &[Entity],
     into: &mut Vec<Seq<u8>>,
 ) -> Result<(), AllocError>
-    ensures { OnOk result (into.new.items ≡ into.old.items ++ (in_type text.now subject.now ++ in_bounds text.now bounds.now)) }
+    ensures { OnOk result (into.new.items
+        ≡ into.old.items ++ (in_type text.now subject.now ++ in_bounds text.now bounds.now)) }
 {
     subject.add_names(alloc, text, into)?;
     add_all(alloc, text, bounds, into)?;
@@ -277,7 +280,8 @@ fn all_mentioned(alloc: Global, text: &[u8], s: &Skeleton) -> Result<Vec<Seq<u8>
 
 /// The names of associated types and of members in the declarations and queries of a text, by their ranks.
 pub fn member_names(alloc: Global, text: &[u8], s: &Skeleton) -> Result<Ranks, AllocError>
-    ensures { IfOk result (λ ranks. (name : List ℕ) → Contains ranks name ↔ Contains (mentioned text.now s.now) name) }
+    ensures { IfOk result (λ ranks.
+        (name : List ℕ) → Contains ranks name ↔ Contains (mentioned text.now s.now) name) }
 {
     let names = all_mentioned(alloc, text, s)?;
     Ok(Ranks::of(names))

@@ -176,7 +176,8 @@ module _ (lines : List Line) (marks : List Bool) where
       let (y, ey) = there_is left (suc k) l in
       let v = whence k x ex in
       let w = whence (suc k) y ey in
-      let short : suc v.place < length lines = before_last v.place w.place w.on v.number w.number (slice_get_within lines w.place w.old w.is) in
+      let short : suc v.place < length lines =
+      before_last v.place w.place w.on v.number w.number (slice_get_within lines w.place w.old w.is) in
       let (j, user, after, is, on, c) = h.used v.place short v.on in
       let less : marked (take v.place marks) < marked (take j marks) = marked_less marks v.place j after v.on in
       let number : new_number marks (suc v.place) ≡ suc k = marked_yes marks v.place v.on ∙ ap suc v.number in
@@ -185,7 +186,8 @@ module _ (lines : List Line) (marks : List Bool) where
         renumbered marks user,
         omega (arith, less, e),
         stands j user on is,
-        subst (λ n. Contains (map (new_number marks) user.premises) n) number (contains_map (new_number marks) user.premises (suc v.place) c),
+        subst (λ n. Contains (map (new_number marks) user.premises) n) number
+            (contains_map (new_number marks) user.premises (suc v.place) c),
       )
     where
       before_last : (p q : ℕ) → IsMarked marks q → marked (take p marks) ≡ k → marked (take q marks) ≡ suc k → q < length lines
@@ -193,7 +195,8 @@ module _ (lines : List Line) (marks : List Bool) where
       before_last p q on e f w = elim (cases_lt p q) [
         | inl i ↦ omega (arith, i, w)
         | inr i ↦ absurd (elim (eq-or-lt_of_le {n = q} {m = p} i) [
-          | inl same ↦ (let g : marked (take q marks) ≡ marked (take p marks) = ap (λ n. marked (take n marks)) same in omega (arith, e, f, g))
+          | inl same ↦
+              (let g : marked (take q marks) ≡ marked (take p marks) = ap (λ n. marked (take n marks)) same in omega (arith, e, f, g))
           | inr less ↦ (let g = marked_less marks q p less on in omega (arith, e, f, g))
         ])
       ]

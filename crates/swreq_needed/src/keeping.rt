@@ -15,7 +15,8 @@ use swreq_text::Seq;
 /// At each place n, how many of the first n lines are marked.
 fn numbers_of(alloc: Global, marks: &[bool]) -> Result<Vec<usize>, AllocError>
     ensures count { IfOk result (λ v. length v.items ≡ length marks.now + 1) }
-    ensures each { IfOk result (λ v. (n : ℕ) → n ≤ length marks.now → slice_get v.items n ≡ Some (new_number marks.now n)) }
+    ensures each { IfOk result (λ v.
+        (n : ℕ) → n ≤ length marks.now → slice_get v.items n ≡ Some (new_number marks.now n)) }
 {
     let mut numbers = Vec::new(alloc);
     let mut count = 0;
@@ -32,7 +33,8 @@ fn numbers_of(alloc: Global, marks: &[bool]) -> Result<Vec<usize>, AllocError>
 /// The number that the line with this number has among the marked ones.
 fn number_in(marks: &[bool], numbers: &[usize], n: usize) -> usize
     requires count { length numbers.now ≡ length marks.now + 1 }
-    requires each { (n : ℕ) → n ≤ length marks.now → slice_get numbers.now n ≡ Some (new_number marks.now n) }
+    requires each { (n : ℕ) → n ≤ length marks.now
+        → slice_get numbers.now n ≡ Some (new_number marks.now n) }
     ensures { result ≡ new_number marks.now n }
 {
     let last = marks.len();
@@ -47,7 +49,8 @@ fn premises_in(
     premises: &[usize],
 ) -> Result<Vec<usize>, AllocError>
     requires count { length numbers.now ≡ length marks.now + 1 }
-    requires each { (n : ℕ) → n ≤ length marks.now → slice_get numbers.now n ≡ Some (new_number marks.now n) }
+    requires each { (n : ℕ) → n ≤ length marks.now
+        → slice_get numbers.now n ≡ Some (new_number marks.now n) }
     ensures { IfOk result (λ v. v.items ≡ map (new_number marks.now) premises.now) }
 {
     let mut found = Vec::new(alloc);
@@ -66,7 +69,8 @@ fn renumbered(
     line: &Line,
 ) -> Result<Line, AllocError>
     requires count { length numbers.now ≡ length marks.now + 1 }
-    requires each { (n : ℕ) → n ≤ length marks.now → slice_get numbers.now n ≡ Some (new_number marks.now n) }
+    requires each { (n : ℕ) → n ≤ length marks.now
+        → slice_get numbers.now n ≡ Some (new_number marks.now n) }
     ensures { IfOk result (λ l. l ≡ renumbered marks.now line.now) }
 {
     let premises = premises_in(alloc, marks, numbers, line.premises.items())?;
@@ -96,7 +100,8 @@ fn keep(alloc: Global, lines: &[Line], marks: &[bool]) -> Result<Vec<Line>, Allo
 /// The lines that the last one needs, with new numbers: the last line, and the premises of each line that is needed. If the lines are a
 /// derivation, so are the needed ones, and they end in the same statement.
 pub fn needed(alloc: Global, lines: &[Line]) -> Result<Vec<Line>, AllocError>
-    ensures derived { IfOk result (λ v. (terms : List Term) (m : IdFacts) → AreDerived terms m lines.now → AreDerived terms m v.items) }
+    ensures derived { IfOk result (λ v. (terms : List Term) (m : IdFacts)
+        → AreDerived terms m lines.now → AreDerived terms m v.items) }
     ensures used { IfOk result (λ v. AreAllUsed v.items) }
     ensures last { IfOk result (λ v. (st : Statement) → EndIn lines.now st → EndIn v.items st) }
     ensures once { IfOk result (λ v. StateOnce lines.now → StateOnce v.items) }

@@ -29,7 +29,8 @@ pub get_last : {A : Type 0} (xs : List A) (x : A) → slice_get (xs ++ x ∷ [])
 get_last [] x = refl
 get_last (y ∷ xs) x = get_last xs x
 
-pub get_cases : {A : Type 0} (xs : List A) (y : A) (k : ℕ) (x : A) → slice_get (xs ++ y ∷ []) k ≡ Some x → (slice_get xs k ≡ Some x) ⊎ ((k ≡ length xs) × (x ≡ y))
+pub get_cases : {A : Type 0} (xs : List A) (y : A) (k : ℕ) (x : A) → slice_get (xs ++ y ∷ []) k ≡ Some x
+    → (slice_get xs k ≡ Some x) ⊎ ((k ≡ length xs) × (x ≡ y))
 get_cases [] y zero x e = inr (refl, cc)
 get_cases [] y (suc k) x e = cc
 get_cases (z ∷ xs) y zero x e = inl e
@@ -55,7 +56,8 @@ pub get_either : {A : Type 0} (xs ys : List A) (k : ℕ) (x : A) → slice_get (
     → (slice_get xs k ≡ Some x) ⊎ ((j : ℕ) × (k ≡ length xs + j) × (slice_get ys j ≡ Some x))
 get_either [] ys k x e = inr (k, omega arith, e)
 get_either (y ∷ xs) ys zero x e = inl e
-get_either (y ∷ xs) ys (suc k) x e = elim (get_either xs ys k x e) [ inl h ↦ inl h | inr h ↦ inr (h.0, (let f = h.1 in omega (arith, f)), h.2) ]
+get_either (y ∷ xs) ys (suc k) x e =
+    elim (get_either xs ys k x e) [ inl h ↦ inl h | inr h ↦ inr (h.0, (let f = h.1 in omega (arith, f)), h.2) ]
 
 -- what stands in the front stands in the list
 pub in_whole : {A : Type 0} (xs : List A) (n k : ℕ) (x : A) → slice_get (take n xs) k ≡ Some x → slice_get xs k ≡ Some x
@@ -82,7 +84,8 @@ get_map f [] k x e = cc
 get_map f (y ∷ xs) zero x e = let h : y ≡ x = cc in ap (λ z. Some (f z)) h
 get_map f (y ∷ xs) (suc k) x e = get_map f xs k x e
 
-pub get_of_map : {A B : Type 0} (f : A → B) (xs : List A) (k : ℕ) (y : B) → slice_get (map f xs) k ≡ Some y → (x : A) × (slice_get xs k ≡ Some x) × (f x ≡ y)
+pub get_of_map : {A B : Type 0} (f : A → B) (xs : List A) (k : ℕ) (y : B) → slice_get (map f xs) k ≡ Some y
+    → (x : A) × (slice_get xs k ≡ Some x) × (f x ≡ y)
 get_of_map f [] k y e = cc
 get_of_map f (x ∷ xs) zero y e = (x, refl, cc)
 get_of_map f (x ∷ xs) (suc k) y e = get_of_map f xs k y e

@@ -4,7 +4,8 @@ use Rattle.swreq_orders.specs.WellFounded.{IsAccessible, IsWellFounded}
 use Rattle.swreq_orders.specs.WellFounded.IsAccessible.{reached}
 
 -- what holds of each, where it holds of all below, holds of an accessible one
-pub by_below : {A : Type 0} {R : A → A → Type 0} (P : A → Type 0) → ((a : A) → ((b : A) → R b a → P b) → P a) → {a : A} → IsAccessible R a → P a
+pub by_below : {A : Type 0} {R : A → A → Type 0} (P : A → Type 0) → ((a : A) → ((b : A) → R b a → P b) → P a) → {a : A}
+    → IsAccessible R a → P a
 by_below P step (reached {a = a} h) = step a (λ b r. by_below P step (h b r))
 
 below_accessible : (n m : ℕ) → m < n → IsAccessible ◌<◌ m

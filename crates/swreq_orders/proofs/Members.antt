@@ -52,7 +52,8 @@ contains_of_map g (x ∷ xs) y h = elim (member_cases (g x) y (map g xs) h) [
 ]
 
 -- ---- a list with one more member where a test holds
-pub added_cases : {X : Type 0} (b : Bool) (x : X) (xs : List X) (y : X) → Contains (if b then x ∷ xs else xs) y → ((b ≡ true) × (y ≡ x)) ⊎ Contains xs y
+pub added_cases : {X : Type 0} (b : Bool) (x : X) (xs : List X) (y : X) → Contains (if b then x ∷ xs else xs) y
+    → ((b ≡ true) × (y ≡ x)) ⊎ Contains xs y
 added_cases true x xs y h = elim (member_cases x y xs h) [ inl e ↦ inl (refl, e) | inr k ↦ inr k ]
 added_cases false x xs y h = inr h
 

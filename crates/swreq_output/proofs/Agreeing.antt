@@ -39,7 +39,8 @@ module _ (f : TermFacts) (ps : List ParamId) where
   -- What follows from requirements that may follow from others may follow from these.
   module _ (S T : TermRequirement → Type 0) (each : (r : TermRequirement) → S r → Maybe (Follows f ps T (Requires r))) where
     maybe_cut : {st : TermStatement} → Follows f ps S st → Maybe (Follows f ps T st)
-    maybe_cut (rs, s, e) never = maybe_each {P = λ r. Follows f ps T (Requires r)} rs (λ r h. each r (s r h)) (λ all. never (cut f ps (λ r. Contains rs r) T all (rs, (λ r h. h), e)))
+    maybe_cut (rs, s, e) never = maybe_each {P = λ r. Follows f ps T (Requires r)} rs (λ r h. each r (s r h))
+        (λ all. never (cut f ps (λ r. Contains rs r) T all (rs, (λ r h. h), e)))
 
     maybe_sides : (r : TermRequirement) → HasFollowingSides f ps S r → Maybe (HasFollowingSides f ps T r)
     maybe_sides (Conforms t p) h never = maybe_cut h never
@@ -51,29 +52,35 @@ module _ (f : TermFacts) (ps : List ParamId) (list gs : List TermRequirement) (g
   L = Written ps list
 
   -- each canonical requirement may follow from the generators
-  maybe_canonical : {r : TermRequirement} → IsAccessible RequirementBefore r → IsCanonical f L r → Maybe (Follows f ps (λ r. Contains gs r) (Requires r))
+  maybe_canonical : {r : TermRequirement} → IsAccessible RequirementBefore r → IsCanonical f L r
+      → Maybe (Follows f ps (λ r. Contains gs r) (Requires r))
   maybe_canonical (reached {a = r} below) c never =
       let follows : (q : TermRequirement) → IsEarlier f L r q → Maybe (Follows f ps (λ z. Contains gs z) (Requires q))
       = λ q e. maybe_canonical (below q e.1) e.0 in
       let generator : Contains gs r → ⊥
-      = λ h. maybe_sides f ps (IsOfEarlierType f ps list (principal r)) (λ z. Contains gs z) (λ q i. follows q (i.0, inl i.1)) r (sides_by_earlier f ps list r c)
+      = λ h. maybe_sides f ps (IsOfEarlierType f ps list (principal r)) (λ z. Contains gs z) (λ q i. follows q (i.0, inl i.1)) r
+      (sides_by_earlier f ps list r c)
       (λ sides. never (itself f ps (λ z. Contains gs z) r h sides)) in
       generator ((generators.members r).1 (c, λ h. maybe_cut f ps (IsEarlier f L r) (λ z. Contains gs z) follows h never))
 
   maybe_generated : HasReducedTypes f L → (st : TermStatement) → Derivable f L st → Maybe (Derivable f (Written ps gs) st)
   maybe_generated reduce st e never =
-      maybe_cut f ps (IsCanonical f L) (λ r. Contains gs r) (λ r c. maybe_canonical (requirements_founded r) c) (suffice f ps list reduce st e) (λ h. never (by_members h))
+      maybe_cut f ps (IsCanonical f L) (λ r. Contains gs r) (λ r c. maybe_canonical (requirements_founded r) c)
+      (suffice f ps list reduce st e) (λ h. never (by_members h))
 
 -- what the one list derives the other does, where the completions of both have ended
-one_way : (m : Symbols) (f : TermFacts) (ps : List ParamId) (list others out : List TermRequirement) → IsCompleted m f ps list → IsCompleted m f ps others
-    → IsMinimised f ps list out → IsMinimised f ps others out → (st : TermStatement) → Derivable f (Written ps list) st → Derivable f (Written ps others) st
+one_way : (m : Symbols) (f : TermFacts) (ps : List ParamId) (list others out : List TermRequirement) → IsCompleted m f ps list
+    → IsCompleted m f ps others
+    → IsMinimised f ps list out → IsMinimised f ps others out → (st : TermStatement) → Derivable f (Written ps list) st
+    → Derivable f (Written ps others) st
 one_way m f ps list others out ended also_ended a b st e = elim (derivable_here m f ps others also_ended st) [
   | yes d ↦ d
   | no n ↦ absurd (maybe_generated f ps list a.generators a.are_generators (reduced_here m f ps list ended) st e
       (λ d. n (derived_by_list f ps others out (minimised_canonical f ps others out b) st ((same_left f ps a.leaves st).0 d))))
 ]
 
-pub same_by_one : (m : Symbols) (f : TermFacts) (ps : List ParamId) (list others out : List TermRequirement) → IsCompleted m f ps list → IsCompleted m f ps others
+pub same_by_one : (m : Symbols) (f : TermFacts) (ps : List ParamId) (list others out : List TermRequirement) → IsCompleted m f ps list
+    → IsCompleted m f ps others
     → IsMinimised f ps list out → IsMinimised f ps others out → AreEquivalent f ps list others
 same_by_one m f ps list others out ended also_ended a b st =
     (one_way m f ps list others out ended also_ended a b st, one_way m f ps others list out also_ended ended b a st)

@@ -48,9 +48,11 @@ completed limits w g closed in_text ended =
     let (used, last) = ended.of_protocols in
     let (own_used, own_last) = ended.of_list in
     let rules : AreProtocolRules m f ended.rules = protocols_law m f symbols of_text limits used ended.rules ended.first last in
-    let own : AreListRules m f gs list ended.own = list_law m f symbols of_text limits ended.rules rules gs list in_text own_used ended.own ended.more own_last in
+    let own : AreListRules m f gs list ended.own =
+    list_law m f symbols of_text limits ended.rules rules gs list in_text own_used ended.own ended.more own_last in
     let meet : PairsMeet ended.rules = last_meet limits (protocols_of w) used ended.rules ended.first none_meet last in
-    let own_meet : PairsMeet ended.own = last_meet limits (list_of w ended.rules g.params list) own_used ended.own ended.more meet own_last in
+    let own_meet : PairsMeet ended.own =
+    last_meet limits (list_of w ended.rules g.params list) own_used ended.own ended.more meet own_last in
     record {
       symbols = symbols;
       of_text = of_text;

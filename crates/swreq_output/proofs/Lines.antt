@@ -42,7 +42,8 @@ line_appended P terms w f of_machine params list alike read minimised same holds
       signature_text w.lexicon (generic_params g.params) list ++ codes "\n",
       record {
         list = list;
-        minimised = subst (λ (p : Params). IsMinimised (facts_of (world_by terms w)) (generic_params p) (written_list g) list) alike minimised;
+        minimised =
+            subst (λ (p : Params). IsMinimised (facts_of (world_by terms w)) (generic_params p) (written_list g) list) alike minimised;
         same = subst (λ (p : Params). AreEquivalent (facts_of (world_by terms w)) (generic_params p) (written_list g) list) alike same;
         line_is = refl;
       },
@@ -53,8 +54,10 @@ line_appended P terms w f of_machine params list alike read minimised same holds
 pub line_read : (P : List ℕ → Type 0) (terms new_terms : List Term) (w : IdWorld) (f : FuncId) (of_machine params : Params)
     (rs shown : List Requirement)
     → of_machine ≡ (signature_at (world_by terms w) f).params → params ≡ (signature_at w f).params → shown ≡ rs
-    → IsMinimised (facts_of (world_by terms w)) (generic_params of_machine) (written_list (signature_at (world_by terms w) f)) (listed new_terms rs)
-    → AreEquivalent (facts_of (world_by terms w)) (generic_params of_machine) (written_list (signature_at (world_by terms w) f)) (listed new_terms rs)
+    → IsMinimised (facts_of (world_by terms w)) (generic_params of_machine)
+    (written_list (signature_at (world_by terms w) f)) (listed new_terms rs)
+    → AreEquivalent (facts_of (world_by terms w)) (generic_params of_machine)
+    (written_list (signature_at (world_by terms w) f)) (listed new_terms rs)
     → P (signature_text w.lexicon (generic_params params) (listed new_terms shown) ++ codes "\n")
     → (line : List ℕ) × IsMinimisedLine (world_by terms w) (signature_at (world_by terms w) f) line × P line
 line_read P terms new_terms w f of_machine params rs shown alike read are minimised same holds =
@@ -77,7 +80,8 @@ system_read P w g machine own rules shown is same of_machine reduced are holds =
       record {
         rules = rules;
         reduced = subst (λ (p : Params). IsReducedSystem (AreCongruent m f (WrittenList (generic_params p) list)) rules) same
-            (reduced_system (last_rules machine.rounds) (UsableEquation m f (WrittenList (generic_params machine.params) list)) is.rules rules here);
+            (reduced_system (last_rules machine.rounds)
+            (UsableEquation m f (WrittenList (generic_params machine.params) list)) is.rules rules here);
         text_is = refl;
       },
       subst (λ (z : List Rule). P (system_text w g z)) are holds,

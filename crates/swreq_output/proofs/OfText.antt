@@ -39,7 +39,8 @@ module _ (x : LexiconView) where
   type_of Is numbers t i h = (numbers (head t) i, h)
 
   -- a requirement of the text, over generic parameters whose numbers have 32 bits
-  pub requirement_is : (Is : ParamId → Type 0) → ((g : ParamId) → Is g → HasNumbers g) → (r : TermRequirement) → IsRequirementOf x r → IsOver Is r
+  pub requirement_is : (Is : ParamId → Type 0) → ((g : ParamId) → Is g → HasNumbers g) → (r : TermRequirement)
+      → IsRequirementOf x r → IsOver Is r
       → IsReadableRequirement x r
   requirement_is Is numbers (Conforms t p) h i = (type_of Is numbers t i h.0, h.1)
   requirement_is Is numbers (IsAnyObject t) h i = type_of Is numbers t i h
@@ -55,10 +56,12 @@ module _ (w : TextWorld) (is : IsClosed w) where
   pub of_protocol : (p : ProtoId) (r : TermRequirement) → Contains ((facts_of w).of_protocol p) r → IsRequirementOf x r
   of_protocol p r c = elim (cases_lt p.rank (length w.requirements)) [
     | inl l ↦ among (requirements_of w p) (All-get_or (λ z. All (IsOfProtocol x) z) w.requirements p.rank [] l is.requirements) c
-    | inr l ↦ no_member r (subst (λ z. Contains (map (λ (q : PlacedRequirement). q.requirement) z) r) (get_or_past w.requirements p.rank [] l) c)
+    | inr l ↦
+        no_member r (subst (λ z. Contains (map (λ (q : PlacedRequirement). q.requirement) z) r) (get_or_past w.requirements p.rank [] l) c)
   ]
     where
-      among : (rs : List PlacedRequirement) → All (IsOfProtocol x) rs → Contains (map (λ (q : PlacedRequirement). q.requirement) rs) r → IsRequirementOf x r
+      among : (rs : List PlacedRequirement) → All (IsOfProtocol x) rs
+          → Contains (map (λ (q : PlacedRequirement). q.requirement) rs) r → IsRequirementOf x r
       among rs all k =
           let each = All-weaker (IsOfProtocol x) (λ q. IsRequirementOf x q.requirement) (λ q h. h.0) rs all in
           All-contains (IsRequirementOf x) (map (λ (q : PlacedRequirement). q.requirement) rs) r

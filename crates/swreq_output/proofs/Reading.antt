@@ -34,8 +34,10 @@ module _ (terms : List Term) (w : IdWorld) where
       → GrewByPart out (full_name (world_by terms w) (signature_at (world_by terms w) f)) new
   name_grew f out new part = subst (λ (name : List ℕ). GrewByPart out name new) (sym (full_name_is f)) part
 
-  pub name_appended : (f : FuncId) (out mid new name : List ℕ) → mid ≡ out ++ option_map_or (λ outer. outer ++ codes ".") (outer_name w (signature_at w f).outer) []
+  pub name_appended : (f : FuncId) (out mid new name : List ℕ)
+      → mid ≡ out ++ option_map_or (λ outer. outer ++ codes ".") (outer_name w (signature_at w f).outer) []
       → name ≡ (signature_at w f).name → new ≡ mid ++ name → new ≡ out ++ full_name (world_by terms w) (signature_at (world_by terms w) f)
   name_appended f out mid new name m n e =
-      e ∙ (λ i. m i ++ n i) ∙ append_assoc out (option_map_or (λ outer. outer ++ codes ".") (outer_name w (signature_at w f).outer) []) (signature_at w f).name
+      e ∙ (λ i. m i ++ n i)
+      ∙ append_assoc out (option_map_or (λ outer. outer ++ codes ".") (outer_name w (signature_at w f).outer) []) (signature_at w f).name
       ∙ ap (λ z. out ++ z) (sym (full_name_is f))

@@ -19,7 +19,8 @@ rule_line x r = codes "  " ++ (rule_text x r ++ codes "\n")
 
 -- the name of the signature and the number of the rules, and then each rule
 abbrev pub system_text : TextWorld → SignatureOver PlacedRequirement → List Rule → Text
-system_text w g rules = full_name w g ++ (codes ": " ++ (decimal (length rules) ++ (codes " rules\n" ++ flat_map (rule_line w.lexicon) rules)))
+system_text w g rules =
+    full_name w g ++ (codes ": " ++ (decimal (length rules) ++ (codes " rules\n" ++ flat_map (rule_line w.lexicon) rules)))
 
 -- The text is that of the reduced system of the congruence by the equations of the usable requirements of the protocols and of the
 -- signature.

@@ -24,17 +24,22 @@ pub fn signatures_print_once()
 
 /// Equivalent signatures with the same generic parameters have one minimised line.
 pub fn equivalent_signatures_print_alike()
-    ensures { (w : TextWorld) (g h : SignatureOver PlacedRequirement) (line other : List ℕ) → g.params ≡ h.params
+    ensures { (w : TextWorld) (g h : SignatureOver PlacedRequirement) (line other : List ℕ)
+        → g.params ≡ h.params
         → AreEquivalent (facts_of w) (generic_params g.params) (written_list g) (written_list h)
         → IsMinimisedLine w g line → IsMinimisedLine w h other → line ≡ other }
 {}
 
 /// Signatures of a text with one minimised line have the same generic parameters, and where their rounds have ended they are equivalent.
 pub fn signatures_that_print_alike_are_equivalent(text: &[u8])
-    ensures params { (w : TextWorld) (g h : SignatureOver PlacedRequirement) (line : List ℕ) → IsWorldOfText text.now w
-        → Contains w.signatures g → Contains w.signatures h → IsMinimisedLine w g line → IsMinimisedLine w h line → g.params ≡ h.params }
-    ensures equivalent { (limits : Limits) (w : TextWorld) (g h : SignatureOver PlacedRequirement) (line : List ℕ) → IsWorldOfText text.now w
-        → Contains w.signatures g → Contains w.signatures h → HasEnded limits w g → HasEnded limits w h
+    ensures params { (w : TextWorld) (g h : SignatureOver PlacedRequirement) (line : List ℕ)
+        → IsWorldOfText text.now w
+        → Contains w.signatures g → Contains w.signatures h → IsMinimisedLine w g line
+        → IsMinimisedLine w h line → g.params ≡ h.params }
+    ensures equivalent { (limits : Limits) (w : TextWorld) (g h : SignatureOver PlacedRequirement)
+        (line : List ℕ) → IsWorldOfText text.now w
+        → Contains w.signatures g → Contains w.signatures h
+        → HasEnded limits w g → HasEnded limits w h
         → IsMinimisedLine w g line → IsMinimisedLine w h line
         → AreEquivalent (facts_of w) (generic_params g.params) (written_list g) (written_list h) }
 {}

@@ -41,9 +41,11 @@ fn put_signature(
 ) -> Result<(), AllocError>
     requires { AreKnown table.now world.now.lexicon list.now }
     ensures ok { OnOk result (out.new.items ≡ out.old.items
-        ++ (signature_text world.now.lexicon (generic_params params) (listed table.now list.now) ++ codes "\n")) }
+        ++ (signature_text world.now.lexicon (generic_params params) (listed table.now list.now)
+        ++ codes "\n")) }
     ensures err { OnErr result (GrewByPart out.old.items
-        (signature_text world.now.lexicon (generic_params params) (listed table.now list.now) ++ codes "\n") out.new.items) }
+        (signature_text world.now.lexicon (generic_params params) (listed table.now list.now)
+        ++ codes "\n") out.new.items) }
 {
     signature_text(alloc, world.lexicon(), table, params, list, out)?;
     append_bytes(out, b"\n")
@@ -60,10 +62,12 @@ fn put_line(
 ) -> Result<(), Failed>
     requires { AreKnown table.now world.now.lexicon list.now }
     ensures line { OnOk result (out.new.items ≡ out.old.items
-        ++ (signature_text world.now.lexicon (generic_params params) (listed table.now list.now) ++ codes "\n")) }
+        ++ (signature_text world.now.lexicon (generic_params params) (listed table.now list.now)
+        ++ codes "\n")) }
     ensures failed { IfErr result (λ failed. failed ≡ Memory) }
     ensures part { OnErr result (GrewByPart out.old.items
-        (signature_text world.now.lexicon (generic_params params) (listed table.now list.now) ++ codes "\n") out.new.items) }
+        (signature_text world.now.lexicon (generic_params params) (listed table.now list.now)
+        ++ codes "\n") out.new.items) }
 {
     match put_signature(alloc, world, table, params, list, out) {
         Ok(()) => Ok(()),
@@ -88,21 +92,27 @@ pub fn minimised_line<W: Watch>(
     out: &mut Vec<u8>,
 ) -> Result<(), Failed>
     requires text { IsTextOver table.old world.now }
-    requires protocols { AreRulesOf (world_by table.old world.now) (last_rules protocols.now.rounds) }
+    requires protocols { AreRulesOf (world_by table.old world.now)
+        (last_rules protocols.now.rounds) }
     requires f { f.place < length world.now.signatures }
-    requires machine { IsMachineOf (world_by table.old world.now) (written_list (signature_at (world_by table.old world.now) f)) machine.now }
+    requires machine { IsMachineOf (world_by table.old world.now)
+        (written_list (signature_at (world_by table.old world.now) f)) machine.now }
     requires params { machine.now.params ≡ (signature_at (world_by table.old world.now) f).params }
     requires limits { AreInRange limits }
-    ensures line { OnOk result ((line : List ℕ) × IsMinimisedLine (world_by table.old world.now) (signature_at (world_by table.old world.now) f) line
+    ensures line { OnOk result ((line : List ℕ) × IsMinimisedLine (world_by table.old world.now)
+        (signature_at (world_by table.old world.now) f) line
         × (out.new.items ≡ out.old.items ++ line)) }
     ensures told { OnOk result ((told : List Event)
-        × MinimisingTells limits (world_by table.old world.now) (last_rules protocols.now.rounds) (signature_at (world_by table.old world.now) f) told
+        × MinimisingTells limits (world_by table.old world.now) (last_rules protocols.now.rounds)
+        (signature_at (world_by table.old world.now) f) told
         × GrewBy (W.told watch.old) (W.told watch.new) told) }
     ensures failed { IfErr result (λ failed. (told : List Event)
-        × MinimisingFails limits (world_by table.old world.now) (last_rules protocols.now.rounds) (signature_at (world_by table.old world.now) f) failed told
+        × MinimisingFails limits (world_by table.old world.now) (last_rules protocols.now.rounds)
+        (signature_at (world_by table.old world.now) f) failed told
         × GrewBy (W.told watch.old) (W.told watch.new) told) }
     ensures part { OnErr result ((out.new.items ≡ out.old.items) ⊎ ((line : List ℕ)
-        × IsMinimisedLine (world_by table.old world.now) (signature_at (world_by table.old world.now) f) line
+        × IsMinimisedLine (world_by table.old world.now)
+        (signature_at (world_by table.old world.now) f) line
         × GrewByPart out.old.items line out.new.items)) }
     ensures unchanged { IfErr result (λ failed. failed ≢ Memory → out.new.items ≡ out.old.items) }
     ensures extends { Extends table.old table.new }

@@ -17,9 +17,11 @@ use swreq_world::{FuncId, World};
 fn put_outer(world: &World, f: FuncId, out: &mut Vec<u8>) -> Result<(), AllocError>
     requires { f.place < length world.now.signatures }
     ensures ok { OnOk result (out.new.items ≡ out.old.items
-        ++ option_map_or (λ outer. outer ++ codes ".") (outer_name world.now (signature_at world.now f).outer) []) }
+        ++ option_map_or (λ outer. outer ++ codes ".")
+        (outer_name world.now (signature_at world.now f).outer) []) }
     ensures err { OnErr result (GrewByPart out.old.items
-        (option_map_or (λ outer. outer ++ codes ".") (outer_name world.now (signature_at world.now f).outer) []) out.new.items) }
+        (option_map_or (λ outer. outer ++ codes ".")
+        (outer_name world.now (signature_at world.now f).outer) []) out.new.items) }
 {
     match world.func_outer(f) {
         None => Ok(()),
@@ -40,9 +42,11 @@ pub fn full_name(
 ) -> Result<(), AllocError>
     requires { f.place < length world.now.signatures }
     ensures ok { OnOk result (out.new.items
-        ≡ out.old.items ++ full_name (world_by table.now world.now) (signature_at (world_by table.now world.now) f)) }
+        ≡ out.old.items ++ full_name (world_by table.now world.now)
+        (signature_at (world_by table.now world.now) f)) }
     ensures err { OnErr result (GrewByPart out.old.items
-        (full_name (world_by table.now world.now) (signature_at (world_by table.now world.now) f)) out.new.items) }
+        (full_name (world_by table.now world.now)
+        (signature_at (world_by table.now world.now) f)) out.new.items) }
 {
     let _ = table;
     put_outer(world, f, out)?;

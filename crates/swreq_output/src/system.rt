@@ -52,7 +52,8 @@ fn put_rule(
     out: &mut Vec<u8>,
 ) -> Result<(), AllocError>
     ensures ok { OnOk result (out.new.items ≡ out.old.items ++ rule_line names.now rule.now) }
-    ensures err { OnErr result (GrewByPart out.old.items (rule_line names.now rule.now) out.new.items) }
+    ensures err { OnErr result
+        (GrewByPart out.old.items (rule_line names.now rule.now) out.new.items) }
 {
     append_bytes(out, b"  ")?;
     rule_text(alloc, names, rule, out)?;
@@ -66,8 +67,10 @@ fn put_rules(
     rules: &[Rule],
     out: &mut Vec<u8>,
 ) -> Result<(), AllocError>
-    ensures ok { OnOk result (out.new.items ≡ out.old.items ++ flat_map (rule_line names.now) rules.now) }
-    ensures err { OnErr result (GrewByPart out.old.items (flat_map (rule_line names.now) rules.now) out.new.items) }
+    ensures ok { OnOk result
+        (out.new.items ≡ out.old.items ++ flat_map (rule_line names.now) rules.now) }
+    ensures err { OnErr result
+        (GrewByPart out.old.items (flat_map (rule_line names.now) rules.now) out.new.items) }
 {
     for k in 0..rules.len() {
         let rule = &rules[k];
@@ -87,9 +90,11 @@ fn put_system(
 ) -> Result<(), AllocError>
     requires { f.place < length world.now.signatures }
     ensures ok { OnOk result (out.new.items ≡ out.old.items
-        ++ system_text (world_by table.now world.now) (signature_at (world_by table.now world.now) f) rules.now) }
+        ++ system_text (world_by table.now world.now)
+        (signature_at (world_by table.now world.now) f) rules.now) }
     ensures err { OnErr result (GrewByPart out.old.items
-        (system_text (world_by table.now world.now) (signature_at (world_by table.now world.now) f) rules.now) out.new.items) }
+        (system_text (world_by table.now world.now)
+        (signature_at (world_by table.now world.now) f) rules.now) out.new.items) }
 {
     put_head(world, table, f, rules.len(), out)?;
     put_rules(alloc, world.lexicon(), rules, out)
@@ -107,13 +112,16 @@ pub fn system_text(
 ) -> Result<(), AllocError>
     requires text { IsTextOver table.now world.now }
     requires f { f.place < length world.now.signatures }
-    requires machine { IsMachineOf (world_by table.now world.now) (written_list (signature_at (world_by table.now world.now) f)) machine.now }
+    requires machine { IsMachineOf (world_by table.now world.now)
+        (written_list (signature_at (world_by table.now world.now) f)) machine.now }
     requires params { machine.now.params ≡ (signature_at (world_by table.now world.now) f).params }
     ensures ok { OnOk result ((text : List ℕ)
-        × IsSystemText (world_by table.now world.now) (signature_at (world_by table.now world.now) f) text
+        × IsSystemText (world_by table.now world.now)
+        (signature_at (world_by table.now world.now) f) text
         × (out.new.items ≡ out.old.items ++ text)) }
     ensures err { OnErr result ((out.new.items ≡ out.old.items) ⊎ ((text : List ℕ)
-        × IsSystemText (world_by table.now world.now) (signature_at (world_by table.now world.now) f) text
+        × IsSystemText (world_by table.now world.now)
+        (signature_at (world_by table.now world.now) f) text
         × GrewByPart out.old.items text out.new.items)) }
 {
     match machine.rules().canonical(alloc) {

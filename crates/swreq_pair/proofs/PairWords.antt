@@ -14,12 +14,19 @@ module _ (first second : Rule) (at : ℕ) (left right : List Symbol) where
   abbrev word : List Symbol
   word = first.left ++ drop (length first.left - at) second.left
 
-  of_overlap : OverlapPair first second at left right → Replaced word left first.left first.right × Replaced word right second.left second.right
+  of_overlap : OverlapPair first second at left right
+      → Replaced word left first.left first.right × Replaced word right second.left second.right
   of_overlap p =
       let o = p.overlap in
       let rest = after_is first.left second.left at o in
-      let whole : word ≡ o.before ++ second.left = rw rest (ap (λ x. x ++ o.after) o.first_is ∙ append_assoc o.before o.common o.after ∙ ap (λ x. o.before ++ x) (sym o.second_is)) in (
-        record { before = []; after = drop (length first.left - at) second.left; source = refl; target = p.left_is ∙ ap (λ x. first.right ++ x) (sym rest) },
+      let whole : word ≡ o.before ++ second.left =
+      rw rest (ap (λ x. x ++ o.after) o.first_is ∙ append_assoc o.before o.common o.after ∙ ap (λ x. o.before ++ x) (sym o.second_is)) in (
+        record {
+          before = [];
+          after = drop (length first.left - at) second.left;
+          source = refl;
+          target = p.left_is ∙ ap (λ x. first.right ++ x) (sym rest);
+        },
         record {
           before = o.before;
           after = [];
@@ -28,13 +35,19 @@ module _ (first second : Rule) (at : ℕ) (left right : List Symbol) where
         },
       )
 
-  of_containment : ContainmentPair first second at left right → Replaced word left first.left first.right × Replaced word right second.left second.right
+  of_containment : ContainmentPair first second at left right
+      → Replaced word left first.left first.right × Replaced word right second.left second.right
   of_containment p =
       let o = p.containment in
       let within = containment_within first.left second.left at o in
       let none : drop (length first.left - at) second.left ≡ [] = nil_from_length _ (rw length-drop (omega (arith, within))) in
       let whole : word ≡ first.left = rw none (append-nil first.left) in (
-        record { before = []; after = drop (length first.left - at) second.left; source = refl; target = p.left_is ∙ sym (rw none (append-nil first.right)) },
+        record {
+          before = [];
+          after = drop (length first.left - at) second.left;
+          source = refl;
+          target = p.left_is ∙ sym (rw none (append-nil first.right));
+        },
         record { before = o.before; after = o.after; source = whole ∙ o.first_is; target = p.right_is },
       )
 
@@ -50,6 +63,22 @@ pair_words rules place left right w p is =
       | inl o ↦ of_overlap p.first p.second place.at left right o
       | inr o ↦ of_containment p.first p.second place.at left right o.1
     ] in (
-      (record { rule = p.first; number = place.i; is_rule = p.first_at; at = subst (λ x. Replaced x left p.first.left p.first.right) (sym w_is) steps.0 }, refl),
-      (record { rule = p.second; number = place.j; is_rule = p.second_at; at = subst (λ x. Replaced x right p.second.left p.second.right) (sym w_is) steps.1 }, refl),
+      (
+        record {
+          rule = p.first;
+          number = place.i;
+          is_rule = p.first_at;
+          at = subst (λ x. Replaced x left p.first.left p.first.right) (sym w_is) steps.0;
+        },
+        refl,
+      ),
+      (
+        record {
+          rule = p.second;
+          number = place.j;
+          is_rule = p.second_at;
+          at = subst (λ x. Replaced x right p.second.left p.second.right) (sym w_is) steps.1;
+        },
+        refl,
+      ),
     )

@@ -7,7 +7,8 @@ use Rattle.swreq_rule.specs.Steps.{RuleAt}
 use Rattle.swreq_pair.specs.Pairs.{HasPair}
 use Rattle.swreq_pair.specs.Worked.{a, b, place_with, HavePairs, ordered_places}
 
-overlapping : (rules : List Rule) (r s : Rule) (i j at : ℕ) → RuleAt rules i r → RuleAt rules j s → Overlap r.left s.left at → HasPair rules (place_with i j at)
+overlapping : (rules : List Rule) (r s : Rule) (i j at : ℕ) → RuleAt rules i r → RuleAt rules j s → Overlap r.left s.left at
+    → HasPair rules (place_with i j at)
 overlapping rules r s i j at f g o = (
   r.right ++ o.after,
   o.before ++ s.right,

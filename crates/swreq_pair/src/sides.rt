@@ -80,7 +80,8 @@ pub fn write_sides_of(
     right: &mut Vec<Symbol>,
 ) -> Result<(), AllocError>
     requires { HavePairAt first.now second.now at }
-    ensures { OnOk result ((rules : List Rule) (place : Place) → IsOfRules rules place first.now second.now at → HasPair rules place
+    ensures { OnOk result ((rules : List Rule) (place : Place)
+        → IsOfRules rules place first.now second.now at → HasPair rules place
         → IsPair rules place left.new.items right.new.items) }
 {
     if second.left.symbols().len() <= first.left.symbols().len() - at {

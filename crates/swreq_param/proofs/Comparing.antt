@@ -28,7 +28,8 @@ numbers a b =
     by_ranked (a < b) (a ≡ b) (b < a) (nat_cmp a b) (ranked a b (nat_cmp a b) refl)
     (λ e h. subst (By ◌<◌ a b) (sym e) h) (λ e h. subst (By ◌<◌ a b) (sym e) h) (λ e h. subst (By ◌<◌ a b) (sym e) h)
 
-params_then : (g h : ParamId) (o q : Ordering) → By ◌<◌ g.depth h.depth o → By ◌<◌ g.index h.index q → By ParamBefore g h (ordering_then o q)
+params_then : (g h : ParamId) (o q : Ordering) → By ◌<◌ g.depth h.depth o → By ◌<◌ g.index h.index q
+    → By ParamBefore g h (ordering_then o q)
 params_then g h Less q d i = inl d
 params_then g h Equal Less d i = inr (d, i)
 params_then g h Equal Equal d i = λ j. record { depth = d j; index = i j }
@@ -54,7 +55,8 @@ steps (Bound d) (Name b) = tt
 steps (Name a) (Bound e) = tt
 steps (Name a) (Name b) = name_by a.rank b.rank (nat_cmp a.rank b.rank) (numbers a.rank b.rank)
 
-members_then : (t u : Term) (x y : Step) (o q : Ordering) → By AlikeBefore t u o → By StepBefore x y q → By AlikeBefore (Member t x) (Member u y) (ordering_then o q)
+members_then : (t u : Term) (x y : Step) (o q : Ordering) → By AlikeBefore t u o → By StepBefore x y q
+    → By AlikeBefore (Member t x) (Member u y) (ordering_then o q)
 members_then t u x y Less q h k = inl h
 members_then t u x y Equal Less h k = inr (h, k)
 members_then t u x y Equal Equal h k = λ i. Member (h i) (k i)
@@ -79,14 +81,16 @@ of_alike t u Greater n h = inr (sym n, h)
 
 pub term_compares : (t u : Term) → Compares t u (term_cmp t u)
 term_compares t u =
-    by_ranked (member_count t < member_count u) (member_count t ≡ member_count u) (member_count u < member_count t) (nat_cmp (member_count t) (member_count u))
+    by_ranked (member_count t < member_count u) (member_count t ≡ member_count u) (member_count u < member_count t)
+    (nat_cmp (member_count t) (member_count u))
     (ranked (member_count t) (member_count u) (nat_cmp (member_count t) (member_count u)) refl)
     (λ e h. subst (Compares t u) (sym (ap (λ o. ordering_then o (alike_cmp t u)) e)) (inl h))
     (λ e h. subst (Compares t u) (sym (ap (λ o. ordering_then o (alike_cmp t u)) e)) (of_alike t u (alike_cmp t u) h (alike t u h)))
     (λ e h. subst (Compares t u) (sym (ap (λ o. ordering_then o (alike_cmp t u)) e)) (inl h))
 
 -- the end of a walk down both chains of bases, with the comparison of the steps that were passed
-pub walked_compares : (t u l r : Term) (after o : Ordering) → ordering_then (alike_cmp l r) after ≡ alike_cmp t u → o ≡ ordering_then (alike_cmp l r) after → Compares t u o
+pub walked_compares : (t u l r : Term) (after o : Ordering) → ordering_then (alike_cmp l r) after ≡ alike_cmp t u
+    → o ≡ ordering_then (alike_cmp l r) after → Compares t u o
 walked_compares t u l r after o inv e = subst (Compares t u) (sym (walked t u l r after o inv e)) (term_compares t u)
 
 same_compares : (t : Term) (o : Ordering) → Compares t t o → o ≡ Equal
@@ -95,7 +99,8 @@ same_compares t Equal h = refl
 same_compares t Greater h = absurd (strict t h)
 
 -- Where ids are told apart, two are equal if and only if their type parameters compare so.
-pub equal_ids : (ts : List Term) (a b : TermId) (o : Ordering) → AreDistinct ts → IsOf ts a → IsOf ts b → Compares (term_at ts a) (term_at ts b) o → (o ≡ Equal) ↔ (a ≡ b)
+pub equal_ids : (ts : List Term) (a b : TermId) (o : Ordering) → AreDistinct ts → IsOf ts a → IsOf ts b
+    → Compares (term_at ts a) (term_at ts b) o → (o ≡ Equal) ↔ (a ≡ b)
 equal_ids ts a b o d h k c = (
   (λ e. d a b h k (subst (Compares (term_at ts a) (term_at ts b)) e c)),
   λ e. same_compares (term_at ts b) o (subst (λ x. Compares (term_at ts x) (term_at ts b) o) e c),

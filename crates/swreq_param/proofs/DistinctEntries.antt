@@ -72,7 +72,8 @@ module _ {K : Type 0} (eq : K → K → Bool) (laws : IsEquivalence eq) where
 
   found_any : (xs : List K) (i : ℕ) (x : K) → slice_get xs i ≡ Some x → list_any (eq x) xs ≡ true
   found_any [] i x h = absurd cc
-  found_any (y ∷ ys) zero x h = let same : y ≡ x = cc in ap (λ b. b || list_any (eq x) ys) (subst (λ z. eq x z ≡ true) (sym same) (laws.refl x))
+  found_any (y ∷ ys) zero x h =
+      let same : y ≡ x = cc in ap (λ b. b || list_any (eq x) ys) (subst (λ z. eq x z ≡ true) (sym same) (laws.refl x))
   found_any (y ∷ ys) (suc i) x h = ap (λ b. eq x y || b) (found_any ys i x h) ∙ or-true (eq x y)
 
 pub each_once : (es : List Entry) → IsDistinct eq-value.it es → IsOnce es
@@ -83,14 +84,16 @@ pub are_distinct : (es : List Entry) (ts : List Term) → AreGrounded es → IsD
 are_distinct es ts g d s = subst AreDistinct s (distinct es g (each_once es d))
 
 -- an entry whose type parameter is there is there
-there : (es : List Entry) (e : Entry) → AreGrounded es → IsOnce es → IsBelow (length es) e → Contains (terms_of es) (term_of (terms_of es) e)
+there : (es : List Entry) (e : Entry) → AreGrounded es → IsOnce es → IsBelow (length es) e
+    → Contains (terms_of es) (term_of (terms_of es) e)
     → (i : ℕ) × (slice_get es i ≡ Some e)
 there es e g one b h =
     let len : length (terms_of es) ≡ length es = length_terms es in
     let t : TermId = record { place = h.0 } in
     let x = entry_at es h.0 (omega (arith, h.1)) in
     let ax = entry_is es t x.0 g x.1 in
-    let stands : term_at (terms_of es) t ≡ term_of (terms_of es) e = get_or_default (terms_of es) h.0 self (term_of (terms_of es) e) h.1 ∙ h.2 in
+    let stands : term_at (terms_of es) t ≡ term_of (terms_of es) e =
+    get_or_default (terms_of es) h.0 self (term_of (terms_of es) e) h.1 ∙ h.2 in
     let same : x.0 ≡ e = entries_alike (terms_of es) t.place (length es) x.0 e ax.1 b
     (λ c d i j s. distinct es g one c d (omega (arith, h.1)) (omega arith) s) (sym ax.0 ∙ stands) in
     (h.0, x.1 ∙ ap Some same)
@@ -102,14 +105,16 @@ found_at es e i h =
     let p = position-Some (eq-value.it e) es i e h in
     slice_get-get_or es i e p.0 ∙ ap Some (sym (entry_same e (get_or es i e) p.1))
 
-pub stands_at : (es : List Entry) (ts : List Term) (e : Entry) (t : TermId) → AreGrounded es → terms_of es ≡ ts → slice_get es t.place ≡ Some e → IsOf ts t × (term_at ts t ≡ term_of ts e)
+pub stands_at : (es : List Entry) (ts : List Term) (e : Entry) (t : TermId) → AreGrounded es → terms_of es ≡ ts
+    → slice_get es t.place ≡ Some e → IsOf ts t × (term_at ts t ≡ term_of ts e)
 stands_at es ts e t g s h =
     let len : length ts ≡ length es = ap length (sym s) ∙ length_terms es in
     let below : t.place < length es = slice_get_within es t.place e h in
     (omega arith, subst (λ us. term_at us t ≡ term_of us e) s (entry_is es t e g h).0)
 
 -- the type parameter of an entry that no place has is not there
-pub is_absent : (es : List Entry) (ts : List Term) (e : Entry) → AreGrounded es → IsOnce es → terms_of es ≡ ts → IsBelow (length ts) e → list_any (eq-value.it e) es ≡ false → Contains ts (term_of ts e) → ⊥
+pub is_absent : (es : List Entry) (ts : List Term) (e : Entry) → AreGrounded es → IsOnce es → terms_of es ≡ ts → IsBelow (length ts) e
+    → list_any (eq-value.it e) es ≡ false → Contains ts (term_of ts e) → ⊥
 is_absent es ts e g one s b none h =
     let len : length ts ≡ length es = ap length (sym s) ∙ length_terms es in
     let k = there es e g one (subst (λ n. IsBelow n e) len b) (subst (λ us. Contains us (term_of us e)) (sym s) h) in

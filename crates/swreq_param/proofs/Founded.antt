@@ -1,5 +1,5 @@
--- Nothing goes down from a type parameter for ever: by induction on the number of members, and for type parameters of one number on the base
--- and then on the last step.
+-- Nothing goes down from a type parameter for ever: by induction on the number of members, and for type parameters of one number on the
+-- base and then on the last step.
 use Rattle.std.proofs.Common.{◌≡◌, ℕ, ◌<◌, inl, inr, refl, sym, ◌∙◌, subst, arith}
 use Rattle.swreq_orders.specs.WellFounded.{IsAccessible, IsWellFounded}
 use Rattle.swreq_orders.specs.WellFounded.IsAccessible.{reached}
@@ -14,7 +14,8 @@ use Rattle.swreq_param.specs.Order.{ParamBefore, StepBefore, AlikeBefore, TermBe
 params_founded : (d i : ℕ) → IsAccessible ParamBefore (record { depth = d; index = i })
 params_founded d i =
     by_below (λ d. (i : ℕ) → IsAccessible ParamBefore (record { depth = d; index = i }))
-    (λ d ihd i. by_below (λ i. IsAccessible ParamBefore (record { depth = d; index = i })) (λ i ihi. reached (below d ihd i ihi)) (numbers_founded i))
+    (λ d ihd i.
+    by_below (λ i. IsAccessible ParamBefore (record { depth = d; index = i })) (λ i ihi. reached (below d ihd i ihi)) (numbers_founded i))
     (numbers_founded d) i
   where
     below : (d : ℕ) → ((e : ℕ) → e < d → (j : ℕ) → IsAccessible ParamBefore (record { depth = e; index = j })) → (i : ℕ)
@@ -26,14 +27,16 @@ params_founded d i =
 bound_founded : (n : ℕ) → IsAccessible StepBefore (Bound (record { rank = n }))
 bound_founded n = by_below (λ n. IsAccessible StepBefore (Bound (record { rank = n }))) (λ n ih. reached (below n ih)) (numbers_founded n)
   where
-    below : (n : ℕ) → ((m : ℕ) → m < n → IsAccessible StepBefore (Bound (record { rank = m }))) → (x : Step) → StepBefore x (Bound (record { rank = n })) → IsAccessible StepBefore x
+    below : (n : ℕ) → ((m : ℕ) → m < n → IsAccessible StepBefore (Bound (record { rank = m }))) → (x : Step)
+        → StepBefore x (Bound (record { rank = n })) → IsAccessible StepBefore x
     below n ih (Bound d) h = ih d.rank h
     below n ih (Name a) h = absurd h
 
 name_founded : (n : ℕ) → IsAccessible StepBefore (Name (record { rank = n }))
 name_founded n = by_below (λ n. IsAccessible StepBefore (Name (record { rank = n }))) (λ n ih. reached (below n ih)) (numbers_founded n)
   where
-    below : (n : ℕ) → ((m : ℕ) → m < n → IsAccessible StepBefore (Name (record { rank = m }))) → (x : Step) → StepBefore x (Name (record { rank = n })) → IsAccessible StepBefore x
+    below : (n : ℕ) → ((m : ℕ) → m < n → IsAccessible StepBefore (Name (record { rank = m }))) → (x : Step)
+        → StepBefore x (Name (record { rank = n })) → IsAccessible StepBefore x
     below n ih (Bound d) h = bound_founded d.rank
     below n ih (Name a) h = ih a.rank h
 
@@ -45,14 +48,16 @@ steps_founded (Name a) = name_founded a.rank
 abbrev Same< : Term → Term → Type 0
 Same< t u = (member_count t ≡ member_count u) × AlikeBefore t u
 
-below_generic : (g : ParamId) → ((h : ParamId) → ParamBefore h g → IsAccessible Same< (Generic h)) → (u : Term) → Same< u (Generic g) → IsAccessible Same< u
+below_generic : (g : ParamId) → ((h : ParamId) → ParamBefore h g → IsAccessible Same< (Generic h)) → (u : Term)
+    → Same< u (Generic g) → IsAccessible Same< u
 below_generic g ih (Generic h) l = ih h l.1
 below_generic g ih (Member v y) l = absurd l.1
 
 generic_founded : (g : ParamId) → IsAccessible Same< (Generic g)
 generic_founded g = by_below (λ g. IsAccessible Same< (Generic g)) (λ g ih. reached (below_generic g ih)) (params_founded g.depth g.index)
 
-below_member : (t : Term) (x : Step) → ((u : Term) → Same< u t → (y : Step) → IsAccessible Same< (Member u y)) → ((y : Step) → StepBefore y x → IsAccessible Same< (Member t y))
+below_member : (t : Term) (x : Step) → ((u : Term) → Same< u t → (y : Step) → IsAccessible Same< (Member u y))
+    → ((y : Step) → StepBefore y x → IsAccessible Same< (Member t y))
     → (u : Term) → Same< u (Member t x) → IsAccessible Same< u
 below_member t x iht ihx (Generic g) l = absurd l.1
 below_member t x iht ihx (Member v y) (n, inl h) = iht v (omega (arith, n), h) y
@@ -65,13 +70,16 @@ same_founded (Member t x) =
     (λ t iht x. by_below (λ x. IsAccessible Same< (Member t x)) (λ x ihx. reached (below_member t x iht ihx)) (steps_founded x))
     (same_founded t) x
 
-of_count : (n : ℕ) → ((m : ℕ) → m < n → (u : Term) → member_count u ≡ m → IsAccessible TermBefore u) → (t : Term) → member_count t ≡ n → IsAccessible TermBefore t
+of_count : (n : ℕ) → ((m : ℕ) → m < n → (u : Term) → member_count u ≡ m → IsAccessible TermBefore u) → (t : Term) → member_count t ≡ n
+    → IsAccessible TermBefore t
 of_count n ih t = by_below (λ t. member_count t ≡ n → IsAccessible TermBefore t) (λ t iht e. reached (below t iht e)) (same_founded t)
   where
-    below : (t : Term) → ((u : Term) → Same< u t → member_count u ≡ n → IsAccessible TermBefore u) → member_count t ≡ n → (u : Term) → TermBefore u t → IsAccessible TermBefore u
+    below : (t : Term) → ((u : Term) → Same< u t → member_count u ≡ n → IsAccessible TermBefore u) → member_count t ≡ n → (u : Term)
+        → TermBefore u t → IsAccessible TermBefore u
     below t iht e u (inl h) = ih (member_count u) (omega (arith, h, e)) u refl
     below t iht e u (inr h) = iht u h (h.0 ∙ e)
 
 -- nothing goes down from a type parameter for ever
 pub terms_founded : IsWellFounded TermBefore
-terms_founded t = by_below (λ n. (u : Term) → member_count u ≡ n → IsAccessible TermBefore u) of_count (numbers_founded (member_count t)) t refl
+terms_founded t =
+    by_below (λ n. (u : Term) → member_count u ≡ n → IsAccessible TermBefore u) of_count (numbers_founded (member_count t)) t refl

@@ -24,6 +24,7 @@ pub rest_of : (old new : List Term) → Extends old new → (more : List Term) �
 rest_of [] new h = (new, refl)
 rest_of (t ∷ ts) [] h = absurd (omega (arith, h.longer))
 rest_of (t ∷ ts) (u ∷ us) h =
-    let k = rest_of ts us (record { longer = omega (arith, h.longer); stands = λ x of. h.stands (record { place = suc x.place }) (omega (arith, of)) }) in
+    let k = rest_of ts us
+    (record { longer = omega (arith, h.longer); stands = λ x of. h.stands (record { place = suc x.place }) (omega (arith, of)) }) in
     let e : u ≡ t = h.stands (record { place = 0 }) (omega arith) in
     (k.0, λ i. e i ∷ k.1 i)

@@ -22,7 +22,8 @@ with_entry es e = if list_any (eq-value.it e) es then es else es ++ e ∷ []
 first_at : (e x : Entry) (es : List Entry) (b : Bool) → eq-value.it e x ≡ b → list_any (eq-value.it e) (x ∷ es) ≡ true
     → (list_any (eq-value.it e) es ≡ true → slice_get es (position_or_len (eq-value.it e) es) ≡ Some e)
     → slice_get (x ∷ es) (position_or_len (eq-value.it e) (x ∷ es)) ≡ Some e
-first_at e x es true h any rest = ap (λ c. slice_get (x ∷ es) (cond (not c) (1 + position_or_len (eq-value.it e) es) 0)) h ∙ ap Some (sym (entry_same e x h))
+first_at e x es true h any rest =
+    ap (λ c. slice_get (x ∷ es) (cond (not c) (1 + position_or_len (eq-value.it e) es) 0)) h ∙ ap Some (sym (entry_same e x h))
 first_at e x es false h any rest =
     ap (λ c. slice_get (x ∷ es) (cond (not c) (1 + position_or_len (eq-value.it e) es) 0)) h
     ∙ rw one-add (rest (sym (ap (λ c. c || list_any (eq-value.it e) es) h) ∙ any))
@@ -48,7 +49,8 @@ get_left [] ys k x e = absurd cc
 get_left (y ∷ xs) ys zero x e = e
 get_left (y ∷ xs) ys (suc k) x e = get_left xs ys k x e
 
-module _ (es : List Entry) (ts : List Term) (e : Entry) (grounded : AreGrounded es) (is_view : terms_of es ≡ ts) (below : IsBelow (length ts) e) where
+module _ (es : List Entry) (ts : List Term) (e : Entry) (grounded : AreGrounded es) (is_view : terms_of es ≡ ts)
+    (below : IsBelow (length ts) e) where
   len : length ts ≡ length es
   len = ap length (sym is_view) ∙ length_terms es
 
@@ -58,11 +60,14 @@ module _ (es : List Entry) (ts : List Term) (e : Entry) (grounded : AreGrounded 
   pub with_entry_grounded : (b : Bool) → list_any (eq-value.it e) es ≡ b → AreGrounded (with_entry es e)
   with_entry_grounded true h = subst AreGrounded (sym (ap (λ c. if c then es else es ++ e ∷ []) h)) grounded
   with_entry_grounded false h =
-      subst AreGrounded (sym (ap (λ c. if c then es else es ++ e ∷ []) h)) (grounded_more es e grounded (subst (λ n. IsBelow n e) len below))
+      subst AreGrounded (sym (ap (λ c. if c then es else es ++ e ∷ []) h))
+      (grounded_more es e grounded (subst (λ n. IsBelow n e) len below))
 
   pub with_entry_extends : (b : Bool) → list_any (eq-value.it e) es ≡ b → Extends ts (terms_of (with_entry es e))
-  with_entry_extends true h = at_end ts [] (terms_of (with_entry es e)) (ap (λ c. terms_of (if c then es else es ++ e ∷ [])) h ∙ is_view ∙ sym (append-nil ts))
-  with_entry_extends false h = at_end ts (term_of ts e ∷ []) (terms_of (with_entry es e)) (ap (λ c. terms_of (if c then es else es ++ e ∷ [])) h ∙ more)
+  with_entry_extends true h =
+      at_end ts [] (terms_of (with_entry es e)) (ap (λ c. terms_of (if c then es else es ++ e ∷ [])) h ∙ is_view ∙ sym (append-nil ts))
+  with_entry_extends false h =
+      at_end ts (term_of ts e ∷ []) (terms_of (with_entry es e)) (ap (λ c. terms_of (if c then es else es ++ e ∷ [])) h ∙ more)
 
   pub with_entry_interned : (b : Bool) → list_any (eq-value.it e) es ≡ b → IsDistinct eq-value.it (with_entry es e)
       → (t : TermId) → t.place ≡ position_or_len (eq-value.it e) es → Interned ts (terms_of (with_entry es e)) (term_of ts e) t
@@ -73,7 +78,8 @@ module _ (es : List Entry) (ts : List Term) (e : Entry) (grounded : AreGrounded 
   with_entry_interned false h d t p =
       let l = length-append ts (term_of ts e ∷ []) in
       let place : length ts ≡ t.place = len ∙ sym (p ∙ last_is e es h) in
-      let all : IsOnce (es ++ e ∷ []) = each_once (es ++ e ∷ []) (subst (IsDistinct eq-value.it) (ap (λ c. if c then es else es ++ e ∷ []) h) d) in
+      let all : IsOnce (es ++ e ∷ []) =
+      each_once (es ++ e ∷ []) (subst (IsDistinct eq-value.it) (ap (λ c. if c then es else es ++ e ∷ []) h) d) in
       let one : IsOnce es = λ i j x a b. all i j x (get_left es (e ∷ []) i x a) (get_left es (e ∷ []) j x b) in
       subst (λ us. Interned ts us (term_of ts e) t) (sym (ap (λ c. terms_of (if c then es else es ++ e ∷ [])) h ∙ more)) (record {
         is_of = omega arith;

@@ -25,7 +25,8 @@ kept ts (e ∷ es) i d h =
     let more : i < length (ts ++ term_of ts e ∷ []) = omega (arith, length-append ts (term_of ts e ∷ [])) in
     kept (ts ++ term_of ts e ∷ []) es i d more ∙ get_or_append_left ts (term_of ts e ∷ []) d i h
 
-pushed : (ts : List Term) (es : List Entry) (e : Entry) → terms_after ts (es ++ e ∷ []) ≡ terms_after ts es ++ term_of (terms_after ts es) e ∷ []
+pushed : (ts : List Term) (es : List Entry) (e : Entry)
+    → terms_after ts (es ++ e ∷ []) ≡ terms_after ts es ++ term_of (terms_after ts es) e ∷ []
 pushed ts [] e = refl
 pushed ts (x ∷ es) e = pushed (ts ++ term_of ts x ∷ []) es e
 
@@ -33,31 +34,39 @@ pushed ts (x ∷ es) e = pushed (ts ++ term_of ts x ∷ []) es e
 pub terms_more : (es : List Entry) (e : Entry) → terms_of (es ++ e ∷ []) ≡ terms_of es ++ term_of (terms_of es) e ∷ []
 terms_more es e = pushed [] es e
 
-term_of_same : (ts us : List Term) (e : Entry) (n : ℕ) → IsBelow n e → ((i : ℕ) → i < n → get_or ts i self ≡ get_or us i self) → term_of ts e ≡ term_of us e
+term_of_same : (ts us : List Term) (e : Entry) (n : ℕ) → IsBelow n e → ((i : ℕ) → i < n → get_or ts i self ≡ get_or us i self)
+    → term_of ts e ≡ term_of us e
 term_of_same ts us (Param p) n b h = refl
 term_of_same ts us (Kept base step) n b h = ap (λ t. Member t step) (h base.place b)
 
-entry_after : (ts : List Term) (es : List Entry) (i : ℕ) (e : Entry) → slice_get es i ≡ Some e → IsBelow (length ts + i) e → get_or (terms_after ts es) (length ts + i) self ≡ term_of (terms_after ts es) e
+entry_after : (ts : List Term) (es : List Entry) (i : ℕ) (e : Entry) → slice_get es i ≡ Some e → IsBelow (length ts + i) e
+    → get_or (terms_after ts es) (length ts + i) self ≡ term_of (terms_after ts es) e
 entry_after ts [] i e g b = absurd cc
 entry_after ts (x ∷ es) zero e g b =
     let same : x ≡ e = cc in
     let at : length ts + 0 ≡ length ts = omega arith in
     let us = ts ++ term_of ts x ∷ [] in
     let more : length ts < length us = omega (arith, length-append ts (term_of ts x ∷ [])) in
-    let found : get_or (terms_after us es) (length ts) self ≡ term_of ts x = kept us es (length ts) self more ∙ get_or_at ts (term_of ts x) [] self (length ts) refl in
+    let found : get_or (terms_after us es) (length ts) self ≡ term_of ts x =
+    kept us es (length ts) self more ∙ get_or_at ts (term_of ts x) [] self (length ts) refl in
     let b2 : IsBelow (length ts) e = subst (λ n. IsBelow n e) at b in
-    let base : term_of ts e ≡ term_of (terms_after us es) e = term_of_same ts (terms_after us es) e (length ts) b2 (λ i h. sym (kept ts (x ∷ es) i self h)) in
+    let base : term_of ts e ≡ term_of (terms_after us es) e =
+    term_of_same ts (terms_after us es) e (length ts) b2 (λ i h. sym (kept ts (x ∷ es) i self h)) in
     subst (λ n. get_or (terms_after us es) n self ≡ term_of (terms_after us es) e) (sym at) (found ∙ ap (term_of ts) same ∙ base)
 entry_after ts (x ∷ es) (suc i) e g b =
     let us = ts ++ term_of ts x ∷ [] in
     let at : length us + i ≡ length ts + suc i = omega (arith, length-append ts (term_of ts x ∷ [])) in
-    subst (λ n. get_or (terms_after us es) n self ≡ term_of (terms_after us es) e) at (entry_after us es i e g (subst (λ n. IsBelow n e) (sym at) b))
+    subst (λ n. get_or (terms_after us es) n self ≡ term_of (terms_after us es) e) at
+    (entry_after us es i e g (subst (λ n. IsBelow n e) (sym at) b))
 
 -- each entry stands for the type parameter in its place
 pub entry_is : (es : List Entry) (t : TermId) (e : Entry) → AreGrounded es → slice_get es t.place ≡ Some e → IsEntryOf (terms_of es) t e
 entry_is es t e g h =
-    let at : 0 + t.place ≡ t.place = omega arith in
-    (subst (λ n. get_or (terms_of es) n self ≡ term_of (terms_of es) e) at (entry_after [] es t.place e h (subst (λ n. IsBelow n e) (sym at) (g t.place e h))), g t.place e h)
+    let at : 0 + t.place ≡ t.place = omega arith in (
+      subst (λ n. get_or (terms_of es) n self ≡ term_of (terms_of es) e) at
+          (entry_after [] es t.place e h (subst (λ n. IsBelow n e) (sym at) (g t.place e h))),
+      g t.place e h,
+    )
 
 -- each place has an entry
 pub entry_at : (es : List Entry) (i : ℕ) → i < length es → (e : Entry) × (slice_get es i ≡ Some e)
@@ -69,7 +78,8 @@ pub in_table : (es : List Entry) (ts : List Term) (t : TermId) → terms_of es �
 in_table es ts t e h = omega (arith, length_terms es, ap length e)
 
 -- one entry more
-get_more : (xs : List Entry) (e f : Entry) (i : ℕ) → slice_get (xs ++ e ∷ []) i ≡ Some f → (slice_get xs i ≡ Some f) ⊎ ((i ≡ length xs) × (e ≡ f))
+get_more : (xs : List Entry) (e f : Entry) (i : ℕ) → slice_get (xs ++ e ∷ []) i ≡ Some f
+    → (slice_get xs i ≡ Some f) ⊎ ((i ≡ length xs) × (e ≡ f))
 get_more [] e f zero h = inr (refl, cc)
 get_more [] e f (suc i) h = absurd cc
 get_more (x ∷ xs) e f zero h = inl h
@@ -83,7 +93,8 @@ grounded_more es e g b i f h =
 pub has_bases : (es : List Entry) (ts : List Term) → AreGrounded es → terms_of es ≡ ts → HasBases ts
 has_bases es ts g s = subst HasBases s based
   where
-    base_of : (i : ℕ) (e : Entry) (t : Term) (x : Step) → IsBelow i e → i < length (terms_of es) → Member t x ≡ term_of (terms_of es) e → Contains (terms_of es) t
+    base_of : (i : ℕ) (e : Entry) (t : Term) (x : Step) → IsBelow i e → i < length (terms_of es) → Member t x ≡ term_of (terms_of es) e
+        → Contains (terms_of es) t
     base_of i (Param p) t x b h e = absurd cc
     base_of i (Kept base step) t x b h e =
         let same : t ≡ term_at (terms_of es) base = cc in

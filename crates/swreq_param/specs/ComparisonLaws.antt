@@ -35,17 +35,20 @@ more (Member t x) (Member u y) h = ap (λ o. ordering_then o (step_cmp x y)) (mo
 -- Going by the bases and the last member_count alone puts fewer member_count first too.
 pub term_is_alike : (t u : Term) → term_cmp t u ≡ alike_cmp t u
 term_is_alike t u =
-    by_ranked (member_count t < member_count u) (member_count t ≡ member_count u) (member_count u < member_count t) (nat_cmp (member_count t) (member_count u)) (ranked (member_count t) (member_count u) (nat_cmp (member_count t) (member_count u)) refl)
+    by_ranked (member_count t < member_count u) (member_count t ≡ member_count u) (member_count u < member_count t)
+    (nat_cmp (member_count t) (member_count u)) (ranked (member_count t) (member_count u) (nat_cmp (member_count t) (member_count u)) refl)
     (λ e h. ap (λ o. ordering_then o (alike_cmp t u)) e ∙ sym (fewer t u h))
     (λ e h. ap (λ o. ordering_then o (alike_cmp t u)) e)
     (λ e h. ap (λ o. ordering_then o (alike_cmp t u)) e ∙ sym (more t u h))
 
 -- steps from the left
-pub alike_steps : (t u : Term) (xs ys : List Step) → length xs ≡ length ys → alike_cmp (with_steps t xs) (with_steps u ys) ≡ ordering_then (alike_cmp t u) (slice_cmp step_cmp xs ys)
+pub alike_steps : (t u : Term) (xs ys : List Step) → length xs ≡ length ys
+    → alike_cmp (with_steps t xs) (with_steps u ys) ≡ ordering_then (alike_cmp t u) (slice_cmp step_cmp xs ys)
 alike_steps t u [] [] h = sym (then_nothing (alike_cmp t u))
 alike_steps t u [] (y ∷ ys) h = absurd (omega arith)
 alike_steps t u (x ∷ xs) [] h = absurd (omega arith)
-alike_steps t u (x ∷ xs) (y ∷ ys) h = alike_steps (Member t x) (Member u y) xs ys (omega arith) ∙ then_assoc (alike_cmp t u) (step_cmp x y) (slice_cmp step_cmp xs ys)
+alike_steps t u (x ∷ xs) (y ∷ ys) h =
+    alike_steps (Member t x) (Member u y) xs ys (omega arith) ∙ then_assoc (alike_cmp t u) (step_cmp x y) (slice_cmp step_cmp xs ys)
 
 pub members_steps : (t : Term) (xs : List Step) → member_count (with_steps t xs) ≡ member_count t + length xs
 members_steps t [] = omega arith
@@ -75,7 +78,8 @@ by_steps = then_cmp (on member_count nat_cmp) (then_cmp (on head param_cmp) (on 
 
 goes_by_steps : (t u : Term) → by_steps t u ≡ term_cmp t u
 goes_by_steps t u =
-    by_ranked (member_count t < member_count u) (member_count t ≡ member_count u) (member_count u < member_count t) (nat_cmp (member_count t) (member_count u)) (ranked (member_count t) (member_count u) (nat_cmp (member_count t) (member_count u)) refl)
+    by_ranked (member_count t < member_count u) (member_count t ≡ member_count u) (member_count u < member_count t)
+    (nat_cmp (member_count t) (member_count u)) (ranked (member_count t) (member_count u) (nat_cmp (member_count t) (member_count u)) refl)
     (λ e h. ap (λ o. ordering_then o last) e ∙ sym (ap (λ o. ordering_then o (alike_cmp t u)) e))
     (λ e h.
     let len : length (steps_of t) ≡ length (steps_of u) = length_steps t ∙ h ∙ sym (length_steps u) in
@@ -95,7 +99,8 @@ step_cmp_total = then_total (on_total kind nat_cmp_total) (on_total rank nat_cmp
 pub term_cmp_total : IsTotalOrder term_cmp
 term_cmp_total =
     subst IsTotalOrder (λ i t u. goes_by_steps t u i)
-    (then_total (on_total member_count nat_cmp_total) (then_total (on_total head param_cmp_total) (on_total steps_of (lists_total step_cmp_total))))
+    (then_total (on_total member_count nat_cmp_total)
+    (then_total (on_total head param_cmp_total) (on_total steps_of (lists_total step_cmp_total))))
 
 -- ---- what it does not tell apart is equal
 
@@ -125,16 +130,19 @@ terms_same t u h = alike_same t u (sym (term_is_alike t u) ∙ h)
 
 -- ---- the walk to the bases
 
-pub walked : (t u l r : Term) (after o : Ordering) → ordering_then (alike_cmp l r) after ≡ alike_cmp t u → o ≡ ordering_then (alike_cmp l r) after → o ≡ term_cmp t u
+pub walked : (t u l r : Term) (after o : Ordering) → ordering_then (alike_cmp l r) after ≡ alike_cmp t u
+    → o ≡ ordering_then (alike_cmp l r) after → o ≡ term_cmp t u
 walked t u l r after o inv e = e ∙ inv ∙ sym (term_is_alike t u)
 
 pub owned_is : (p q : ParamId) (xs ys : List Step)
-    → ordering_then (ordering_then (nat_cmp (length xs) (length ys)) (param_cmp p q)) (slice_cmp step_cmp xs ys) ≡ term_cmp (with_steps (Generic p) xs) (with_steps (Generic q) ys)
+    → ordering_then (ordering_then (nat_cmp (length xs) (length ys)) (param_cmp p q)) (slice_cmp step_cmp xs ys)
+    ≡ term_cmp (with_steps (Generic p) xs) (with_steps (Generic q) ys)
 owned_is p q xs ys =
     let m : length xs ≡ member_count (with_steps (Generic p) xs) = omega (arith, members_steps (Generic p) xs) in
     let n : length ys ≡ member_count (with_steps (Generic q) ys) = omega (arith, members_steps (Generic q) ys) in
     then_assoc (nat_cmp (length xs) (length ys)) (param_cmp p q) (slice_cmp step_cmp xs ys)
-    ∙ by_ranked (length xs < length ys) (length xs ≡ length ys) (length ys < length xs) (nat_cmp (length xs) (length ys)) (ranked (length xs) (length ys) (nat_cmp (length xs) (length ys)) refl)
+    ∙ by_ranked (length xs < length ys) (length xs ≡ length ys) (length ys < length xs) (nat_cmp (length xs) (length ys))
+    (ranked (length xs) (length ys) (nat_cmp (length xs) (length ys)) refl)
     (λ e h. ap (λ o. ordering_then o steps) e ∙ sym (ap (λ o. ordering_then o alike) e))
     (λ e h. ap (λ o. ordering_then o steps) e ∙ sym (alike_steps (Generic p) (Generic q) xs ys h) ∙ sym (ap (λ o. ordering_then o alike) e))
     (λ e h. ap (λ o. ordering_then o steps) e ∙ sym (ap (λ o. ordering_then o alike) e))

@@ -85,7 +85,8 @@ impl ParamTable {
     /// table stays as it was.
     pub fn member(&mut self, base: TermId, step: Step) -> Result<TermId, AllocError>
         requires { IsOf self.old base }
-        ensures ok { IfOk result (Interned self.old self.new (Member (term_at self.old base) step)) }
+        ensures ok { IfOk result
+            (Interned self.old self.new (Member (term_at self.old base) step)) }
         ensures there { Contains self.old (Member (term_at self.old base) step) → IsOk result }
         ensures err { OnErr result (self.new ≡ self.old) }
         ensures extends { Extends self.old self.new }

@@ -59,7 +59,8 @@ pub few_lines : (text : List ℕ) → length (lines text) ≤ length text
 few_lines [] = omega arith
 few_lines (c ∷ rest) = by (c == line_feed) (few_lines rest)
   where
-    by : (b : Bool) → length (lines rest) ≤ length rest → length (if b then [] ∷ lines rest else onto_first c (lines rest)) ≤ suc (length rest)
+    by : (b : Bool) → length (lines rest) ≤ length rest
+        → length (if b then [] ∷ lines rest else onto_first c (lines rest)) ≤ suc (length rest)
     by true l = omega (arith, l)
     by false l = length-onto_first c (lines rest) (length rest) l
 

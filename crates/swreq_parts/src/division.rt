@@ -22,7 +22,8 @@ pub fn parts(input: &[u8]) -> Option<TwoParts<'_>>
     ensures parts { MatchOption result
         (Contains (lines input.now) divider → ⊥)
         (λ p. Divides input.now p.first.now p.second.now) }
-    ensures lines { IfSome result (λ p. lines input.now ≡ lines p.first.now ++ (divider ∷ lines p.second.now)) }
+    ensures lines { IfSome result
+        (λ p. lines input.now ≡ lines p.first.now ++ (divider ∷ lines p.second.now)) }
 {
     let mut at = 0;
     while let Some(found) = first_line(&input[at..]) {

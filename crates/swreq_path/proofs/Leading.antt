@@ -18,7 +18,8 @@ pub inverse_more : (x : RewriteStep) (xs : List RewriteStep) → inverse (x ∷ 
 inverse_more x xs = ap (map inverse_step) (reverse-append (x ∷ []) xs) ∙ map-append inverse_step (reverse xs) (x ∷ [])
 
 -- a list and its last item
-cut_last : (xs : List RewriteStep) (x : RewriteStep) → 0 < length xs → x ≡ get_or xs (length xs - 1) x → xs ≡ take (length xs - 1) xs ++ x ∷ []
+cut_last : (xs : List RewriteStep) (x : RewriteStep) → 0 < length xs → x ≡ get_or xs (length xs - 1) x
+    → xs ≡ take (length xs - 1) xs ++ x ∷ []
 cut_last xs x l e =
     let n : ℕ = length xs - 1 in
     let f : n + 1 ≡ length xs = omega arith in
@@ -38,7 +39,8 @@ module _ (rules : List Rule) where
       one_end steps a.0 v w a.2 (subst (λ z. StepsLead rules steps z w) (sym e) b.2)
 
   -- some steps and then others
-  pub lead_on : (xs ys : List RewriteStep) (u v w : List Symbol) → StepsLead rules xs u v → StepsLead rules ys v w → StepsLead rules (xs ++ ys) u w
+  pub lead_on : (xs ys : List RewriteStep) (u v w : List Symbol) → StepsLead rules xs u v → StepsLead rules ys v w
+      → StepsLead rules (xs ++ ys) u w
   lead_on [] ys u v w e f = subst (λ z. StepsLead rules ys z w) (sym e) f
   lead_on (x ∷ xs) ys u v w h f = (h.0, h.1, lead_on xs ys h.0 v w h.2 f)
 

@@ -20,7 +20,8 @@ use Rattle.swreq_path.proofs.Leading.{leads_back}
 module _ (rules : List Rule) {R : List Symbol → List Symbol → Type 0} (P : RewriteStep → Type 0)
     (place : (u v l r : List Symbol) → Replaced u v l r → Linked R l r → Linked R u v)
     (each : (step : RewriteStep) (rule : Rule) → P step → RuleAt rules step.rule rule → Linked R rule.left rule.right) where
-  either_way : (forward : Bool) (rule : Rule) → Linked R rule.left rule.right → Linked R (replaced_side forward rule) (replaced_side (not forward) rule)
+  either_way : (forward : Bool) (rule : Rule) → Linked R rule.left rule.right
+      → Linked R (replaced_side forward rule) (replaced_side (not forward) rule)
   either_way true rule k = k
   either_way false rule k = linked_back k
 
@@ -39,7 +40,8 @@ module _ (rules : List Rule) {R : List Symbol → List Symbol → Type 0} (P : R
 pub path_links : (rules : List Rule) (steps : List RewriteStep) (u v : List Symbol) → StepsLead rules steps u v → Linked (Step rules) u v
 path_links rules steps u v =
     steps_link rules (λ step. Unit {0}) (λ u v l r s k. Linked-in-place s k)
-    (λ step rule p is. forth (record { rule = rule; number = step.rule; is_rule = is; at = Replaced-whole }) here) steps u v (λ k step e. tt)
+    (λ step rule p is. forth (record { rule = rule; number = step.rule; is_rule = is; at = Replaced-whole }) here)
+    steps u v (λ k step e. tt)
 
 -- and each link is a step
 step_of : (rules : List Rule) (u v : List Symbol) → (s : Step rules u v) → (step : RewriteStep) × StepLeads rules step u v

@@ -49,24 +49,30 @@ first_is_redex rules w at number p = (
 )
 
 -- a redex is a place at which the left side of its rule stands
-pub redex_there : (rules : List Rule) (w : List Symbol) (at number : ℕ) (r : Rule) → IsRedex rules w at number → RuleAt rules number r → Containment w r.left at
-redex_there rules w at number r redex is = subst (λ (x : Rule). Containment w x.left at) (one_rule rules number redex.0 r redex.1 is) redex.2
+pub redex_there : (rules : List Rule) (w : List Symbol) (at number : ℕ) (r : Rule) → IsRedex rules w at number → RuleAt rules number r
+    → Containment w r.left at
+redex_there rules w at number r redex is =
+    subst (λ (x : Rule). Containment w x.left at) (one_rule rules number redex.0 r redex.1 is) redex.2
 
 -- a step forward at the first redex leads where the step of reduction does
 reduction_target : (rules : List Rule) (step : RewriteStep) (u v : List Symbol) → StepLeads rules step u v → step.forward ≡ true
     → FirstRedex rules u (length step.before) step.rule → ReductionStep rules u v
 reduction_target rules step u v l forward p =
     let same : l.rule ≡ p.chosen.rule = one_rule rules step.rule l.rule p.chosen.rule l.is_rule p.chosen.is_rule in
-    let source : u ≡ step.before ++ (l.rule.left ++ step.after) = subst (λ b. u ≡ step.before ++ (replaced_side b l.rule ++ step.after)) forward l.source in
-    let target : v ≡ step.before ++ (l.rule.right ++ step.after) = subst (λ b. v ≡ step.before ++ (replaced_side (not b) l.rule ++ step.after)) forward l.target in
+    let source : u ≡ step.before ++ (l.rule.left ++ step.after) =
+    subst (λ b. u ≡ step.before ++ (replaced_side b l.rule ++ step.after)) forward l.source in
+    let target : v ≡ step.before ++ (l.rule.right ++ step.after) =
+    subst (λ b. v ≡ step.before ++ (replaced_side (not b) l.rule ++ step.after)) forward l.target in
     let c = same_cut step.before (l.rule.left ++ step.after) p.before p.rest (sym source ∙ p.cut) (sym p.at_is) in
     let left : l.rule.left ≡ p.chosen.rule.left = ap (λ (r : Rule). r.left) same in
-    let after : step.after ≡ p.chosen.begins.0 = append_cancel_left l.rule.left step.after p.chosen.begins.0 (c.1 ∙ p.chosen.begins.1 ∙ ap (λ x. x ++ p.chosen.begins.0) (sym left)) in
+    let after : step.after ≡ p.chosen.begins.0 =
+    append_cancel_left l.rule.left step.after p.chosen.begins.0 (c.1 ∙ p.chosen.begins.1 ∙ ap (λ x. x ++ p.chosen.begins.0) (sym left)) in
     record {
       at = length step.before;
       number = step.rule;
       redex = p;
-      target = target ∙ ap (λ x. x ++ (l.rule.right ++ step.after)) c.0 ∙ ap (λ x. p.before ++ (l.rule.right ++ x)) after ∙ ap (λ (r : Rule). p.before ++ (r.right ++ p.chosen.begins.0)) same;
+      target = target ∙ ap (λ x. x ++ (l.rule.right ++ step.after)) c.0 ∙ ap (λ x. p.before ++ (l.rule.right ++ x)) after
+          ∙ ap (λ (r : Rule). p.before ++ (r.right ++ p.chosen.begins.0)) same;
     }
 
 pub reduces_by : (rules : List Rule) (step : RewriteStep) (u v : List Symbol) → IsReductionStep rules step u v → ReductionStep rules u v
@@ -76,7 +82,8 @@ reduces_by rules step u v s = reduction_target rules step u v s.leads s.forward 
 pub at_first : (rules : List Rule) (step : RewriteStep) (at number : ℕ) (u v w : List Symbol) → StepsAt rules step at number u w
     → FirstRedex rules u at number → ReductionStep rules u v → IsReductionStep rules step u v
 at_first rules step at number u v w s p r =
-    let first : FirstRedex rules u (length step.before) step.rule = subst₂ (λ k n. FirstRedex rules u k n) (sym s.at_place) (sym s.by_rule) p in
+    let first : FirstRedex rules u (length step.before) step.rule =
+    subst₂ (λ k n. FirstRedex rules u k n) (sym s.at_place) (sym s.by_rule) p in
     let same : w ≡ v = one_way rules u w v (reduction_target rules step u w s.leads s.forward first) r in
     record { leads = subst (λ x. StepLeads rules step u x) same s.leads; forward = s.forward; first = first }
 
@@ -87,15 +94,18 @@ reduce_on rules [] step u v w e s = (w, subst (λ z. IsReductionStep rules step 
 reduce_on rules (x ∷ steps) step u v w h s = (h.0, h.1, reduce_on rules steps step h.0 v w h.2 s)
 
 -- steps of reduction lead on, and reduce
-pub reduce_lead : (rules : List Rule) (steps : List RewriteStep) (u v : List Symbol) → StepsReduce rules steps u v → StepsLead rules steps u v
+pub reduce_lead : (rules : List Rule) (steps : List RewriteStep) (u v : List Symbol) → StepsReduce rules steps u v
+    → StepsLead rules steps u v
 reduce_lead rules [] u v h = h
 reduce_lead rules (x ∷ steps) u v h = (h.0, h.1.leads, reduce_lead rules steps h.0 v h.2)
 
-pub reduce_chain : (rules : List Rule) (steps : List RewriteStep) (u v : List Symbol) → StepsReduce rules steps u v → Chain (ReductionStep rules) u v
+pub reduce_chain : (rules : List Rule) (steps : List RewriteStep) (u v : List Symbol) → StepsReduce rules steps u v
+    → Chain (ReductionStep rules) u v
 reduce_chain rules [] u v h = subst (λ z. Chain (ReductionStep rules) u z) h done
 reduce_chain rules (x ∷ steps) u v h = more (reduces_by rules x u h.0 h.1) (reduce_chain rules steps h.0 v h.2)
 
-pub path_reduces : (rules : List Rule) (path : Path) (w v : List Symbol) → IsReductionPath rules path w v → HasTarget rules path v × Reduces rules w v
+pub path_reduces : (rules : List Rule) (path : Path) (w v : List Symbol) → IsReductionPath rules path w v
+    → HasTarget rules path v × Reduces rules w v
 path_reduces rules path w v p = (
   subst (λ u. StepsLead rules path.steps u v) (sym p.start) (reduce_lead rules path.steps w v p.steps),
   record { steps = reduce_chain rules path.steps w v p.steps; irreducible = p.irreducible },
@@ -103,9 +113,12 @@ path_reduces rules path w v p = (
 
 -- ---- one step of reduction more
 
-pub left_falls : (rules : List Rule) (old new : List RewriteStep) (u v : List Symbol) → AddsReductionStep rules old new u v → remaining rules v < remaining rules u
+pub left_falls : (rules : List Rule) (old new : List RewriteStep) (u v : List Symbol) → AddsReductionStep rules old new u v
+    → remaining rules v < remaining rules u
 left_falls rules old new u v (step, e, s) = remaining_falls rules u v (reduces_by rules step u v s)
 
-pub reduce_more : (rules : List Rule) (old new : List RewriteStep) (w u v : List Symbol) → StepsReduce rules old w u → AddsReductionStep rules old new u v
+pub reduce_more : (rules : List Rule) (old new : List RewriteStep) (w u v : List Symbol) → StepsReduce rules old w u
+    → AddsReductionStep rules old new u v
     → StepsReduce rules new w v
-reduce_more rules old new w u v so_far (step, e, s) = subst (λ xs. StepsReduce rules xs w v) (sym e) (reduce_on rules old step w u v so_far s)
+reduce_more rules old new w u v so_far (step, e, s) =
+    subst (λ xs. StepsReduce rules xs w v) (sym e) (reduce_on rules old step w u v so_far s)

@@ -74,7 +74,8 @@ pub fn compose(alloc: Global, rules: &[Rule], a: &Path, b: &Path) -> Result<Path
     requires second { IsPath rules.now b.now }
     ensures start { IfOk result (λ path. path.start ≡ a.now.start) }
     ensures steps { IfOk result (λ path. path.steps ≡ a.now.steps ++ b.now.steps) }
-    ensures target { IfOk result (λ path. (v : List Symbol) → HasTarget rules.now b.now v → HasTarget rules.now path v) }
+    ensures target { IfOk result
+        (λ path. (v : List Symbol) → HasTarget rules.now b.now v → HasTarget rules.now path v) }
 {
     let start = a.start.clone()?;
     let mut steps = Vec::new(alloc);

@@ -47,7 +47,8 @@ pub fn step_at(
 ) -> Result<RewriteStep, AllocError>
     requires few { length rules.now < 2 ^ 32 - 1 }
     requires redex { IsRedex rules.now w.now redex.at redex.number }
-    ensures { IfOk result (λ step. (v : List Symbol) × StepsAt rules.now step redex.at redex.number w.now v) }
+    ensures { IfOk result
+        (λ step. (v : List Symbol) × StepsAt rules.now step redex.at redex.number w.now v) }
 {
     step_of(alloc, &rules[redex.number - 1], w, redex)
 }
@@ -63,9 +64,11 @@ pub fn take_redex_of(
 ) -> Result<(), AllocError>
     requires number { redex.number < 2 ^ 32 }
     requires redex { IsFirstOf rule.now word.old.items redex.at }
-    ensures ok { OnOk result ((rules : List Rule) → RuleAt rules redex.number rule.now → FirstRedex rules word.old.items redex.at redex.number
+    ensures ok { OnOk result ((rules : List Rule) → RuleAt rules redex.number rule.now
+        → FirstRedex rules word.old.items redex.at redex.number
         → AddsReductionStep rules steps.old.items steps.new.items word.old.items word.new.items) }
-    ensures err { OnErr result ((word.new.items ≡ word.old.items) × (steps.new.items ≡ steps.old.items)) }
+    ensures err { OnErr result
+        ((word.new.items ≡ word.old.items) × (steps.new.items ≡ steps.old.items)) }
 {
     let step = step_of(alloc, rule, word, redex)?;
     steps.push(step)?;
@@ -83,8 +86,10 @@ pub fn take_redex(
 ) -> Result<(), AllocError>
     requires few { length rules.now < 2 ^ 32 - 1 }
     requires redex { FirstRedex rules.now word.old.items redex.at redex.number }
-    ensures ok { OnOk result (AddsReductionStep rules.now steps.old.items steps.new.items word.old.items word.new.items) }
-    ensures err { OnErr result ((word.new.items ≡ word.old.items) × (steps.new.items ≡ steps.old.items)) }
+    ensures ok { OnOk result (AddsReductionStep rules.now steps.old.items steps.new.items
+        word.old.items word.new.items) }
+    ensures err { OnErr result
+        ((word.new.items ≡ word.old.items) × (steps.new.items ≡ steps.old.items)) }
 {
     take_redex_of(alloc, &rules[redex.number - 1], word, redex, steps)
 }
@@ -92,8 +97,10 @@ pub fn take_redex(
 /// The path of the reduction of the word, from the word to that to which it reduces.
 pub fn path_of(alloc: Global, rules: &[Rule], w: &[Symbol]) -> Result<Path, AllocError>
     requires { length rules.now < 2 ^ 32 - 1 }
-    ensures reduction { IfOk result (λ path. (v : List Symbol) × IsReductionPath rules.now path w.now v) }
-    ensures target { IfOk result (λ path. (v : List Symbol) × HasTarget rules.now path v × Reduces rules.now w.now v) }
+    ensures reduction { IfOk result
+        (λ path. (v : List Symbol) × IsReductionPath rules.now path w.now v) }
+    ensures target { IfOk result
+        (λ path. (v : List Symbol) × HasTarget rules.now path v × Reduces rules.now w.now v) }
 {
     let start = Word::new(Vec::from_slice(alloc, w)?);
     let mut word = Vec::from_slice(alloc, w)?;

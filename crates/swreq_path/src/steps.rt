@@ -83,7 +83,8 @@ impl RewriteStep {
     /// The word to which the step leads.
     pub fn target(&self, alloc: Global, rules: &[Rule]) -> Result<Word, AllocError>
         requires { (rule : Rule) × RuleAt rules.now self.now.rule rule }
-        ensures { IfOk result (λ w. (u v : List Symbol) → StepLeads rules.now self.now u v → w ≡ v) }
+        ensures { IfOk result
+            (λ w. (u v : List Symbol) → StepLeads rules.now self.now u v → w ≡ v) }
     {
         let rule = &rules[self.rule as usize - 1];
         joined(

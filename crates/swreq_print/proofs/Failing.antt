@@ -14,7 +14,8 @@ fails_after_two old mid later new first second more whole next same =
     grew_next old mid new first (second ++ more) whole (fails_after mid later new second more next same)
 
 -- three pieces, and nothing after them
-pub fails_after_three : (old mid later last new first second third more : List ℕ) → mid ≡ old ++ first → later ≡ mid ++ second → last ≡ later ++ third
+pub fails_after_three : (old mid later last new first second third more : List ℕ) → mid ≡ old ++ first
+    → later ≡ mid ++ second → last ≡ later ++ third
     → new ≡ last → GrewByPart old (first ++ (second ++ (third ++ more))) new
 fails_after_three old mid later last new first second third more whole next then same =
     grew_next old mid new first (second ++ (third ++ more)) whole (fails_after_two mid later last new second third more next then same)

@@ -18,7 +18,8 @@ use Rattle.swreq_print.proofs.ReadTypes.{EndsType, stops_name, param_read, proto
 
 module _ (x : LexiconView) (names : TellsApart x) where
   -- the subject, and what follows it
-  subject : (t u : Term) (a b v w : Text) → IsReadableType x t → IsReadableType x u → (type_text x t ++ (32 ∷ a)) ++ v ≡ (type_text x u ++ (32 ∷ b)) ++ w
+  subject : (t u : Term) (a b v w : Text) → IsReadableType x t → IsReadableType x u
+      → (type_text x t ++ (32 ∷ a)) ++ v ≡ (type_text x u ++ (32 ∷ b)) ++ w
       → (t ≡ u) × (a ++ v ≡ b ++ w)
   unfolding rest_of
   subject t u a b v w ot ou e =
@@ -29,12 +30,15 @@ module _ (x : LexiconView) (names : TellsApart x) where
   colon_not_equals : (v w : Text) → 58 ∷ v ≡ 61 ∷ w → ⊥
   colon_not_equals v w e = numbers_apart 58 61 (λ i. omega arith) v w e
 
-  not_any_object : (p : ProtoId) (v w : Text) → IsProtocol x p → EndsType v → EndsType w → protocol_name x p ++ v ≡ codes "AnyObject" ++ w → ⊥
+  not_any_object : (p : ProtoId) (v w : Text) → IsProtocol x p → EndsType v → EndsType w
+      → protocol_name x p ++ v ≡ codes "AnyObject" ++ w → ⊥
   not_any_object p v w op sv sw e =
       names.no_any_object p op
-      (cut in_name (protocol_name x p) (codes "AnyObject") v w (names.protocols p op).bytes refl (stops_name v sv.0) (stops_name w sw.0) e).0
+      (cut in_name (protocol_name x p) (codes "AnyObject") v w (names.protocols p op).bytes refl (stops_name v sv.0)
+      (stops_name w sw.0) e).0
 
-  pub requirement_read : (r q : TermRequirement) (v w : Text) → IsReadableRequirement x r → IsReadableRequirement x q → EndsType v → EndsType w
+  pub requirement_read : (r q : TermRequirement) (v w : Text) → IsReadableRequirement x r → IsReadableRequirement x q
+      → EndsType v → EndsType w
       → requirement_text x r ++ v ≡ requirement_text x q ++ w → (r ≡ q) × (v ≡ w)
   unfolding rest_of
   requirement_read (Conforms t p) (Conforms u q) v w (ot, op) (ou, oq) sv sw e =
@@ -73,7 +77,8 @@ module _ (x : LexiconView) (names : TellsApart x) where
   where_read [] (q ∷ qs) o k e = absurd (numbers_apart 62 32 (λ i. omega arith) _ _ e)
   where_read (r ∷ rs) [] o k e = absurd (numbers_apart 32 62 (λ i. omega arith) _ _ e)
   where_read (r ∷ rs) (q ∷ qs) o k e =
-      (some_read (requirement_text x) (IsReadableRequirement x) EndsType requirement_read (λ t. (refl, refl)) r q rs qs (62 ∷ []) (62 ∷ []) o k
+      (some_read (requirement_text x) (IsReadableRequirement x) EndsType requirement_read
+      (λ t. (refl, refl)) r q rs qs (62 ∷ []) (62 ∷ []) o k
       (refl, refl) (refl, refl) (λ i. omega arith) (λ i. omega arith)
       (ap (λ z. rest_of (rest_of (rest_of (rest_of (rest_of (rest_of (rest_of z))))))) e)).0
 
@@ -89,13 +94,16 @@ module _ (x : LexiconView) (names : TellsApart x) where
   no_param [] g v w e = numbers_apart 62 207 (λ i. omega arith) _ _ e
   no_param (r ∷ rs) g v w e = numbers_apart 32 207 (λ i. omega arith) _ _ e
 
-  pub signature_read : (params others : List ParamId) (rs qs : List TermRequirement) → IsReadableSignature x params rs → IsReadableSignature x others qs
+  pub signature_read : (params others : List ParamId) (rs qs : List TermRequirement) → IsReadableSignature x params rs
+      → IsReadableSignature x others qs
       → signature_text x params rs ≡ signature_text x others qs → (params ≡ others) × (rs ≡ qs)
   unfolding rest_of
   signature_read [] [] rs qs o k e = (refl, where_read rs qs o.requirements k.requirements (ap rest_of e))
   signature_read [] (h ∷ others) rs qs o k e = absurd (no_param rs h _ _ (ap rest_of e))
   signature_read (g ∷ params) [] rs qs o k e = absurd (no_param qs g _ _ (sym (ap rest_of e)))
   signature_read (g ∷ params) (h ∷ others) rs qs o k e =
-      let m = some_read param_text HasNumbers (Stops in_number) (λ a b v w oa ob sv sw i. param_read a b v w oa ob sv sw i) (λ t. refl) g h params others
-      (where_text x rs ++ (62 ∷ [])) (where_text x qs ++ (62 ∷ [])) o.numbers k.numbers (ends rs) (ends qs) (no_comma rs) (no_comma qs) (ap rest_of e) in
+      let m = some_read param_text HasNumbers (Stops in_number) (λ a b v w oa ob sv sw i. param_read a b v w oa ob sv sw i)
+      (λ t. refl) g h params others
+      (where_text x rs ++ (62 ∷ [])) (where_text x qs ++ (62 ∷ [])) o.numbers k.numbers (ends rs) (ends qs) (no_comma rs)
+      (no_comma qs) (ap rest_of e) in
       (m.0, where_read rs qs o.requirements k.requirements m.1)

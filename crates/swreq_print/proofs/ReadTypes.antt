@@ -26,7 +26,8 @@ use Rattle.swreq_print.proofs.Steps.{by_steps, each_step}
 
 -- ---- numbers and generic parameters
 
-pub decimal_read : (a b : ℕ) (x y : Text) → a < 2 ^ 64 → b < 2 ^ 64 → Stops in_number x → Stops in_number y → decimal a ++ x ≡ decimal b ++ y
+pub decimal_read : (a b : ℕ) (x y : Text) → a < 2 ^ 64 → b < 2 ^ 64 → Stops in_number x → Stops in_number y
+    → decimal a ++ x ≡ decimal b ++ y
     → (a ≡ b) × (x ≡ y)
 decimal_read a b x y la lb sx sy e =
     let c = cut in_number (decimal a) (decimal b) x y (digits_only a la) (digits_only b lb) sx sy e in
@@ -38,8 +39,10 @@ unfolding rest_of
 param_read g h x y (ld, li) (le, lj) sx sy eq =
     let tails : (decimal g.depth ++ (95 ∷ decimal g.index)) ++ x ≡ (decimal h.depth ++ (95 ∷ decimal h.index)) ++ y
     = ap (λ t. rest_of (rest_of (rest_of t))) eq in
-    let inner = sym (append_assoc (decimal g.depth) (95 ∷ decimal g.index) x) ∙ (tails ∙ append_assoc (decimal h.depth) (95 ∷ decimal h.index) y) in
-    let m = decimal_read g.depth h.depth (95 ∷ (decimal g.index ++ x)) (95 ∷ (decimal h.index ++ y)) (omega arith) (omega arith) refl refl inner in
+    let inner =
+    sym (append_assoc (decimal g.depth) (95 ∷ decimal g.index) x) ∙ (tails ∙ append_assoc (decimal h.depth) (95 ∷ decimal h.index) y) in
+    let m =
+    decimal_read g.depth h.depth (95 ∷ (decimal g.index ++ x)) (95 ∷ (decimal h.index ++ y)) (omega arith) (omega arith) refl refl inner in
     let n = decimal_read g.index h.index x y (omega arith) (omega arith) sx sy (ap rest_of m.1) in
     ((λ i. record { depth = m.0 i; index = n.0 i }), n.1)
 
@@ -124,20 +127,25 @@ module _ (x : LexiconView) (names : TellsApart x) where
   no_dot (Name a) (c ∷ v) w stop e = true≢false (sym (ap in_type (ap (first_of 0) e)) ∙ stop)
   no_dot (Bound d) (c ∷ v) w stop e = true≢false (sym (ap in_type (ap (first_of 0) e)) ∙ stop)
 
-  steps_read : (xs ys : List Step) (v w : Text) → AllByRecursion (IsStepOf x) xs → AllByRecursion (IsStepOf x) ys → Stops in_type v → Stops in_type w
+  steps_read : (xs ys : List Step) (v w : Text) → AllByRecursion (IsStepOf x) xs → AllByRecursion (IsStepOf x) ys
+      → Stops in_type v → Stops in_type w
       → steps_text x xs ++ v ≡ steps_text x ys ++ w → (xs ≡ ys) × (v ≡ w)
   steps_read [] [] v w ox oy sv sw e = (refl, e)
-  steps_read [] (t ∷ ys) v w ox oy sv sw e = absurd (no_dot t v (steps_text x ys ++ w) sv (e ∙ append_assoc (step_text x t) (steps_text x ys) w))
-  steps_read (s ∷ xs) [] v w ox oy sv sw e = absurd (no_dot s w (steps_text x xs ++ v) sw (sym e ∙ append_assoc (step_text x s) (steps_text x xs) v))
+  steps_read [] (t ∷ ys) v w ox oy sv sw e =
+      absurd (no_dot t v (steps_text x ys ++ w) sv (e ∙ append_assoc (step_text x t) (steps_text x ys) w))
+  steps_read (s ∷ xs) [] v w ox oy sv sw e =
+      absurd (no_dot s w (steps_text x xs ++ v) sw (sym e ∙ append_assoc (step_text x s) (steps_text x xs) v))
   steps_read (s ∷ xs) (t ∷ ys) v w ox oy sv sw e =
-      let k = step_read s t (steps_text x xs ++ v) (steps_text x ys ++ w) ox.0 oy.0 (steps_stop xs v (stops_name v sv)) (steps_stop ys w (stops_name w sw))
+      let k = step_read s t (steps_text x xs ++ v) (steps_text x ys ++ w) ox.0 oy.0 (steps_stop xs v (stops_name v sv))
+      (steps_stop ys w (stops_name w sw))
       (sym (append_assoc (step_text x s) (steps_text x xs) v) ∙ e ∙ append_assoc (step_text x t) (steps_text x ys) w) in
       let j = steps_read xs ys v w ox.1 oy.1 sv sw k.1 in
       (ap₂ (λ h r. h ∷ r) k.0 j.0, j.1)
 
   -- ---- the whole text
 
-  pub type_read : (t u : Term) (v w : Text) → IsReadableType x t → IsReadableType x u → EndsType v → EndsType w → type_text x t ++ v ≡ type_text x u ++ w
+  pub type_read : (t u : Term) (v w : Text) → IsReadableType x t → IsReadableType x u → EndsType v → EndsType w
+      → type_text x t ++ v ≡ type_text x u ++ w
       → (t ≡ u) × (v ≡ w)
   type_read t u v w ot ou sv sw e =
       let inner : param_text (head t) ++ (steps_text x (steps_of t) ++ v) ≡ param_text (head u) ++ (steps_text x (steps_of u) ++ w)

@@ -107,7 +107,8 @@ module _ (text : Text) (s : Skeleton) (x : LexiconView) (is : IsLexiconOf text s
       protocols = λ p o. proper (protocol_name x p) (word_bytes (protocol_name x p) (protocol_spelled p o).0);
       names = λ a o. proper (name_text x a) (word_bytes (name_text x a) (name_spelled a o).0);
       one_protocol = λ p q o k e.
-          let r = one_rank bytes_cmp nat_list_cmp_total x.protocols is.protocols.sorted p.rank q.rank [] o k e in (λ i. record { rank = r i });
+          let r = one_rank bytes_cmp nat_list_cmp_total x.protocols is.protocols.sorted p.rank q.rank [] o k e in
+          (λ i. record { rank = r i });
       one_name = λ a b o k e.
           let r = one_rank bytes_cmp nat_list_cmp_total x.names is.names.sorted a.rank b.rank [] o k e in (λ i. record { rank = r i });
       pairs = λ d o. pair_of (pair_at x d) ((is.associated.same (pair_at x d)).0 (Contains-get_or x.associated d.rank _ o));

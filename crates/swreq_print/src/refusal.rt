@@ -64,7 +64,8 @@ fn put_placed(what: &str, at: u32, out: &mut Vec<u8>) -> Result<(), AllocError>
 
 // `error: unsupported KIND at N`
 fn put_unsupported(kind: Kind, at: u32, out: &mut Vec<u8>) -> Result<(), AllocError>
-    ensures { OnOk result (out.new.items ≡ out.old.items ++ placed_line (codes "unsupported " ++ kind_text kind) at) }
+    ensures { OnOk result
+        (out.new.items ≡ out.old.items ++ placed_line (codes "unsupported " ++ kind_text kind) at) }
 {
     append_bytes(out, b"error: unsupported ")?;
     append_bytes(out, kind_text(kind).as_bytes())?;
@@ -75,7 +76,8 @@ fn put_unsupported(kind: Kind, at: u32, out: &mut Vec<u8>) -> Result<(), AllocEr
 
 // A number between two texts.
 fn put_counted(before: &str, n: u32, behind: &str, out: &mut Vec<u8>) -> Result<(), AllocError>
-    ensures { OnOk result (out.new.items ≡ out.old.items ++ (before.now ++ (decimal n ++ behind.now))) }
+    ensures { OnOk result
+        (out.new.items ≡ out.old.items ++ (before.now ++ (decimal n ++ behind.now))) }
 {
     append_bytes(out, before.as_bytes())?;
     append_number(out, n as u64)?;

@@ -17,8 +17,10 @@ use swreq_word::Symbol;
 // `[P]`
 #[tactic(auto, using(swreq_text::proofs::Parts::none_grew, swreq_text::proofs::Parts::grew_next))]
 fn put_protocol(names: &Lexicon, proto: ProtoId, out: &mut Vec<u8>) -> Result<(), AllocError>
-    ensures ok { OnOk result (out.new.items ≡ out.old.items ++ symbol_text names.now (Proto proto.rank)) }
-    ensures err { OnErr result (GrewByPart out.old.items (symbol_text names.now (Proto proto.rank)) out.new.items) }
+    ensures ok { OnOk result
+        (out.new.items ≡ out.old.items ++ symbol_text names.now (Proto proto.rank)) }
+    ensures err { OnErr result
+        (GrewByPart out.old.items (symbol_text names.now (Proto proto.rank)) out.new.items) }
 {
     append_bytes(out, b"[")?;
     append_bytes(out, protocol_name(names, proto))?;
@@ -29,7 +31,8 @@ fn put_protocol(names: &Lexicon, proto: ProtoId, out: &mut Vec<u8>) -> Result<()
 #[tactic(auto, using(swreq_text::proofs::Parts::none_grew, swreq_text::proofs::Parts::grew_next))]
 fn put_member(names: &Lexicon, pair: ProtocolName, out: &mut Vec<u8>) -> Result<(), AllocError>
     ensures ok { OnOk result (out.new.items ≡ out.old.items ++ member_text names.now pair) }
-    ensures err { OnErr result (GrewByPart out.old.items (member_text names.now pair) out.new.items) }
+    ensures err { OnErr result
+        (GrewByPart out.old.items (member_text names.now pair) out.new.items) }
 {
     append_bytes(out, b"[")?;
     append_bytes(out, protocol_name(names, pair.proto))?;
@@ -41,7 +44,8 @@ fn put_member(names: &Lexicon, pair: ProtocolName, out: &mut Vec<u8>) -> Result<
 #[tactic(auto, using(swreq_text::proofs::Parts::none_grew, swreq_text::proofs::Parts::grew_next))]
 fn put_symbol(names: &Lexicon, symbol: Symbol, out: &mut Vec<u8>) -> Result<(), AllocError>
     ensures ok { OnOk result (out.new.items ≡ out.old.items ++ symbol_text names.now symbol) }
-    ensures err { OnErr result (GrewByPart out.old.items (symbol_text names.now symbol) out.new.items) }
+    ensures err { OnErr result
+        (GrewByPart out.old.items (symbol_text names.now symbol) out.new.items) }
 {
     match symbol {
         Symbol::Proto(rank) => put_protocol(names, ProtoId { rank }, out),

@@ -24,7 +24,8 @@ fn put_requirement(
     out: &mut Vec<u8>,
 ) -> Result<(), AllocError>
     requires { HasIdsOf table.now r.now }
-    ensures { OnOk result (out.new.items ≡ out.old.items ++ requirement_text_in names.now form (requirement_of table.now r.now)) }
+    ensures { OnOk result (out.new.items
+        ≡ out.old.items ++ requirement_text_in names.now form (requirement_of table.now r.now)) }
 {
     match *r {
         Requirement::Conf { subject, proto } => {
@@ -72,7 +73,8 @@ fn put_where(
     out: &mut Vec<u8>,
 ) -> Result<(), AllocError>
     requires { All (HasIdsOf table.now) list.now }
-    ensures { OnOk result (out.new.items ≡ out.old.items ++ where_text names.now (map (requirement_of table.now) list.now)) }
+    ensures { OnOk result (out.new.items
+        ≡ out.old.items ++ where_text names.now (map (requirement_of table.now) list.now)) }
 {
     match list {
         [] => Ok(()),
@@ -134,7 +136,8 @@ pub fn requirement_text(
     out: &mut Vec<u8>,
 ) -> Result<(), AllocError>
     requires { HasIdsOf table.now r.now }
-    ensures ok { OnOk result (out.new.items ≡ out.old.items ++ requirement_text names.now (requirement_of table.now r.now)) }
+    ensures ok { OnOk result (out.new.items
+        ≡ out.old.items ++ requirement_text names.now (requirement_of table.now r.now)) }
     ensures err { OnErr result (out.new.items ≡ out.old.items) }
 {
     let mut text = Vec::new(alloc);
@@ -151,7 +154,8 @@ pub fn self_text(
     out: &mut Vec<u8>,
 ) -> Result<(), AllocError>
     requires { HasIdsOf table.now r.now }
-    ensures ok { OnOk result (out.new.items ≡ out.old.items ++ self_text names.now (requirement_of table.now r.now)) }
+    ensures ok { OnOk result
+        (out.new.items ≡ out.old.items ++ self_text names.now (requirement_of table.now r.now)) }
     ensures err { OnErr result (out.new.items ≡ out.old.items) }
 {
     let mut text = Vec::new(alloc);
@@ -170,7 +174,8 @@ pub fn signature_text(
 ) -> Result<(), AllocError>
     requires { All (HasIdsOf table.now) list.now }
     ensures ok { OnOk result (out.new.items ≡ out.old.items
-        ++ signature_text names.now (generic_params params) (map (requirement_of table.now) list.now)) }
+        ++ signature_text names.now (generic_params params)
+        (map (requirement_of table.now) list.now)) }
     ensures err { OnErr result (out.new.items ≡ out.old.items) }
 {
     let mut text = Vec::new(alloc);

@@ -38,7 +38,8 @@ pub(crate) fn put_param(param: ParamId, out: &mut Vec<u8>) -> Result<(), AllocEr
 
 // `.[P]A`
 fn put_bound(names: &Lexicon, pair: ProtocolName, out: &mut Vec<u8>) -> Result<(), AllocError>
-    ensures { OnOk result (out.new.items ≡ out.old.items ++ (codes "." ++ bound_text names.now pair)) }
+    ensures { OnOk result
+        (out.new.items ≡ out.old.items ++ (codes "." ++ bound_text names.now pair)) }
 {
     append_bytes(out, b".[")?;
     append_bytes(out, protocol_name(names, pair.proto))?;
@@ -82,7 +83,8 @@ fn put_owned(
     t: &TypeParam,
     out: &mut Vec<u8>,
 ) -> Result<(), AllocError>
-    ensures { OnOk result (out.new.items ≡ out.old.items ++ type_text_in names.now form (as_term t.now)) }
+    ensures { OnOk result
+        (out.new.items ≡ out.old.items ++ type_text_in names.now form (as_term t.now)) }
 {
     put_head(form, t.head, out)?;
     put_steps(names, t.steps.items(), out)
@@ -97,7 +99,8 @@ pub(crate) fn put_type(
     out: &mut Vec<u8>,
 ) -> Result<(), AllocError>
     requires { IsOf table.now t }
-    ensures { OnOk result (out.new.items ≡ out.old.items ++ type_text_in names.now form (term_at table.now t)) }
+    ensures { OnOk result
+        (out.new.items ≡ out.old.items ++ type_text_in names.now form (term_at table.now t)) }
 {
     let owned = table.owned(alloc, t)?;
     put_owned(names, form, &owned, out)
@@ -111,7 +114,8 @@ pub fn steps_text(
     steps: &[Step],
     out: &mut Vec<u8>,
 ) -> Result<(), AllocError>
-    ensures ok { OnOk result (out.new.items ≡ out.old.items ++ param_text head ++ steps_text names.now steps.now) }
+    ensures ok { OnOk result
+        (out.new.items ≡ out.old.items ++ param_text head ++ steps_text names.now steps.now) }
     ensures err { OnErr result (out.new.items ≡ out.old.items) }
 {
     let mut text = Vec::new(alloc);
@@ -130,7 +134,8 @@ pub fn type_text(
     out: &mut Vec<u8>,
 ) -> Result<(), AllocError>
     requires { IsOf table.now t }
-    ensures ok { OnOk result (out.new.items ≡ out.old.items ++ type_text names.now (term_at table.now t)) }
+    ensures ok { OnOk result
+        (out.new.items ≡ out.old.items ++ type_text names.now (term_at table.now t)) }
     ensures err { OnErr result (out.new.items ≡ out.old.items) }
 {
     let mut text = Vec::new(alloc);

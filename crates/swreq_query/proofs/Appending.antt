@@ -23,7 +23,8 @@ use Rattle.swreq_query.specs.Answers.Answer.{Reduced}
 use Rattle.swreq_query.specs.Asked.{AppendsAnswer, AsksRequirement}
 
 module _ (derivable : TermStatement → Type 0) (x : LexiconView) where
-  pub line_appended : (q : TermQuery) (a : Answer) (line old new : Text) → IsAnswer derivable q a → line ≡ answer_line x a → new ≡ old ++ line
+  pub line_appended : (q : TermQuery) (a : Answer) (line old new : Text) → IsAnswer derivable q a
+      → line ≡ answer_line x a → new ≡ old ++ line
       → AppendsAnswer x derivable q old new
   line_appended q a line old new h e n = (line, (a, h, e), n)
 
@@ -34,7 +35,8 @@ module _ (derivable : TermStatement → Type 0) (x : LexiconView) where
       → AppendsAnswer x derivable (AsksReduced f t) old new
   type_appended f t names head g steps left old new d e k v least n =
       let r : Term = with_steps (Generic g) left in
-      let same : type_text names (with_steps (Generic head) steps) ≡ type_text x r = ap₂ type_text d (ap₂ (λ h ss. with_steps (Generic h) ss) e k) in
+      let same : type_text names (with_steps (Generic head) steps) ≡ type_text x r =
+      ap₂ type_text d (ap₂ (λ h ss. with_steps (Generic h) ss) e k) in
       line_appended (AsksReduced f t) (Reduced r) _ old new
       ((λ s i. subst (λ z. derivable (IsValid z)) (sym i) v), (f, t, refl, least))
       (ap (λ z. z ++ codes "\n") same) n

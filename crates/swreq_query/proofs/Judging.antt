@@ -33,10 +33,12 @@ module _ (derivable : TermStatement → Type 0) (f : FuncId) where
   valid_side : (t : Term) (property : Property) → derivable (IsValid t) → (s : Term) → IsSide (asks f t property) s → derivable (IsValid s)
   valid_side t property v s i = subst (λ z. derivable (IsValid z)) (sym (only_side f t property s i)) v
 
-  property_yes : (t : Term) (property : Property) → derivable (IsValid t) → derivable (Requires (has t property)) → IsAnswer derivable (asks f t property) Yes
+  property_yes : (t : Term) (property : Property) → derivable (IsValid t) → derivable (Requires (has t property))
+      → IsAnswer derivable (asks f t property) Yes
   property_yes t property v h = (valid_side t property v, (has t property, is_asked f t property, h))
 
-  property_no : (t : Term) (property : Property) → derivable (IsValid t) → (derivable (Requires (has t property)) → ⊥) → IsAnswer derivable (asks f t property) No
+  property_no : (t : Term) (property : Property) → derivable (IsValid t) → (derivable (Requires (has t property)) → ⊥)
+      → IsAnswer derivable (asks f t property) No
   property_no t property v n = (valid_side t property v, (has t property, is_asked f t property, n))
 
   pub property_answer : (t : Term) (property : Property) (r : Option Bool) → TellsIfHas derivable t property r
@@ -56,13 +58,16 @@ module _ (derivable : TermStatement → Type 0) (f : FuncId) where
     valid_sides v w s (inl e) = subst (λ z. derivable (IsValid z)) (sym e) v
     valid_sides v w s (inr e) = subst (λ z. derivable (IsValid z)) (sym e) w
 
-    equality_yes : derivable (IsValid t) → derivable (IsValid u) → derivable (Requires (Equals t u)) → IsAnswer derivable (AsksEquals f t u) Yes
+    equality_yes : derivable (IsValid t) → derivable (IsValid u) → derivable (Requires (Equals t u))
+        → IsAnswer derivable (AsksEquals f t u) Yes
     equality_yes v w h = (valid_sides v w, (Equals t u, refl, h))
 
-    equality_no : derivable (IsValid t) → derivable (IsValid u) → (derivable (Requires (Equals t u)) → ⊥) → IsAnswer derivable (AsksEquals f t u) No
+    equality_no : derivable (IsValid t) → derivable (IsValid u) → (derivable (Requires (Equals t u)) → ⊥)
+        → IsAnswer derivable (AsksEquals f t u) No
     equality_no v w n = (valid_sides v w, (Equals t u, refl, n))
 
-    pub equality_answer : (r : Option Bool) → TellsIfEqual derivable t u r → IsAnswer derivable (AsksEquals f t u) (answer_of (verdict_of r))
+    pub equality_answer : (r : Option Bool) → TellsIfEqual derivable t u r
+        → IsAnswer derivable (AsksEquals f t u) (answer_of (verdict_of r))
     equality_answer None (inl n) = left_invalid n
     equality_answer None (inr n) = right_invalid n
     equality_answer (Some true) (v, w, h) = equality_yes v w (h.0 refl)

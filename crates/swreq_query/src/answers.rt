@@ -40,8 +40,10 @@ pub fn answer(
     requires map { IsMapOf (last_rules machine.now.rounds) map.now }
     requires protocols { map.now.protocols ≡ length world.now.lexicon.protocols }
     requires room { IsRoomFor (query_by table.now query.now) scratch.old.room }
-    ensures ok { OnOk result ((list : List TermRequirement) → IsMachineOf (world_by table.now world.now) list machine.now
-        → AppendsAnswer world.now.lexicon (IsDerivable (world_by table.now world.now) machine.now list) (query_by table.now query.now) out.old.items out.new.items) }
+    ensures ok { OnOk result
+        ((list : List TermRequirement) → IsMachineOf (world_by table.now world.now) list machine.now
+        → AppendsAnswer world.now.lexicon (IsDerivable (world_by table.now world.now) machine.now
+        list) (query_by table.now query.now) out.old.items out.new.items) }
     ensures err { OnErr result (out.new.items ≡ out.old.items) }
     ensures room { scratch.new.room ≡ scratch.old.room }
 {

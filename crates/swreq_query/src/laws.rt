@@ -13,8 +13,10 @@ ghost use Rattle.swreq_query.specs.Answers.{Answer, IsAnswer, IsAnswerLine, IsLe
 pub fn answer_is_one()
     ensures answer { (f : TermFacts) (guarded : Bool) (s : Source) (q : TermQuery) (a b : Answer)
         → IsAnswer (Derives f guarded s) q a → IsAnswer (Derives f guarded s) q b → a ≡ b }
-    ensures line { (x : LexiconView) (f : TermFacts) (guarded : Bool) (s : Source) (q : TermQuery) (l m : Text)
-        → IsAnswerLine x (Derives f guarded s) q l → IsAnswerLine x (Derives f guarded s) q m → l ≡ m }
+    ensures line { (x : LexiconView) (f : TermFacts) (guarded : Bool) (s : Source)
+        (q : TermQuery) (l m : Text)
+        → IsAnswerLine x (Derives f guarded s) q l
+        → IsAnswerLine x (Derives f guarded s) q m → l ≡ m }
 {}
 
 /// On a well formed text a query of a list has the same answer by the book's rules and by the rules with the guard.
@@ -26,5 +28,6 @@ pub fn guard_changes_no_answer()
 
 /// With the guard the type that is answered is the reduced type.
 pub fn types_are_reduced()
-    ensures { (f : TermFacts) (s : Source) (t r : Term) → IsLeastEqual (Derivable f s) t r ↔ IsReducedTypeOf f s t r }
+    ensures { (f : TermFacts) (s : Source) (t r : Term)
+        → IsLeastEqual (Derivable f s) t r ↔ IsReducedTypeOf f s t r }
 {}

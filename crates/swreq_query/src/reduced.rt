@@ -30,7 +30,8 @@ fn type_line(
     steps: &[Step],
     out: &mut Vec<u8>,
 ) -> Result<(), AllocError>
-    ensures ok { OnOk result (out.new.items ≡ out.old.items ++ (type_text names.now (with_steps (Generic head) steps.now) ++ codes "\n")) }
+    ensures ok { OnOk result (out.new.items ≡ out.old.items
+        ++ (type_text names.now (with_steps (Generic head) steps.now) ++ codes "\n")) }
     ensures err { OnErr result (out.new.items ≡ out.old.items) }
 {
     let mut line = Vec::new(alloc);
@@ -51,8 +52,10 @@ pub(crate) fn reduced_line(
     requires text { BelongTogether text.now }
     requires t { IsTypeIn text.now.table.now text.now.world.now.lexicon t }
     requires room { 4 * (member_count (term_at text.now.table.now t) + 2) ≤ scratch.old.room }
-    ensures ok { OnOk result ((f : FuncId) (list : List TermRequirement) → IsMachineOf (world_of text.now) list machine.now
-        → AppendsAnswer text.now.world.now.lexicon (IsDerivable (world_of text.now) machine.now list)
+    ensures ok { OnOk result ((f : FuncId) (list : List TermRequirement)
+        → IsMachineOf (world_of text.now) list machine.now
+        → AppendsAnswer text.now.world.now.lexicon
+        (IsDerivable (world_of text.now) machine.now list)
         (AsksReduced f (term_at text.now.table.now t)) out.old.items out.new.items) }
     ensures err { OnErr result (out.new.items ≡ out.old.items) }
     ensures room { scratch.new.room ≡ scratch.old.room }

@@ -74,7 +74,8 @@ fn judge_property(
     requires map { IsMapOf (last_rules machine.now.rounds) map.now }
     requires property { IsBelow map.now.protocols property }
     requires room { 4 * (member_count (term_at text.now.table.now t) + 2) ≤ scratch.old.room }
-    ensures answer { (f : FuncId) (list : List TermRequirement) → IsMachineOf (world_of text.now) list machine.now
+    ensures answer { (f : FuncId) (list : List TermRequirement)
+        → IsMachineOf (world_of text.now) list machine.now
         → IsAnswer (IsDerivable (world_of text.now) machine.now list)
         (asks f (term_at text.now.table.now t) property) (answer_of result) }
     ensures room { scratch.new.room ≡ scratch.old.room }
@@ -95,9 +96,11 @@ fn judge_equality(
     requires b { IsTypeIn text.now.table.now text.now.world.now.lexicon b }
     requires room_a { 4 * (member_count (term_at text.now.table.now a) + 2) ≤ scratch.old.room }
     requires room_b { 4 * (member_count (term_at text.now.table.now b) + 2) ≤ scratch.old.room }
-    ensures answer { (f : FuncId) (list : List TermRequirement) → IsMachineOf (world_of text.now) list machine.now
+    ensures answer { (f : FuncId) (list : List TermRequirement)
+        → IsMachineOf (world_of text.now) list machine.now
         → IsAnswer (IsDerivable (world_of text.now) machine.now list)
-        (AsksEquals f (term_at text.now.table.now a) (term_at text.now.table.now b)) (answer_of result) }
+        (AsksEquals f (term_at text.now.table.now a) (term_at text.now.table.now b))
+        (answer_of result) }
     ensures room { scratch.new.room ≡ scratch.old.room }
 {
     verdict_of(machine.are_equal(text, a, b, scratch))
@@ -120,8 +123,10 @@ pub fn judge(
     requires map { IsMapOf (last_rules machine.now.rounds) map.now }
     requires protocols { map.now.protocols ≡ length world.now.lexicon.protocols }
     requires room { IsRoomFor (query_by table.now query.now) scratch.old.room }
-    ensures answer { (list : List TermRequirement) → IsMachineOf (world_by table.now world.now) list machine.now
-        → IsAnswer (IsDerivable (world_by table.now world.now) machine.now list) (query_by table.now query.now) (answer_of result) }
+    ensures answer { (list : List TermRequirement)
+        → IsMachineOf (world_by table.now world.now) list machine.now
+        → IsAnswer (IsDerivable (world_by table.now world.now) machine.now list)
+        (query_by table.now query.now) (answer_of result) }
     ensures room { scratch.new.room ≡ scratch.old.room }
 {
     let text = Text { world, table };

@@ -22,13 +22,15 @@ module _ {T : Type 0} (lists : List (List T)) (place : ℕ) (item : T) (room : p
   other r n = get_or-set_other lists place r (get_or lists place [] ++ item ∷ []) [] n
 
   -- the list at the place has the item too, and the others have what they had
-  pub pushed : (r : ℕ) (x : T) → Contains (get_or (with_item lists place item) r []) x ↔ (Contains (get_or lists r []) x ⊎ ((r ≡ place) × (x ≡ item)))
+  pub pushed : (r : ℕ) (x : T)
+      → Contains (get_or (with_item lists place item) r []) x ↔ (Contains (get_or lists r []) x ⊎ ((r ≡ place) × (x ≡ item)))
   pushed r x = (to, from)
     where
       to : Contains (get_or (with_item lists place item) r []) x → Contains (get_or lists r []) x ⊎ ((r ≡ place) × (x ≡ item))
       to c =
           ⊎_elim
-          (λ e. ⊎_elim inl (λ s. inr (e, sym s)) (Contains-push_cases (get_or lists r []) item x (subst (λ xs. Contains xs x) (here r e) c)))
+          (λ e.
+          ⊎_elim inl (λ s. inr (e, sym s)) (Contains-push_cases (get_or lists r []) item x (subst (λ xs. Contains xs x) (here r e) c)))
           (λ n. inl (subst (λ xs. Contains xs x) (other r n) c)) (cases_eq r place)
 
       kept : Contains (get_or lists r []) x → Contains (get_or (with_item lists place item) r []) x

@@ -36,13 +36,15 @@ sorted_from_rising cmp (x ∷ xs) r = (
 module _ {K : Type 0} (cmp : K → K → Ordering) (total : IsTotalOrder cmp) (xs : List K) (rising : IsRising cmp xs) where
   not_before : (i j : ℕ) (x : K) → slice_get xs i ≡ Some x → slice_get xs j ≡ Some x → i < j → ⊥
   not_before i j x p q h =
-      let e : cmp x x ≡ Less = (λ k. cmp (sym (get_or_from_slice_get xs i x x p) k) (sym (get_or_from_slice_get xs j x x q) k)) ∙ rising i j x h (slice_get_within xs j x q) in
+      let e : cmp x x ≡ Less = (λ k. cmp (sym (get_or_from_slice_get xs i x x p) k) (sym (get_or_from_slice_get xs j x x q) k))
+      ∙ rising i j x h (slice_get_within xs j x q) in
       let f = tied_itself total x in
       absurd cc
 
   pub one_place : (i j : ℕ) (x : K) → slice_get xs i ≡ Some x → slice_get xs j ≡ Some x → i ≡ j
   one_place i j x p q =
-      ⊎_elim (λ h. absurd (not_before i j x p q h)) (λ h. ⊎_elim (λ e. e) (λ n. absurd (not_before j i x q p (above i j h n))) (cases_eq i j)) (cases_lt i j)
+      ⊎_elim (λ h. absurd (not_before i j x p q h))
+      (λ h. ⊎_elim (λ e. e) (λ n. absurd (not_before j i x q p (above i j h n))) (cases_eq i j)) (cases_lt i j)
 
 -- ---- parts
 
@@ -51,12 +53,14 @@ module _ {K : Type 0} (cmp : K → K → Ordering) where
   all_append P [] ys a b = b
   all_append P (x ∷ xs) ys a b = (a.0, all_append P xs ys a.1 b)
 
-  pub sorted_append : (xs ys : List K) → IsStrictlySortedBy cmp xs → IsStrictlySortedBy cmp ys → AllByRecursion (λ x. AllByRecursion (λ y. cmp x y ≡ Less) ys) xs → IsStrictlySortedBy cmp (xs ++ ys)
+  pub sorted_append : (xs ys : List K) → IsStrictlySortedBy cmp xs → IsStrictlySortedBy cmp ys
+      → AllByRecursion (λ x. AllByRecursion (λ y. cmp x y ≡ Less) ys) xs → IsStrictlySortedBy cmp (xs ++ ys)
   unfolding IsStrictlySortedBy
   sorted_append [] ys s t a = t
   sorted_append (x ∷ xs) ys s t a = (all_append (λ y. cmp x y ≡ Less) xs ys s.0 a.0, sorted_append xs ys s.1 t a.1)
 
-module _ {K A : Type 0} (cmp : K → K → Ordering) (order : A → A → Ordering) (f : K → A) (keeps : (x y : K) → cmp x y ≡ Less → order (f x) (f y) ≡ Less) where
+module _ {K A : Type 0} (cmp : K → K → Ordering) (order : A → A → Ordering) (f : K → A)
+    (keeps : (x y : K) → cmp x y ≡ Less → order (f x) (f y) ≡ Less) where
   all_map : (x : K) (ys : List K) → AllByRecursion (λ y. cmp x y ≡ Less) ys → AllByRecursion (λ y. order (f x) y ≡ Less) (map f ys)
   all_map x [] a = tt
   all_map x (y ∷ ys) a = (keeps x y a.0, all_map x ys a.1)

@@ -15,7 +15,8 @@ module _ {A : Type 0} (f : A → Bool) where
   pub some_passes : (xs : List A) → list_any f xs ≡ true → (x : A) × Contains xs x × (f x ≡ true)
   some_passes [] e = absurd cc
   some_passes (x ∷ xs) e =
-      ⊎_elim (λ h. (x, first_member x xs, h)) (λ h. let s = some_passes xs h in (s.0, later_member x s.0 xs s.1, s.2)) (or_cases (f x) (list_any f xs) e)
+      ⊎_elim (λ h. (x, first_member x xs, h)) (λ h. let s = some_passes xs h in (s.0, later_member x s.0 xs s.1, s.2))
+      (or_cases (f x) (list_any f xs) e)
 
   pub passes : (xs : List A) (x : A) → Contains xs x → f x ≡ true → list_any f xs ≡ true
   passes xs x c e = list_any_at f xs c.0 x c.1 (ap f c.2 ∙ e)

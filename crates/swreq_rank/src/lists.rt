@@ -71,7 +71,8 @@ impl<T: Drop> Lists<T> {
     /// Puts an item at the end of the list at this place.
     pub fn push(&mut self, place: usize, item: T) -> Result<(), AllocError>
         requires { place < length self.old }
-        ensures { OnOk result (self.new ≡ slice_set self.old place (slice_index_or self.old place [] ++ item ∷ [])) }
+        ensures { OnOk result
+            (self.new ≡ slice_set self.old place (slice_index_or self.old place [] ++ item ∷ [])) }
     {
         self.lists[place].push(item)?;
         Ok(())

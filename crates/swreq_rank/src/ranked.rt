@@ -34,7 +34,8 @@ impl<T: Ord> Ranked<T> {
     /// The rank of an item that is there.
     pub fn find(&self, item: &T) -> Option<usize>
         requires { TellsApart T.cmp }
-        ensures { MatchOption result (Contains self.now item.now → ⊥) (λ i. slice_get self.now i ≡ Some item.now) }
+        ensures { MatchOption result (Contains self.now item.now → ⊥)
+            (λ i. slice_get self.now i ≡ Some item.now) }
     {
         match self.sorted.as_slice().binary_search(item) {
             Ok(rank) => Some(rank),

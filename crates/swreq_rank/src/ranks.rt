@@ -53,7 +53,8 @@ impl Ranks {
 
     /// The rank of a name that is there.
     pub fn find(&self, name: &[u8]) -> Option<usize>
-        ensures { MatchOption result (Contains self.now name.now → ⊥) (λ i. slice_get self.now i ≡ Some name.now) }
+        ensures { MatchOption result (Contains self.now name.now → ⊥)
+            (λ i. slice_get self.now i ≡ Some name.now) }
     {
         let names = self.sorted.items();
         match names.binary_search_by(|other| compare(other, name)) {

@@ -27,14 +27,18 @@ fn carry_member(
     members: (TermId, TermId),
 ) -> Result<(), AllocError>
     requires sheet { IsSheet sheet.old }
-    requires symbol { SaysSymbol ground.now sheet.old (term_at sheet.old.table t) (symbols.Member rank) }
+    requires symbol { SaysSymbol ground.now sheet.old
+        (term_at sheet.old.table t) (symbols.Member rank) }
     requires equal { AreEqualIds sheet.old t u }
     requires first { IsIdAfter ground.now sheet.old t (symbols.Member rank) members.0 }
     requires second { IsIdAfter ground.now sheet.old u (symbols.Member rank) members.1 }
-    ensures symbol { OnOk result (SaysSymbol ground.now sheet.new (term_at sheet.old.table u) (symbols.Member rank)) }
-    ensures equal { OnOk result (AreSaidEqual sheet.new (term_at sheet.old.table members.0) (term_at sheet.old.table members.1)) }
+    ensures symbol { OnOk result
+        (SaysSymbol ground.now sheet.new (term_at sheet.old.table u) (symbols.Member rank)) }
+    ensures equal { OnOk result (AreSaidEqual sheet.new (term_at sheet.old.table members.0)
+        (term_at sheet.old.table members.1)) }
     ensures grows { Grows sheet.old sheet.new }
-    ensures derives { OnOk result ((b : Basis) → FitsBasis ground.now b → Keeps b sheet.old sheet.new) }
+    ensures derives { OnOk result
+        ((b : Basis) → FitsBasis ground.now b → Keeps b sheet.old sheet.new) }
 {
     let named = member_at(ground, rank);
     carry_name(ground, sheet, t, u, named.name, members)?;
@@ -58,9 +62,11 @@ fn carry_symbol(
     requires first { IsIdAfter ground.now sheet.old t x members.0 }
     requires second { IsIdAfter ground.now sheet.old u x members.1 }
     ensures symbol { OnOk result (SaysSymbol ground.now sheet.new (term_at sheet.old.table u) x) }
-    ensures equal { OnOk result (AreSaidEqual sheet.new (term_at sheet.old.table members.0) (term_at sheet.old.table members.1)) }
+    ensures equal { OnOk result (AreSaidEqual sheet.new (term_at sheet.old.table members.0)
+        (term_at sheet.old.table members.1)) }
     ensures grows { Grows sheet.old sheet.new }
-    ensures derives { OnOk result ((b : Basis) → FitsBasis ground.now b → Keeps b sheet.old sheet.new) }
+    ensures derives { OnOk result
+        ((b : Basis) → FitsBasis ground.now b → Keeps b sheet.old sheet.new) }
 {
     match x {
         Symbol::Proto(rank) => {
@@ -95,16 +101,21 @@ fn carry(
     requires t { IsOf sheet.old.table t }
     requires u { IsOf sheet.old.table u }
     requires symbol { SaysSymbol ground.now sheet.old (term_at sheet.old.table t) x }
-    requires equal { AreSaidEqual sheet.old (term_at sheet.old.table t) (term_at sheet.old.table u) }
+    requires equal { AreSaidEqual sheet.old (term_at sheet.old.table t)
+        (term_at sheet.old.table u) }
     ensures first { IfOk result (λ r. IsOf sheet.new.table r.0) }
     ensures second { IfOk result (λ r. IsOf sheet.new.table r.1) }
-    ensures first_is { IfOk result (λ r. term_at sheet.new.table r.0 ≡ after ground.now (term_at sheet.old.table t) x) }
-    ensures second_is { IfOk result (λ r. term_at sheet.new.table r.1 ≡ after ground.now (term_at sheet.old.table u) x) }
+    ensures first_is { IfOk result
+        (λ r. term_at sheet.new.table r.0 ≡ after ground.now (term_at sheet.old.table t) x) }
+    ensures second_is { IfOk result
+        (λ r. term_at sheet.new.table r.1 ≡ after ground.now (term_at sheet.old.table u) x) }
     ensures symbol { OnOk result (SaysSymbol ground.now sheet.new (term_at sheet.old.table u) x) }
-    ensures equal { OnOk result (AreSaidEqual sheet.new (after ground.now (term_at sheet.old.table t) x)
+    ensures equal { OnOk result
+        (AreSaidEqual sheet.new (after ground.now (term_at sheet.old.table t) x)
         (after ground.now (term_at sheet.old.table u) x)) }
     ensures grows { Grows sheet.old sheet.new }
-    ensures derives { OnOk result ((b : Basis) → FitsBasis ground.now b → Keeps b sheet.old sheet.new) }
+    ensures derives { OnOk result
+        ((b : Basis) → FitsBasis ground.now b → Keeps b sheet.old sheet.new) }
 {
     let first = after(ground, sheet, t, x)?;
     let second = after(ground, sheet, u, x)?;
@@ -125,16 +136,22 @@ pub fn carry_all(
     requires t { IsOf sheet.old.table t }
     requires u { IsOf sheet.old.table u }
     requires word { SaysWord ground.now sheet.old (term_at sheet.old.table t) word.now }
-    requires equal { AreSaidEqual sheet.old (term_at sheet.old.table t) (term_at sheet.old.table u) }
+    requires equal { AreSaidEqual sheet.old (term_at sheet.old.table t)
+        (term_at sheet.old.table u) }
     ensures first { IfOk result (λ r. IsOf sheet.new.table r.0) }
     ensures second { IfOk result (λ r. IsOf sheet.new.table r.1) }
-    ensures first_is { IfOk result (λ r. term_at sheet.new.table r.0 ≡ read ground.now (term_at sheet.old.table t) word.now) }
-    ensures second_is { IfOk result (λ r. term_at sheet.new.table r.1 ≡ read ground.now (term_at sheet.old.table u) word.now) }
-    ensures word { OnOk result (SaysWord ground.now sheet.new (term_at sheet.old.table u) word.now) }
-    ensures equal { OnOk result (AreSaidEqual sheet.new (read ground.now (term_at sheet.old.table t) word.now)
+    ensures first_is { IfOk result
+        (λ r. term_at sheet.new.table r.0 ≡ read ground.now (term_at sheet.old.table t) word.now) }
+    ensures second_is { IfOk result
+        (λ r. term_at sheet.new.table r.1 ≡ read ground.now (term_at sheet.old.table u) word.now) }
+    ensures word { OnOk result
+        (SaysWord ground.now sheet.new (term_at sheet.old.table u) word.now) }
+    ensures equal { OnOk result
+        (AreSaidEqual sheet.new (read ground.now (term_at sheet.old.table t) word.now)
         (read ground.now (term_at sheet.old.table u) word.now)) }
     ensures grows { Grows sheet.old sheet.new }
-    ensures derives { OnOk result ((b : Basis) → FitsBasis ground.now b → Keeps b sheet.old sheet.new) }
+    ensures derives { OnOk result
+        ((b : Basis) → FitsBasis ground.now b → Keeps b sheet.old sheet.new) }
 {
     let mut first = t;
     let mut second = u;

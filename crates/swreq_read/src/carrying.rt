@@ -21,8 +21,10 @@ pub fn carry_conf(sheet: &mut Sheet, t: TermId, u: TermId, p: ProtoId) -> Result
     requires t { IsOf sheet.old.table t }
     requires u { IsOf sheet.old.table u }
     requires conforms { Says sheet.old (Requires (Conforms (term_at sheet.old.table t) p)) }
-    requires equal { AreSaidEqual sheet.old (term_at sheet.old.table t) (term_at sheet.old.table u) }
-    ensures conforms { OnOk result (Says sheet.new (Requires (Conforms (term_at sheet.old.table u) p))) }
+    requires equal { AreSaidEqual sheet.old (term_at sheet.old.table t)
+        (term_at sheet.old.table u) }
+    ensures conforms { OnOk result
+        (Says sheet.new (Requires (Conforms (term_at sheet.old.table u) p))) }
     ensures grows { Grows sheet.old sheet.new }
     ensures derives { OnOk result ((b : Basis) → Keeps b sheet.old sheet.new) }
 {
@@ -37,8 +39,10 @@ pub fn carry_layout(sheet: &mut Sheet, t: TermId, u: TermId) -> Result<(), Alloc
     requires t { IsOf sheet.old.table t }
     requires u { IsOf sheet.old.table u }
     requires object { Says sheet.old (Requires (IsAnyObject (term_at sheet.old.table t))) }
-    requires equal { AreSaidEqual sheet.old (term_at sheet.old.table t) (term_at sheet.old.table u) }
-    ensures object { OnOk result (Says sheet.new (Requires (IsAnyObject (term_at sheet.old.table u)))) }
+    requires equal { AreSaidEqual sheet.old (term_at sheet.old.table t)
+        (term_at sheet.old.table u) }
+    ensures object { OnOk result
+        (Says sheet.new (Requires (IsAnyObject (term_at sheet.old.table u)))) }
     ensures grows { Grows sheet.old sheet.new }
     ensures derives { OnOk result ((b : Basis) → Keeps b sheet.old sheet.new) }
 {
@@ -63,9 +67,11 @@ pub fn carry_name(
     requires first { IsIdOfMember sheet.old t (Name a) members.0 }
     requires second { IsIdOfMember sheet.old u (Name a) members.1 }
     ensures name { OnOk result (SaysName ground.now sheet.new (term_at sheet.old.table u) a) }
-    ensures equal { OnOk result (AreSaidEqual sheet.new (term_at sheet.old.table members.0) (term_at sheet.old.table members.1)) }
+    ensures equal { OnOk result (AreSaidEqual sheet.new (term_at sheet.old.table members.0)
+        (term_at sheet.old.table members.1)) }
     ensures grows { Grows sheet.old sheet.new }
-    ensures derives { OnOk result ((b : Basis) → FitsBasis ground.now b → Keeps b sheet.old sheet.new) }
+    ensures derives { OnOk result
+        ((b : Basis) → FitsBasis ground.now b → Keeps b sheet.old sheet.new) }
 {
     let p = declarer(ground, sheet, t, a);
     carry_conf(sheet, t, u, p)?;

@@ -27,7 +27,8 @@ pub fn is_of_step(step: Step, k: usize, named: Named) -> bool
 fn is_given_at(sheet: &Sheet, t: TermId, step: Step, k: usize, named: Named) -> bool
     requires sheet { IsSheet sheet.now }
     requires t { IsOf sheet.now.table t }
-    ensures { Decides result (IsOfStep step k named × Says sheet.now (Requires (Conforms (term_at sheet.now.table t) named.proto))) }
+    ensures { Decides result (IsOfStep step k named
+        × Says sheet.now (Requires (Conforms (term_at sheet.now.table t) named.proto))) }
 {
     if is_of_step(step, k, named) {
         is_said(sheet, conf(t, named.proto))

@@ -58,7 +58,8 @@ pub fn declared_at(ground: &Ground, k: usize) -> Named
 
 /// Whether the pair of the protocol and the name is one of these.
 fn has_pair(pairs: &[Named], proto: ProtoId, name: NameId) -> bool
-    ensures { Decides result ((k : ℕ) × (slice_get pairs.now k ≡ Some (record { proto = proto; name = name }))) }
+    ensures { Decides result
+        ((k : ℕ) × (slice_get pairs.now k ≡ Some (record { proto = proto; name = name }))) }
 {
     let pair = Named { proto, name };
     for k in 0..pairs.len() {

@@ -68,9 +68,11 @@ fn step_up(
     ensures parent { IfOk result (Contains ground.now.parents) }
     ensures heir { IfOk result (λ e. e.heir ≡ p) }
     ensures member { IfOk result (λ e. IsMember ground.now e.proto a) }
-    ensures conforms { IfOk result (λ e. Says sheet.new (Requires (Conforms (term_at sheet.old.table t) e.proto))) }
+    ensures conforms { IfOk result
+        (λ e. Says sheet.new (Requires (Conforms (term_at sheet.old.table t) e.proto))) }
     ensures grows { Grows sheet.old sheet.new }
-    ensures derives { OnOk result ((b : Basis) → FitsBasis ground.now b → Keeps b sheet.old sheet.new) }
+    ensures derives { OnOk result
+        ((b : Basis) → FitsBasis ground.now b → Keeps b sheet.old sheet.new) }
 {
     let parent = parent_for(ground, p, a);
     assoc_conf(sheet, t, (p, parent.number), t, parent.proto)?;
@@ -93,7 +95,8 @@ pub fn inherit(
     requires conforms { Says sheet.old (Requires (Conforms (term_at sheet.old.table t) p)) }
     ensures name { OnOk result (SaysName ground.now sheet.new (term_at sheet.old.table t) a) }
     ensures grows { Grows sheet.old sheet.new }
-    ensures derives { OnOk result ((b : Basis) → FitsBasis ground.now b → Keeps b sheet.old sheet.new) }
+    ensures derives { OnOk result
+        ((b : Basis) → FitsBasis ground.now b → Keeps b sheet.old sheet.new) }
 {
     let mut at = p;
     for k in 0..ground.protocols {

@@ -22,7 +22,8 @@ pub fn turn(
     requires sheet { IsSheet sheet.old }
     requires t { IsOf sheet.old.table t }
     requires both { SaysBoth ground.now sheet.old (term_at sheet.old.table t) u.now v.now }
-    ensures both { OnOk result (SaysBoth ground.now sheet.new (term_at sheet.old.table t) v.now u.now) }
+    ensures both { OnOk result
+        (SaysBoth ground.now sheet.new (term_at sheet.old.table t) v.now u.now) }
     ensures grows { Grows sheet.old sheet.new }
     ensures derives { OnOk result ((b : Basis) → Keeps b sheet.old sheet.new) }
 {
@@ -45,7 +46,8 @@ pub fn join(
     requires t { IsOf sheet.old.table t }
     requires first { SaysBoth ground.now sheet.old (term_at sheet.old.table t) u.now v.now }
     requires second { SaysBoth ground.now sheet.old (term_at sheet.old.table t) v.now w.now }
-    ensures both { OnOk result (SaysBoth ground.now sheet.new (term_at sheet.old.table t) u.now w.now) }
+    ensures both { OnOk result
+        (SaysBoth ground.now sheet.new (term_at sheet.old.table t) u.now w.now) }
     ensures grows { Grows sheet.old sheet.new }
     ensures derives { OnOk result ((b : Basis) → Keeps b sheet.old sheet.new) }
 {

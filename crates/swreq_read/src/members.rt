@@ -32,12 +32,15 @@ fn bind(
 ) -> Result<(), AllocError>
     requires sheet { IsSheet sheet.old }
     requires equal { AreEqualIds sheet.old sides.0 sides.1 }
-    requires given { IsGiven ground.now sheet.old (term_at sheet.old.table sides.1) (Bound assoc) named }
+    requires given { IsGiven ground.now sheet.old
+        (term_at sheet.old.table sides.1) (Bound assoc) named }
     requires members { AreMembers sheet.old sides.0 assoc named.name members }
     ensures table { sheet.new.table ≡ sheet.old.table }
-    ensures equal { OnOk result (AreSaidEqual sheet.new (term_at sheet.old.table members.bound) (term_at sheet.old.table members.last)) }
+    ensures equal { OnOk result (AreSaidEqual sheet.new (term_at sheet.old.table members.bound)
+        (term_at sheet.old.table members.last)) }
     ensures grows { Grows sheet.old sheet.new }
-    ensures derives { OnOk result ((b : Basis) → FitsBasis ground.now b → Keeps b sheet.old sheet.new) }
+    ensures derives { OnOk result
+        ((b : Basis) → FitsBasis ground.now b → Keeps b sheet.old sheet.new) }
 {
     let (t, u) = sides;
     same_conf(sheet, t, u, named.proto)?;
@@ -65,13 +68,16 @@ pub fn equal_member(
     requires t { IsOf sheet.old.table t }
     requires u { IsOf sheet.old.table u }
     requires given { IsGiven ground.now sheet.old (term_at sheet.old.table u) step named }
-    requires equal { AreSaidEqual sheet.old (term_at sheet.old.table t) (term_at sheet.old.table u) }
+    requires equal { AreSaidEqual sheet.old (term_at sheet.old.table t)
+        (term_at sheet.old.table u) }
     ensures is_of { IfOk result (IsOf sheet.new.table) }
-    ensures stands { IfOk result (λ v. term_at sheet.new.table v ≡ Member (term_at sheet.old.table t) step) }
+    ensures stands { IfOk result
+        (λ v. term_at sheet.new.table v ≡ Member (term_at sheet.old.table t) step) }
     ensures equal { OnOk result (AreSaidEqual sheet.new (Member (term_at sheet.old.table t) step)
         (Member (term_at sheet.old.table u) (Name named.name))) }
     ensures grows { Grows sheet.old sheet.new }
-    ensures derives { OnOk result ((b : Basis) → FitsBasis ground.now b → Keeps b sheet.old sheet.new) }
+    ensures derives { OnOk result
+        ((b : Basis) → FitsBasis ground.now b → Keeps b sheet.old sheet.new) }
 {
     let plain = member(sheet, t, Step::Name(named.name))?;
     let last = member(sheet, u, Step::Name(named.name))?;

@@ -34,10 +34,13 @@ pub fn put_side(
     requires sheet { IsSheet sheet.old }
     requires v { IsOf sheet.old.table v }
     requires both { SaysBoth ground.now sheet.old (term_at sheet.old.table v) from.now to.now }
-    requires word { SaysWord ground.now sheet.old (term_at sheet.old.table v) (from.now ++ after.now) }
-    ensures both { OnOk result (SaysBoth ground.now sheet.new (term_at sheet.old.table v) (from.now ++ after.now) (to.now ++ after.now)) }
+    requires word { SaysWord ground.now sheet.old (term_at sheet.old.table v)
+        (from.now ++ after.now) }
+    ensures both { OnOk result (SaysBoth ground.now sheet.new (term_at sheet.old.table v)
+        (from.now ++ after.now) (to.now ++ after.now)) }
     ensures grows { Grows sheet.old sheet.new }
-    ensures derives { OnOk result ((b : Basis) → FitsBasis ground.now b → Keeps b sheet.old sheet.new) }
+    ensures derives { OnOk result
+        ((b : Basis) → FitsBasis ground.now b → Keeps b sheet.old sheet.new) }
 {
     let first = read(ground, sheet, v, from)?;
     let second = read(ground, sheet, v, to)?;
@@ -57,12 +60,16 @@ pub fn replace(
 ) -> Result<(), AllocError>
     requires sheet { IsSheet sheet.old }
     requires t { IsOf sheet.old.table t }
-    requires both { SaysBoth ground.now sheet.old (read ground.now (term_at sheet.old.table t) before.now) sides.from.now sides.to.now }
-    requires word { SaysWord ground.now sheet.old (term_at sheet.old.table t) (before.now ++ (sides.from.now ++ after.now)) }
+    requires both { SaysBoth ground.now sheet.old
+        (read ground.now (term_at sheet.old.table t) before.now) sides.from.now sides.to.now }
+    requires word { SaysWord ground.now sheet.old (term_at sheet.old.table t)
+        (before.now ++ (sides.from.now ++ after.now)) }
     ensures both { OnOk result (SaysBoth ground.now sheet.new (term_at sheet.old.table t)
-        (before.now ++ (sides.entry.from.now ++ after.now)) (before.now ++ (sides.entry.to.now ++ after.now))) }
+        (before.now ++ (sides.entry.from.now ++ after.now))
+        (before.now ++ (sides.entry.to.now ++ after.now))) }
     ensures grows { Grows sheet.old sheet.new }
-    ensures derives { OnOk result ((b : Basis) → FitsBasis ground.now b → Keeps b sheet.old sheet.new) }
+    ensures derives { OnOk result
+        ((b : Basis) → FitsBasis ground.now b → Keeps b sheet.old sheet.new) }
 {
     let v = read(ground, sheet, t, before)?;
     put_side(ground, sheet, v, sides.from, sides.to, after)?;
@@ -80,12 +87,16 @@ pub fn replace_back(
 ) -> Result<(), AllocError>
     requires sheet { IsSheet sheet.old }
     requires t { IsOf sheet.old.table t }
-    requires both { SaysBoth ground.now sheet.old (read ground.now (term_at sheet.old.table t) before.now) sides.to.now sides.from.now }
-    requires word { SaysWord ground.now sheet.old (term_at sheet.old.table t) (before.now ++ (sides.from.now ++ after.now)) }
+    requires both { SaysBoth ground.now sheet.old
+        (read ground.now (term_at sheet.old.table t) before.now) sides.to.now sides.from.now }
+    requires word { SaysWord ground.now sheet.old (term_at sheet.old.table t)
+        (before.now ++ (sides.from.now ++ after.now)) }
     ensures both { OnOk result (SaysBoth ground.now sheet.new (term_at sheet.old.table t)
-        (before.now ++ (sides.entry.from.now ++ after.now)) (before.now ++ (sides.entry.to.now ++ after.now))) }
+        (before.now ++ (sides.entry.from.now ++ after.now))
+        (before.now ++ (sides.entry.to.now ++ after.now))) }
     ensures grows { Grows sheet.old sheet.new }
-    ensures derives { OnOk result ((b : Basis) → FitsBasis ground.now b → Keeps b sheet.old sheet.new) }
+    ensures derives { OnOk result
+        ((b : Basis) → FitsBasis ground.now b → Keeps b sheet.old sheet.new) }
 {
     let v = read(ground, sheet, t, before)?;
     turn(ground, sheet, v, sides.to, sides.from)?;

@@ -15,7 +15,8 @@ pub fn after(ground: &Ground, sheet: &mut Sheet, t: TermId, x: Symbol) -> Result
     requires sheet { IsSheet sheet.old }
     requires t { IsOf sheet.old.table t }
     ensures is_of { IfOk result (IsOf sheet.new.table) }
-    ensures stands { IfOk result (λ u. term_at sheet.new.table u ≡ after ground.now (term_at sheet.old.table t) x) }
+    ensures stands { IfOk result
+        (λ u. term_at sheet.new.table u ≡ after ground.now (term_at sheet.old.table t) x) }
     ensures grows { Grows sheet.old sheet.new }
     ensures derives { OnOk result ((b : Basis) → Keeps b sheet.old sheet.new) }
 {
@@ -41,7 +42,8 @@ pub fn read(
     requires sheet { IsSheet sheet.old }
     requires t { IsOf sheet.old.table t }
     ensures is_of { IfOk result (IsOf sheet.new.table) }
-    ensures stands { IfOk result (λ u. term_at sheet.new.table u ≡ read ground.now (term_at sheet.old.table t) word.now) }
+    ensures stands { IfOk result
+        (λ u. term_at sheet.new.table u ≡ read ground.now (term_at sheet.old.table t) word.now) }
     ensures grows { Grows sheet.old sheet.new }
     ensures derives { OnOk result ((b : Basis) → Keeps b sheet.old sheet.new) }
 {

@@ -30,7 +30,8 @@ fn says_name(ground: &Ground, sheet: &Sheet, t: TermId, a: NameId) -> bool
 fn says_member(ground: &Ground, sheet: &Sheet, t: TermId, rank: u64) -> bool
     requires sheet { IsSheet sheet.now }
     requires t { IsOf sheet.now.table t }
-    ensures { Decides result (SaysSymbol ground.now sheet.now (term_at sheet.now.table t) (Member rank)) }
+    ensures { Decides result
+        (SaysSymbol ground.now sheet.now (term_at sheet.now.table t) (Member rank)) }
 {
     if rank >= ground.members.items().len() as u64 {
         return false;
@@ -87,7 +88,8 @@ fn are_equal(sheet: &Sheet, t: TermId, u: TermId) -> bool
     requires sheet { IsSheet sheet.now }
     requires t { IsOf sheet.now.table t }
     requires u { IsOf sheet.now.table u }
-    ensures { Decides result (AreSaidEqual sheet.now (term_at sheet.now.table t) (term_at sheet.now.table u)) }
+    ensures { Decides result
+        (AreSaidEqual sheet.now (term_at sheet.now.table t) (term_at sheet.now.table u)) }
 {
     if are_one(sheet, t, u) {
         return true;
@@ -105,7 +107,8 @@ pub fn says_both(
 ) -> Result<bool, AllocError>
     requires sheet { IsSheet sheet.old }
     requires t { IsOf sheet.old.table t }
-    ensures told { IfOk result (λ yes. Decides yes (SaysBoth ground.now sheet.new (term_at sheet.old.table t) u.now v.now)) }
+    ensures told { IfOk result (λ yes.
+        Decides yes (SaysBoth ground.now sheet.new (term_at sheet.old.table t) u.now v.now)) }
     ensures grows { Grows sheet.old sheet.new }
     ensures derives { OnOk result ((b : Basis) → Keeps b sheet.old sheet.new) }
 {

@@ -58,7 +58,8 @@ module _ (limits : Limits) (w : TextWorld) (rules : List Rule) where
       past_first own one (tell_on rest h) (ap (λ (t : List Event). t ++ b) e ∙ append_assoc first more b)
 
   -- each signature of those that come to rules
-  pub each_comes : {gs : Signatures} {told : List Event} → SignaturesCome limits w rules gs None told → (g : SignatureOver PlacedRequirement)
+  pub each_comes : {gs : Signatures} {told : List Event} → SignaturesCome limits w rules gs None told
+      → (g : SignatureOver PlacedRequirement)
       → Contains gs g → (own : List Rule) × (told : List Event) × SignatureComes limits w rules g (Ok own) told
   each_comes all g c = no_member g c
   each_comes (next {g = h} {gs = gs} {first = first} own one rest e) g c = elim (member_cases h g gs c) [

@@ -38,15 +38,19 @@ pub asked_within : (w : IdWorld) (terms : List Term) → IsClosed (world_by term
     → (function_of q).place < length w.signatures
 asked_within w terms closed q c =
     let of : IsQueryOf (world_by terms w) (query_by terms q) =
-    All-contains (IsQueryOf (world_by terms w)) (map (query_by terms) w.queries) (query_by terms q) closed.queries (contains_map (query_by terms) w.queries q c) in
-    let within : (signature_of (query_by terms q)).place < length (map (signature_by terms) w.signatures) = query_signature (world_by terms w) (query_by terms q) of in
-    subst (λ (f : FuncId). f.place < length w.signatures) (asked_alike terms q) (omega (arith, length-map w.signatures (signature_by terms), within))
+    All-contains (IsQueryOf (world_by terms w)) (map (query_by terms) w.queries) (query_by terms q) closed.queries
+    (contains_map (query_by terms) w.queries q c) in
+    let within : (signature_of (query_by terms q)).place < length (map (signature_by terms) w.signatures) =
+    query_signature (world_by terms w) (query_by terms q) of in
+    subst (λ (f : FuncId). f.place < length w.signatures) (asked_alike terms q)
+    (omega (arith, length-map w.signatures (signature_by terms), within))
 
 -- a query of the text is in it
 pub query_in : (terms : List Term) (w : IdWorld) → IsTextOver terms w → (q : Query) → Contains w.queries q → IsQueryIn terms w q
 query_in terms w text q c = (
   All-contains (HasQueryIdsOf terms) w.queries q text.table.queries c,
-  All-contains (IsQueryOf (world_by terms w)) (world_by terms w).queries (query_by terms q) text.closed.queries (contains_map (query_by terms) w.queries q c),
+  All-contains (IsQueryOf (world_by terms w)) (world_by terms w).queries (query_by terms q) text.closed.queries
+      (contains_map (query_by terms) w.queries q c),
 )
 
 -- what a query for a list asks is the signature of the list
@@ -74,5 +78,6 @@ minimised_for w terms f (Answers s) l h =
       ap (λ (n : ℕ). signature_at (world_by terms w) (record { place = n })) (sym at),
     )
 minimised_for w terms f Signatures l h =
-    Contains-get_or (map (signature_by terms) w.signatures) f.place no_signature (omega (arith, length-map w.signatures (signature_by terms), l))
+    Contains-get_or (map (signature_by terms) w.signatures) f.place no_signature
+    (omega (arith, length-map w.signatures (signature_by terms), l))
 minimised_for w terms f _ l h = absurd (true≢false (sym h))

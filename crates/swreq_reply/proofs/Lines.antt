@@ -50,7 +50,8 @@ module _ {A : Type 0} (P : A → Text → Type 0) where
   pub lines_none : (xs : List A) (text : Text) → text ≡ [] → AreLinesIn P (take 0 xs) text
   lines_none xs text is = ([], none, is)
 
-  pub lines_next : (xs : List A) (k : ℕ) (d : A) (line old new : Text) → k < length xs → AreLinesIn P (take k xs) old → P (get_or xs k d) line
+  pub lines_next : (xs : List A) (k : ℕ) (d : A) (line old new : Text) → k < length xs → AreLinesIn P (take k xs) old
+      → P (get_or xs k d) line
       → new ≡ old ++ line → AreLinesIn P (take (k + 1) xs) new
   lines_next xs k d line old new below (ls, are, is) of_it grown = (
     ls ++ line ∷ [],
@@ -64,7 +65,8 @@ module _ {A : Type 0} (P : A → Text → Type 0) where
 pub lines_by : {A : Type 0} (P Q : A → Text → Type 0) {xs : List A} {ls : List Text} → ((x : A) (l : Text) → Contains xs x → P x l → Q x l)
     → AreLines P xs ls → AreLines Q xs ls
 lines_by P Q by none = none
-lines_by P Q by (more {x} {xs} {line} is rest) = more (by x line (first_member x xs) is) (lines_by P Q (λ y m c. by y m (later_member x y xs c)) rest)
+lines_by P Q by (more {x} {xs} {line} is rest) =
+    more (by x line (first_member x xs) is) (lines_by P Q (λ y m c. by y m (later_member x y xs c)) rest)
 
 -- ---- how many have a property
 
@@ -89,11 +91,13 @@ module _ {A : Type 0} (P : A → Type 0) where
     no_more lacks = subst (λ (ys : List A). Counted P ys n) (sym (take_more xs k d below)) (other_end so_far lacks)
 
 -- what each of them has where it has another property is counted alike
-pub counted_by : {A : Type 0} (P Q : A → Type 0) {xs : List A} {n : ℕ} → ((x : A) → Contains xs x → P x → Q x) → ((x : A) → Contains xs x → Q x → P x)
+pub counted_by : {A : Type 0} (P Q : A → Type 0) {xs : List A} {n : ℕ} → ((x : A) → Contains xs x → P x → Q x)
+    → ((x : A) → Contains xs x → Q x → P x)
     → Counted P xs n → Counted Q xs n
 counted_by P Q there back nothing = nothing
 counted_by P Q there back (one {x} {xs} has rest) =
-    one (there x (first_member x xs) has) (counted_by P Q (λ y c. there y (later_member x y xs c)) (λ y c. back y (later_member x y xs c)) rest)
+    one (there x (first_member x xs) has)
+    (counted_by P Q (λ y c. there y (later_member x y xs c)) (λ y c. back y (later_member x y xs c)) rest)
 counted_by P Q there back (other {x} {xs} lacks rest) =
     other (λ h. lacks (back x (first_member x xs) h))
     (counted_by P Q (λ y c. there y (later_member x y xs c)) (λ y c. back y (later_member x y xs c)) rest)
@@ -107,10 +111,12 @@ pub answered_by : (terms : List Term) (s : Setting) (f : FuncId) (m : MachineVie
 answered_by terms s f m is q a asks has =
     let w = world_in terms s in
     subst (λ (g : FuncId). IsAnswer (Derivable (facts_of w) (source_of (signature_at w g))) q a) (sym asks)
-    (subst (λ (p : Params). IsAnswer (Derivable (facts_of w) (Written (generic_params p) (written_list (signature_at w f)))) q a) is.params has)
+    (subst (λ (p : Params). IsAnswer (Derivable (facts_of w) (Written (generic_params p) (written_list (signature_at w f)))) q a) is.params
+    has)
 
 -- nothing follows the answer to a query of a type
-pub none_behind : (w : TextWorld) (b : Backing) (q : TermQuery) (f : FuncId) (t : Term) (a : Answer) → q ≡ AsksReduced f t → HasAnswer w true a q
+pub none_behind : (w : TextWorld) (b : Backing) (q : TermQuery) (f : FuncId) (t : Term) (a : Answer)
+    → q ≡ AsksReduced f t → HasAnswer w true a q
     → Backs w b q a []
 none_behind w b q f t Yes asks h = absurd (none-some h.1.0 (sym (ap asked asks) ∙ h.1.1))
 none_behind w b q f t _ asks h = refl
@@ -123,7 +129,8 @@ query_signature w (AsksSignature f) h = h
 query_signature w _ h = h.0
 
 -- and so its list is one of the text
-pub asked_list : (w : TextWorld) (q : TermQuery) → IsQueryOf w q → Contains (map source_of w.signatures) (source_of (signature_at w (signature_of q)))
+pub asked_list : (w : TextWorld) (q : TermQuery) → IsQueryOf w q
+    → Contains (map source_of w.signatures) (source_of (signature_at w (signature_of q)))
 asked_list w q of =
     contains_map source_of w.signatures (signature_at w (signature_of q))
     (Contains-get_or w.signatures (signature_of q).place no_signature (query_signature w q of))
@@ -135,7 +142,8 @@ module _ (w : TextWorld) (formed : IsWellFormed (facts_of w) (map source_of w.si
     where
       same : (st : TermStatement) → BookDerivable (facts_of w) (source_of (signature_at w (signature_of q))) st
           ↔ Derivable (facts_of w) (source_of (signature_at w (signature_of q))) st
-      same st = from_function (facts_of w) (map source_of w.signatures) (source_of (signature_at w (signature_of q))) st formed (asked_list w q of)
+      same st = from_function (facts_of w) (map source_of w.signatures)
+          (source_of (signature_at w (signature_of q))) st formed (asked_list w q of)
 
   line_by_book : (b : Backing) (q : TermQuery) (piece : Text) → IsQueryOf w q → IsLineOf w true b q piece → IsLineOf w false b q piece
   line_by_book b (AsksSignature f) piece of h = h
@@ -152,7 +160,8 @@ module _ (w : TextWorld) (formed : IsWellFormed (facts_of w) (map source_of w.si
     last_by_book (q ∷ r ∷ qs) line of h = last_by_book (r ∷ qs) line (λ p c. of p (later_member q p (r ∷ qs) c)) h
 
     -- what is printed is by the book's rules
-    printed_by_book : (c : Content) (parts : Parts) (pieces : List Text) → ArePrinted w true c parts pieces → ArePrinted w false c parts pieces
+    printed_by_book : (c : Content) (parts : Parts) (pieces : List Text) → ArePrinted w true c parts pieces
+        → ArePrinted w false c parts pieces
     printed_by_book (Answers (Each b)) parts pieces h =
         lines_by (IsLineOf w true b) (IsLineOf w false b) (λ q piece c is. line_by_book b q piece (of_world q c) is) h
     printed_by_book (Answers (Counts n)) parts pieces h = record {

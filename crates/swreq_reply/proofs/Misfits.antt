@@ -12,7 +12,8 @@ module _ (x : LexiconView) (count : ℕ) where
       (after ++ more, ss, subst (λ (ls : List Text). AreSections x count ls ss) (append_assoc before after more) are)
 
   -- a place before another one in the same lines
-  front : (a b c d : List Text) → a ++ b ≡ c ++ d → length a < length c → (line : Text) × (rest : List Text) × (b ≡ line ∷ rest) × (after : List Text)
+  front : (a b c d : List Text) → a ++ b ≡ c ++ d → length a < length c
+      → (line : Text) × (rest : List Text) × (b ≡ line ∷ rest) × (after : List Text)
       × (c ≡ (a ++ line ∷ []) ++ after)
   front [] b [] d e l = absurd (omega (arith, l))
   front [] b (z ∷ c) d e l = (z, c ++ d, e, c, refl)

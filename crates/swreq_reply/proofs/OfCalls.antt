@@ -59,8 +59,10 @@ module _ (w : TextWorld) (p : Parts) (one : IsOnePart p.input (second_at p)) whe
   pub one_second : (a b : RefusalKind) → RefusesSecond w p a → RefusesSecond w p b → a ≡ b
   one_second a b (no_calls d real h is) (no_calls e too k other) =
       is ∙ ap refusal_of (one_reason p.input (second_at p) one d e real too h k) ∙ sym other
-  one_second a b (no_calls d real h is) (bad_name es f stands refuses other) = absurd (no_reason p.input (second_at p) one es d real stands h)
-  one_second a b (bad_name ds e stands refuses is) (no_calls d real h other) = absurd (no_reason p.input (second_at p) one ds d real stands h)
+  one_second a b (no_calls d real h is) (bad_name es f stands refuses other) =
+      absurd (no_reason p.input (second_at p) one es d real stands h)
+  one_second a b (bad_name ds e stands refuses is) (no_calls d real h other) =
+      absurd (no_reason p.input (second_at p) one ds d real stands h)
   one_second a b (bad_name ds e stands (q, first, at) is) (bad_name es f also refuses other) =
       let (r, begins, place) = same_calls es ds f also stands refuses in
       let same : e ≡ f = at ∙ ap error_of (one_first (refusals w p.input ds) q r first begins) ∙ sym place in

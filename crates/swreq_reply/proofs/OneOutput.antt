@@ -60,7 +60,8 @@ use Rattle.swreq_reply.proofs.OneRefusal.{one_split}
 one_lines : {A : Type 0} (P : A → Text → Type 0) → ((x : A) (l m : Text) → P x l → P x m → l ≡ m) → {xs : List A} {ls ms : List Text}
     → AreLines P xs ls → AreLines P xs ms → ls ≡ ms
 one_lines P one no_line no_line = refl
-one_lines P one (more {x = x} {line = l} h rest) (more {line = m} k others) = ap₂ (λ (a : Text) (rest : List Text). a ∷ rest) (one x l m h k) (one_lines P one rest others)
+one_lines P one (more {x = x} {line = l} h rest) (more {line = m} k others) =
+    ap₂ (λ (a : Text) (rest : List Text). a ∷ rest) (one x l m h k) (one_lines P one rest others)
 
 -- one number of the members that have a property
 one_count : {A : Type 0} (P : A → Type 0) {xs : List A} {m n : ℕ} → Counted P xs m → Counted P xs n → m ≡ n
@@ -117,9 +118,11 @@ module _ (w : TextWorld) where
 
   module _ (p : Parts) (apart : TellsApart w.lexicon) (found : FindSignatures w)
       (one_part : (ds es : List CallDecl) → StandsFor p.input (second_at p) ds → StandsFor p.input (second_at p) es → ds ≡ es) where
-    pieces_once : (c : Content) → c ≢ Answers (Each Derivation) → (ls ms : List Text) → ArePrinted w false c p ls → ArePrinted w false c p ms
+    pieces_once : (c : Content) → c ≢ Answers (Each Derivation) → (ls ms : List Text) → ArePrinted w false c p ls
+        → ArePrinted w false c p ms
         → ls ≡ ms
-    pieces_once (Answers (Each b)) real ls ms h k = one_lines (IsLineOf w false b) (query_once b (λ e. real (ap (λ z. Answers (Each z)) e))) h k
+    pieces_once (Answers (Each b)) real ls ms h k =
+        one_lines (IsLineOf w false b) (query_once b (λ e. real (ap (λ z. Answers (Each z)) e))) h k
     pieces_once (Answers (Counts n)) real ls ms h k = counts_once n ls ms h k
     pieces_once Signatures real ls ms h k = one_lines _ (named_once w) h k
     pieces_once Systems real ls ms h k = one_lines _ (system_once w) h k

@@ -98,12 +98,14 @@ one_split c input p q a b = by (reads c) a.divided b.divided
 
     by : (how : Input) → HasParts how p → HasParts how q → p ≡ q
     by inputs.TwoParts d e =
-        let one = one_division q.input p.source p.second q.source q.second (subst (λ (z : List ℕ). Divides z p.source p.second) whole_input d) e in
+        let one =
+        one_division q.input p.source p.second q.source q.second (subst (λ (z : List ℕ). Divides z p.source p.second) whole_input d) e in
         same one.0 one.1
     by _ (e, f) (g, h) = same (e ∙ whole_input ∙ sym g) (f ∙ sym h)
 
 -- one that has two parts has a line that divides it
-pub split_divided : (c : Command) (input : List ℕ) (p : Parts) → AreParts c input p → reads c ≡ inputs.TwoParts → Contains (lines input) divider
+pub split_divided : (c : Command) (input : List ℕ) (p : Parts) → AreParts c input p → reads c ≡ inputs.TwoParts
+    → Contains (lines input) divider
 split_divided c input p a two =
     subst (λ (z : List ℕ). Contains (lines z) divider) a.whole
     (divided_line p.input p.source p.second (subst (λ (how : Input). HasParts how p) two a.divided))
@@ -235,7 +237,8 @@ module _ (line : CommandLine) (input : List ℕ) where
   refused_ends : {o : Outcome} {told : List Event} → IsRefused line input o told → Ends (Some o)
   refused_ends (too_long more is none) = long more (ap Some is)
   refused_ends (in_one_part within two none is nothing) = undivided within two none (ap Some is)
-  refused_ends (without_world p are refusal has is none) = divided p are (subst (EndsWith line p) (ap Some (sym is)) (worldless line p refusal has))
+  refused_ends (without_world p are refusal has is none) =
+      divided p are (subst (EndsWith line p) (ap Some (sym is)) (worldless line p refusal has))
   refused_ends {told = told} (unchecked w r checks has checked is) = of_check has checks (Some r) told checked (ap Some is)
   refused_ends {o} (misfit w n judges has first is none) =
       of_world has (subst (λ (c : Content). EndsIn line has.parts w c (Some o)) (sym judges) (inl (n, first, ap Some is)))
@@ -243,7 +246,8 @@ module _ (line : CommandLine) (input : List ℕ) where
       behind c (subst (λ (k : Content). EndsBehind line c.has_world.parts c.world k (Some o)) (sym asked)
       (Err (failed.Limit which trace), c.more, stops, (λ e. cc), ap Some is))
   refused_ends {o} (bad_calls refusal c asked refuses none is) =
-      behind c (subst (λ (k : Content). EndsBehind line c.has_world.parts c.world k (Some o)) (sym asked) (inl (refusal, refuses, ap Some is)))
+      behind c
+      (subst (λ (k : Content). EndsBehind line c.has_world.parts c.world k (Some o)) (sym asked) (inl (refusal, refuses, ap Some is)))
 
   -- What minimising meets is neither families nor calls.
   cut_ends : {o : Outcome} {told : List Event} → IsCutShort line input o told → Ends None
@@ -259,7 +263,8 @@ module _ (line : CommandLine) (input : List ℕ) where
     where
       open a.check use {world as w, has_world, rules, more}
 
-      by : (k : Content) (pieces : List (List ℕ)) → TellsBehind (limits_of line) w k rules more → ArePrinted w false k has_world.parts pieces
+      by : (k : Content) (pieces : List (List ℕ)) → TellsBehind (limits_of line) w k rules more
+          → ArePrinted w false k has_world.parts pieces
           → EndsBehind line has_world.parts w k None
       by Families pieces (flags, gone) are = (Ok (record { kept = numbers w flags }), more, (flags, gone, refl), (λ e. cc), refl)
       by Calls pieces told (ds, stands, none, lines) = inr ((ds, stands, none), refl)
@@ -288,10 +293,12 @@ module _ (line : CommandLine) (input : List ℕ) (p : Parts) (are : AreParts lin
         | inr (inl e) ↦ absurd (real e)
         | inr (inr e) ↦ absurd (too e)
       ] in is ∙ ap (family_end line p w) one_family ∙ sym same
-  one_behind w Calls a b h k = one_of_two (RefusesSecond w p) refused_with (HasCalls w p) (one_second w p part) (never_second w p part) a b h k
+  one_behind w Calls a b h k =
+      one_of_two (RefusesSecond w p) refused_with (HasCalls w p) (one_second w p part) (never_second w p part) a b h k
   one_behind w _ a b is same = is ∙ sym same
 
-  one_checked : (w : TextWorld) (c : Content) (r : Option Refused) (a b : Option Outcome) → EndsChecked line p w c r a → EndsChecked line p w c r b
+  one_checked : (w : TextWorld) (c : Content) (r : Option Refused) (a b : Option Outcome) → EndsChecked line p w c r a
+      → EndsChecked line p w c r b
       → a ≡ b
   one_checked w c (Some r) a b is same = is ∙ sym same
   one_checked w c None a b h k = one_behind w c a b h k
@@ -310,7 +317,8 @@ module _ (line : CommandLine) (input : List ℕ) (p : Parts) (are : AreParts lin
   one_read (Ok s) a b (inl (e, refuses, is)) (inr (resolve, world)) = absurd (not_refused p.source s e resolve refuses)
   one_read (Ok s) a b (inr (resolve, world)) (inl (e, refuses, is)) = absurd (not_refused p.source s e resolve refuses)
   one_read (Ok s) a b (inr (resolve, (w, h, end))) (inr (also, (v, k, other))) =
-      one_in v (content_of line.command) a b (subst (λ (z : TextWorld). EndsIn line p z (content_of line.command) a) (one.world s w v h k) end) other
+      one_in v (content_of line.command) a b
+      (subst (λ (z : TextWorld). EndsIn line p z (content_of line.command) a) (one.world s w v h k) end) other
 
   one_end : {a b : Option Outcome} → Ends line input a → Ends line input b → a ≡ b
   one_end {a} {b} h k =
@@ -326,7 +334,8 @@ module _ (line : CommandLine) (input : List ℕ) (p : Parts) (are : AreParts lin
   verdict_is_one o q told also r (is_judged j) = cc (one_end (refused_ends line input r) (judged_ends line input j))
 
 -- an input that is too long is refused for that alone
-pub long_refused : (line : CommandLine) (input : List ℕ) → 1048576 < length input → {o : Outcome} {told : List Event} → IsRefused line input o told
+pub long_refused : (line : CommandLine) (input : List ℕ) → 1048576 < length input → {o : Outcome} {told : List Event}
+    → IsRefused line input o told
     → o ≡ refused_with refusals.TooLarge
 long_refused line input more {o} r = by (refused_ends line input r)
   where

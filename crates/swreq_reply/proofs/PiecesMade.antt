@@ -51,7 +51,8 @@ module _ (Is : ℕ → Text → Type 0) (made_by : ℕ → Option FuncId) (count
     begin places = record { before = h; here = λ j l. absurd (omega (arith, l)) }
 
     -- all places of the next signature are filled
-    pub next_signature : ((k : ℕ) (f : FuncId) → k < count → made_by k ≡ Some f → f.place ≡ signatures → (piece : Text) × (get_or pieces k None ≡ Some piece))
+    pub next_signature : ((k : ℕ) (f : FuncId) → k < count → made_by k ≡ Some f → f.place ≡ signatures
+        → (piece : Text) × (get_or pieces k None ≡ Some piece))
         → AreMade Is made_by count (signatures + 1) pieces
     next_signature fills = record {
       counted = h.counted;
@@ -63,7 +64,8 @@ module _ (Is : ℕ → Text → Type 0) (made_by : ℕ → Option FuncId) (count
     }
 
   -- one place more of the next signature
-  pub go_on : (signatures : ℕ) (places : List ℕ) (next : ℕ) (pieces : List (Option Text)) → AreMadeTo Is made_by count signatures places next pieces
+  pub go_on : (signatures : ℕ) (places : List ℕ) (next : ℕ) (pieces : List (Option Text))
+      → AreMadeTo Is made_by count signatures places next pieces
       → (l : get_or places next 0 < count) (piece : Text) → Is (get_or places next 0) piece
       → AreMadeTo Is made_by count signatures places (next + 1) (set pieces (get_or places next 0) (Some piece))
   go_on signatures places next pieces h l piece is = record {
@@ -79,12 +81,14 @@ module _ (Is : ℕ → Text → Type 0) (made_by : ℕ → Option FuncId) (count
   }
 
   -- all places of the next signature
-  pub go_through : (signatures : ℕ) (places : List ℕ) (pieces : List (Option Text)) → AreMadeTo Is made_by count signatures places (length places) pieces
+  pub go_through : (signatures : ℕ) (places : List ℕ) (pieces : List (Option Text))
+      → AreMadeTo Is made_by count signatures places (length places) pieces
       → ((k : ℕ) (f : FuncId) → k < count → made_by k ≡ Some f → f.place ≡ signatures → Contains places k)
       → AreMade Is made_by count (signatures + 1) pieces
   go_through signatures places pieces h are = next_signature signatures pieces h.before fills
     where
-      fills : (k : ℕ) (f : FuncId) → k < count → made_by k ≡ Some f → f.place ≡ signatures → (piece : Text) × (get_or pieces k None ≡ Some piece)
+      fills : (k : ℕ) (f : FuncId) → k < count → made_by k ≡ Some f → f.place ≡ signatures
+          → (piece : Text) × (get_or pieces k None ≡ Some piece)
       fills k f below by e =
           let c = are k f below by e in
           let at : get_or places c.0 0 ≡ k = get_or_default places c.0 0 k c.1 ∙ c.2 in
@@ -92,7 +96,8 @@ module _ (Is : ℕ → Text → Type 0) (made_by : ℕ → Option FuncId) (count
           (found.0, ap (λ (n : ℕ). get_or pieces n None) (sym at) ∙ found.1)
 
   -- the one piece of the next signature
-  pub only_one : (signatures : ℕ) (pieces : List (Option Text)) → AreMade Is made_by count signatures pieces → (at : ℕ) → at < count → (piece : Text)
+  pub only_one : (signatures : ℕ) (pieces : List (Option Text)) → AreMade Is made_by count signatures pieces → (at : ℕ)
+      → at < count → (piece : Text)
       → Is at piece → ((k : ℕ) (f : FuncId) → k < count → made_by k ≡ Some f → f.place ≡ signatures → k ≡ at)
       → AreMade Is made_by count (signatures + 1) (set pieces at (Some piece))
   only_one signatures pieces h at l piece is only =

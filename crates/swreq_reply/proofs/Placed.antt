@@ -48,7 +48,8 @@ last_or_before : (k last : ℕ) → k < last + 1 → (k < last) ⊎ (k ≡ last)
 last_or_before k last l = elim (cases_eq k last) [ inl e ↦ inr e | inr n ↦ inl (omega (arith, l, n)) ]
 
 module _ (made_by : ℕ → Option FuncId) (count : ℕ) where
-  pub none_placed : (places : List Group) → length places ≡ count → All (λ (group : Group). group.items ≡ []) places → ArePlaces made_by count 0 places
+  pub none_placed : (places : List Group) → length places ≡ count → All (λ (group : Group). group.items ≡ []) places
+      → ArePlaces made_by count 0 places
   none_placed places counted empty = record {
     counted = counted;
     each = λ f d k below. let nothing : (get_or places f.place d).items ≡ [] =
@@ -78,7 +79,8 @@ module _ (made_by : ℕ → Option FuncId) (count : ℕ) where
     none_noted none = record { counted = h.counted; each = λ f d k below. kept f d k below (λ e. none-some f (sym none ∙ e)) }
 
     -- or by that of g
-    module _ (g : FuncId) (makes : made_by last ≡ Some g) (l : g.place < count) (old more : Group) (old_is : old ≡ get_or places g.place old)
+    module _ (g : FuncId) (makes : made_by last ≡ Some g) (l : g.place < count) (old more : Group)
+        (old_is : old ≡ get_or places g.place old)
         (pushed : more.items ≡ old.items ++ last ∷ []) where
       abbrev new : List Group
       new = set places g.place more
@@ -99,9 +101,11 @@ module _ (made_by : ℕ → Option FuncId) (count : ℕ) where
       pub one_noted : ArePlaces made_by count (last + 1) new
       one_noted = record { counted = length-set places g.place more ∙ h.counted; each = each }
         where
-          each : (f : FuncId) (d : Group) (k : ℕ) → f.place < count → Contains (get_or new f.place d).items k ↔ ((k < last + 1) × (made_by k ≡ Some f))
+          each : (f : FuncId) (d : Group) (k : ℕ) → f.place < count
+              → Contains (get_or new f.place d).items k ↔ ((k < last + 1) × (made_by k ≡ Some f))
           each f d k below = elim (cases_eq f.place g.place) [
-            | inl e ↦ subst (λ (z : FuncId). Contains (get_or new z.place d).items k ↔ ((k < last + 1) × (made_by k ≡ Some z))) (sym (same_signature f g e))
+            | inl e ↦ subst (λ (z : FuncId). Contains (get_or new z.place d).items k ↔ ((k < last + 1) × (made_by k ≡ Some z)))
+                (sym (same_signature f g e))
                 (subst (λ (group : Group). Contains group.items k ↔ ((k < last + 1) × (made_by k ≡ Some g)))
                 (sym (get_or-set_same places g.place more d (omega (arith, h.counted, l)))) (own k))
             | inr n ↦ subst (λ (group : Group). Contains group.items k ↔ ((k < last + 1) × (made_by k ≡ Some f)))

@@ -41,9 +41,11 @@ use Rattle.swreq_reply.proofs.Flags.{asked_within, is_listed}
 -- ---- one piece
 
 -- a list that is wanted is kept
-kept_line : (w : TextWorld) (wants : ℕ → Bool) (lists : List (Option Text)) (f : FuncId) → AreLinesKept w wants lists → f.place < length lists
+kept_line : (w : TextWorld) (wants : ℕ → Bool) (lists : List (Option Text)) (f : FuncId) → AreLinesKept w wants lists
+    → f.place < length lists
     → wants f.place ≡ true → IsMinimisedLine w (signature_at w f) (text_at lists f.place)
-kept_line w wants lists f kept l wanted = by (get_or lists f.place None) (kept f.place (get_or lists f.place None) (slice_get-get_or lists f.place None l))
+kept_line w wants lists f kept l wanted =
+    by (get_or lists f.place None) (kept f.place (get_or lists f.place None) (slice_get-get_or lists f.place None l))
   where
     by : (entry : Option Text) → IsLineKept w wants f entry → IsMinimisedLine w (signature_at w f) (text_or_none entry)
     by (Some line) h = h
@@ -58,7 +60,8 @@ module _ (m : MadePieces) (whole : IsWhole m) where
   -- what is made, where the content is this one
   pieces_of : (c : Content) → m.content ≡ c
       → AreMade (IsPiece (world_of m) c) (maker m.world.now c) (count_of m.world.now c) (length m.world.now.signatures) m.pieces.now
-  pieces_of c e = subst (λ (k : Content). AreMade (IsPiece (world_of m) k) (maker m.world.now k) (count_of m.world.now k) (length m.world.now.signatures)
+  pieces_of c e = subst (λ (k : Content).
+      AreMade (IsPiece (world_of m) k) (maker m.world.now k) (count_of m.world.now k) (length m.world.now.signatures)
       m.pieces.now) e whole.pieces
 
   lists_of : (c : Content) → m.content ≡ c → AreLinesKept (world_of m) (wants_list c m.world.now.queries) m.lists.now
@@ -68,7 +71,8 @@ module _ (m : MadePieces) (whole : IsWhole m) where
       → IsSystemText (world_of m) (signature_at (world_of m) f) (text_at m.pieces.now f.place)
   system_at e f below =
       let found = (pieces_of Systems e).filled f.place f below refl below in
-      subst (IsSystemText (world_of m) (signature_at (world_of m) f)) (sym (ap text_or_none found.1)) ((pieces_of Systems e).right f.place found.0 found.1)
+      subst (IsSystemText (world_of m) (signature_at (world_of m) f)) (sym (ap text_or_none found.1))
+      ((pieces_of Systems e).right f.place found.0 found.1)
 
   pub list_at : m.content ≡ Signatures → (f : FuncId) → f.place < length m.world.now.signatures
       → IsMinimisedLine (world_of m) (signature_at (world_of m) f) (text_at m.lists.now f.place)
@@ -95,14 +99,23 @@ module _ (m : MadePieces) (whole : IsWhole m) where
     by_list f asks = by asked refl asks
       where
         by : (q : Query) → asked ≡ q → list_asked q ≡ Some f
-            → (f.place < length m.lists.now) × IsLineOf (world_of m) true (backing_of m.content) (query_at m k) (text_at m.lists.now f.place)
+            → (f.place < length m.lists.now)
+            × IsLineOf (world_of m) true (backing_of m.content) (query_at m k) (text_at m.lists.now f.place)
         by (queries.Signature g) is here =
             let same : query_at m k ≡ AsksSignature f =
-            get_or-map (query_by m.table.now) m.world.now.queries k _ _ below ∙ ap (query_by m.table.now) is ∙ ap AsksSignature (same_Some g f here) in
+            get_or-map (query_by m.table.now) m.world.now.queries k _ _ below ∙ ap (query_by m.table.now) is
+            ∙ ap AsksSignature (same_Some g f here) in
             let within : f.place < length m.lists.now =
-            omega (arith, in_world, whole.counted, ap (λ (q : Query). (function_of q).place) is, ap (λ (h : FuncId). h.place) (same_Some g f here)) in (
+            omega (
+              arith,
+              in_world,
+              whole.counted,
+              ap (λ (q : Query). (function_of q).place) is,
+              ap (λ (h : FuncId). h.place) (same_Some g f here),
+            ) in (
               within,
-              shown _ (subst (λ (q : TermQuery). IsLineOf (world_of m) true (backing_of (Answers s)) q (text_at m.lists.now f.place)) (sym same)
+              shown _
+                  (subst (λ (q : TermQuery). IsLineOf (world_of m) true (backing_of (Answers s)) q (text_at m.lists.now f.place)) (sym same)
                   (kept_line (world_of m) (wants_list (Answers s) m.world.now.queries) m.lists.now f (lists_of (Answers s) e) within
                   (is_listed m.world.now.queries f
                   (k, below, get_or_default m.world.now.queries k _ _ below ∙ is ∙ ap queries.Signature (same_Some g f here))))),

@@ -66,7 +66,8 @@ module _ (old new : List Term) (s : Setting) (more : Extends old new) (ready : I
   -- the pieces are made in the one as in the other
   pub made_alike : (signatures : ℕ) (pieces : List (Option Text)) → AreMadeIn new s signatures pieces ≡ AreMadeIn old s signatures pieces
   made_alike signatures pieces =
-      ap (λ (w : TextWorld). AreMade (IsPiece w s.content) (maker s.world.now s.content) (count_of s.world.now s.content) signatures pieces) world_on
+      ap (λ (w : TextWorld). AreMade (IsPiece w s.content) (maker s.world.now s.content) (count_of s.world.now s.content) signatures pieces)
+      world_on
 
 -- ---- queries of a signature
 
@@ -76,18 +77,23 @@ asks_own terms (queries.Signature g) f e = cc
 asks_own terms q f e = cc
 
 -- one of the places of a signature is that of a query which asks it
-pub place_for : (terms : List Term) (s : Setting) (f : FuncId) → AreAnswers s.content → IsReady terms s → f.place < length s.world.now.signatures
+pub place_for : (terms : List Term) (s : Setting) (f : FuncId) → AreAnswers s.content → IsReady terms s
+    → f.place < length s.world.now.signatures
     → (d : Vec ℕ Global) (place : ℕ) → Contains (get_or s.places.now f.place d).items place → IsPlaceFor terms s f place
 place_for terms s f (shown, content) ready l d place has =
     let (counted, made) = (ready.places.each f d place l).0 has in
     let below : place < length s.world.now.queries = rw content at counted in
     let asks : machine_asked_at (slice_get s.world.now.queries place) ≡ Some f = rw content at made in record {
       below = below;
-      query = λ q e. record { is = (place, below, sym e); asks = cc (ap machine_asked_at (slice_get-get_or s.world.now.queries place q below), asks, e) };
+      query = λ q e. record {
+        is = (place, below, sym e);
+        asks = cc (ap machine_asked_at (slice_get-get_or s.world.now.queries place q below), asks, e);
+      };
     }
 
 -- all pieces that the machine of a signature makes have their places in its group
-pub all_placed : (terms : List Term) (s : Setting) (f : FuncId) (d : Vec ℕ Global) → IsReady terms s → f.place < length s.world.now.signatures
+pub all_placed : (terms : List Term) (s : Setting) (f : FuncId) (d : Vec ℕ Global) → IsReady terms s
+    → f.place < length s.world.now.signatures
     → (k : ℕ) (g : FuncId) → k < count_of s.world.now s.content → maker s.world.now s.content k ≡ Some g → g.place ≡ f.place
     → Contains (get_or s.places.now f.place d).items k
 all_placed terms s f d ready l k g below by e =
@@ -95,9 +101,11 @@ all_placed terms s f d ready l k g below by e =
 
 -- the answer to the query at a place is the piece there
 pub piece_right : (terms : List Term) (s : Setting) → AreAnswers s.content → (place : ℕ) (q : Query) → place < length s.world.now.queries
-    → q ≡ get_or s.world.now.queries place q → (piece : Text) → IsLineOf (world_in terms s) true (backing_of s.content) (query_by terms q) piece
+    → q ≡ get_or s.world.now.queries place q → (piece : Text)
+    → IsLineOf (world_in terms s) true (backing_of s.content) (query_by terms q) piece
     → IsPiece (world_in terms s) s.content place piece
 piece_right terms s (shown, content) place q below at piece is =
-    let there = get_map (query_by terms) s.world.now.queries place q (slice_get-get_or s.world.now.queries place q below ∙ ap Some (sym at)) in
+    let there =
+    get_map (query_by terms) s.world.now.queries place q (slice_get-get_or s.world.now.queries place q below ∙ ap Some (sym at)) in
     rw content (λ t e. let same : query_by terms q ≡ t = cc (e, there) in
     subst (λ z. IsLineOf (world_in terms s) true (backed_by shown) z piece) same (rw content at is))

@@ -186,7 +186,8 @@ module _ {r : Request} (request : IsRequest r) where
         replies (line_of r) (parts_of r).input old new told grew (inr (checks, (w, has, inl tells))) result h
         (λ o (real, is). absurd (real refl))
     replies_refused checks old new refused result (told, checked, grew) h =
-        replies (line_of r) (parts_of r).input old new told grew (inr (checks, (w, has, inl (check_tells (limits_in r) w checked)))) result h
+        replies (line_of r) (parts_of r).input old new told grew
+        (inr (checks, (w, has, inl (check_tells (limits_in r) w checked)))) result h
         (λ o (real, is). is_refused (unchecked w refused checks has checked is))
 
     -- ---- after the check, which comes to these rules of the protocols
@@ -197,7 +198,8 @@ module _ {r : Request} (request : IsRequest r) where
       After more P = (first : List Event) → IsBuiltOver (limits_in r) w rules first → P (first ++ more)
 
       -- what is told after the check is a part of what the input tells, and an outcome is the verdict with which it is told
-      finishes : (old new : Option (List Event)) (more : List Event) → GrewBy old new more → After more (TellsPart (line_of r) (parts_of r).input)
+      finishes : (old new : Option (List Event)) (more : List Event) → GrewBy old new more
+          → After more (TellsPart (line_of r) (parts_of r).input)
           → {P : Outcome → Type 0} (result : Result Outcome AllocError) → IfOk result P
           → ((o : Outcome) → P o → After more (IsVerdict (line_of r) (parts_of r).input o))
           → Finishes (line_of r) (parts_of r).input w rules old new result
@@ -226,7 +228,8 @@ module _ {r : Request} (request : IsRequest r) where
           )
 
       -- nothing is told after the check
-      pub finishes_alone : ChecksMachines (line_of r).command → (old : Option (List Event)) {P : Outcome → Type 0} (result : Result Outcome AllocError)
+      pub finishes_alone : ChecksMachines (line_of r).command
+          → (old : Option (List Event)) {P : Outcome → Type 0} (result : Result Outcome AllocError)
           → IfOk result P → ((o : Outcome) → P o → After [] (IsVerdict (line_of r) (parts_of r).input o))
           → Finishes (line_of r) (parts_of r).input w rules old old result
       finishes_alone checks old result h verdict =
@@ -245,7 +248,8 @@ module _ {r : Request} (request : IsRequest r) where
         told_is = refl;
       }
 
-      answers : (k : Content) → printed_of r ≡ k → k ≢ Judgements → (more : List Event) → TellsBehind (limits_in r) w k rules more → (o : Outcome)
+      answers : (k : Content) → printed_of r ≡ k → k ≢ Judgements → (more : List Event)
+          → TellsBehind (limits_in r) w k rules more → (o : Outcome)
           → o.status ≡ 0 → IsOutput w false k (parts_of r) o.output → After more (IsVerdict (line_of r) (parts_of r).input o)
       answers k asked other more behind o status output first built = is_answered (record {
         check = passes (checks_of (line_of r).command k asked other) more first built;
@@ -318,7 +322,8 @@ module _ {r : Request} (request : IsRequest r) where
             → IfOk result (λ o. (o.status ≡ 0) × (o.output ≡ family_text w family.kept))
             → Finishes (line_of r) (parts_of r).input w rules old new result
         families_given old new family result (told, (flags, gone, is), grew) given h =
-            finishes old new told grew (families_part told (record { place = 0; flags = flags; before = told; gone = gone; part = inl refl })) result h
+            finishes old new told grew
+            (families_part told (record { place = 0; flags = flags; before = told; gone = gone; part = inl refl })) result h
             (λ o (status, output). answers Families asked (λ e. cc) told (flags, gone) o status
             (o.output ∷ [], (family.kept, given, ap (λ (t : List ℕ). t ∷ []) output), sym (append-nil o.output)))
 
@@ -360,7 +365,8 @@ module _ {r : Request} (request : IsRequest r) where
             finishes_alone calls_check old result h
             (λ o (real, is) first built. is_refused (bad_calls refusal (passes calls_check [] first built) asked (refuses real) refl is))
 
-        pub calls_answered : (old : Option (List Event)) (ds : List CallDecl) → calls.StandsFor (parts_of r).input (second_at (parts_of r)) ds
+        pub calls_answered : (old : Option (List Event)) (ds : List CallDecl)
+            → calls.StandsFor (parts_of r).input (second_at (parts_of r)) ds
             → refusals_of w (parts_of r).input ds ≡ [] → (cs : List TermCall) → SayCalls w (parts_of r).input cs ds
             → (result : Result Outcome AllocError) → IfOk result (λ o. (o.status ≡ 0) × AnswersCalls w cs o.output)
             → Finishes (line_of r) (parts_of r).input w rules old old result

@@ -41,7 +41,8 @@ module _ (limits : Limits) (w : TextWorld) where
     pub pieces : AreMade (IsPiece w c) (maker ids c) (count_of ids c) (length ids.signatures) checked.pieces.items
 
   -- The check of one signature comes to this, and the watcher was told what it tells, or a part of that if memory runs out.
-  abbrev pub ChecksOne : List Rule → SignatureOver PlacedRequirement → Option (List Event) → Option (List Event) → Result (Unit {0}) Refused → Type 0
+  abbrev pub ChecksOne : List Rule → SignatureOver PlacedRequirement → Option (List Event) → Option (List Event)
+      → Result (Unit {0}) Refused → Type 0
   ChecksOne rules g old new (Ok done) =
       (told : List Event) × ((own : List Rule) × SignatureComes limits w rules g (Ok own) told) × GrewBy old new told
   ChecksOne rules g old new (Err Memory) =

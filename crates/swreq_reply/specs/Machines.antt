@@ -26,11 +26,13 @@ module _ (limits : Limits) (w : TextWorld) where
   -- The signatures, in order: all of them come to rules, or the first that does not is refused so. They tell the events of all up to it.
   pub data SignaturesCome (rules : List Rule) : List (SignatureOver PlacedRequirement) → Option Refused → List Event → Type 0 where
     all : SignaturesCome rules [] None []
-    next : {g : SignatureOver PlacedRequirement} {gs : List (SignatureOver PlacedRequirement)} {refused : Option Refused} {first more told : List Event}
+    next : {g : SignatureOver PlacedRequirement} {gs : List (SignatureOver PlacedRequirement)} {refused : Option Refused}
+        {first more told : List Event}
         (own : List Rule) → SignatureComes rules g (Ok own) first → SignaturesCome rules gs refused more → told ≡ first ++ more
         → SignaturesCome rules (g ∷ gs) refused told
     stopped : {g : SignatureOver PlacedRequirement} {gs : List (SignatureOver PlacedRequirement)} {told : List Event}
-        (refused : Refused) → refused ≢ Memory → SignatureComes rules g (Err refused) told → SignaturesCome rules (g ∷ gs) (Some refused) told
+        (refused : Refused) → refused ≢ Memory → SignatureComes rules g (Err refused) told
+        → SignaturesCome rules (g ∷ gs) (Some refused) told
 
   -- The text is checked: first its protocols, then its signatures in written order. It is refused so, or not, and these events are told.
   pub data IsChecked : Option Refused → List Event → Type 0 where

@@ -30,10 +30,12 @@ AreNone count pieces = (length pieces.items ≡ count) × ((k : ℕ) → get_or 
 
 -- What stands at its place is the piece there, and the places are filled whose pieces are made by the machines of the first `signatures`
 -- signatures.
-pub record AreMade (Is : ℕ → Text → Type 0) (made_by : ℕ → Option FuncId) (count signatures : ℕ) (pieces : List (Option Text)) : Type 0 where
-  pub counted : length pieces ≡ count
-  pub right : (k : ℕ) (piece : Text) → get_or pieces k None ≡ Some piece → Is k piece
-  pub filled : (k : ℕ) (f : FuncId) → k < count → made_by k ≡ Some f → f.place < signatures → (piece : Text) × (get_or pieces k None ≡ Some piece)
+pub record AreMade (Is : ℕ → Text → Type 0) (made_by : ℕ → Option FuncId) (count signatures : ℕ) (pieces : List (Option Text)) : Type 0
+  where
+    pub counted : length pieces ≡ count
+    pub right : (k : ℕ) (piece : Text) → get_or pieces k None ≡ Some piece → Is k piece
+    pub filled : (k : ℕ) (f : FuncId) → k < count → made_by k ≡ Some f → f.place < signatures
+        → (piece : Text) × (get_or pieces k None ≡ Some piece)
 
 -- The first `next` of these places are filled too.
 pub record AreMadeTo (Is : ℕ → Text → Type 0) (made_by : ℕ → Option FuncId) (count signatures : ℕ) (places : List ℕ) (next : ℕ)

@@ -54,7 +54,8 @@ sizes_text n = codes "protocols " ++ (decimal n ++ (codes "\nfunctions 1\nquerie
 -- how many queries have each verdict
 abbrev pub verdicts_text : (yes_count no_count invalid_count : ℕ) → Text
 verdicts_text yes_count no_count invalid_count =
-    codes "yes " ++ (decimal yes_count ++ (codes "\nno " ++ (decimal no_count ++ (codes "\ninvalid " ++ (decimal invalid_count ++ codes "\n")))))
+    codes "yes "
+    ++ (decimal yes_count ++ (codes "\nno " ++ (decimal no_count ++ (codes "\ninvalid " ++ (decimal invalid_count ++ codes "\n")))))
 
 -- the sizes of the generated text, and after them the verdicts on its queries
 abbrev pub counts_text : (n yes_count no_count invalid_count : ℕ) → Text
@@ -104,7 +105,8 @@ module _ (w : TextWorld) where
 
     -- The piece is the line of the answer that the query has, and what backs it.
     abbrev pub AnswersByTypes : Backing → TermQuery → Text → Type 0
-    AnswersByTypes b q piece = (a : Answer) × (behind : Text) × HasAnswer a q × Backs b q a behind × (piece ≡ answer_line w.lexicon a ++ behind)
+    AnswersByTypes b q piece =
+        (a : Answer) × (behind : Text) × HasAnswer a q × Backs b q a behind × (piece ≡ answer_line w.lexicon a ++ behind)
 
     -- The piece answers the query; where it asks for a signature, by the minimised list.
     abbrev pub IsLineOf : Backing → TermQuery → Text → Type 0

@@ -30,7 +30,8 @@ query_at m k = get_or (world_of m).queries k (AsksSignature (record { place = 0 
 pub record IsWhole (m : MadePieces) : Type 0 where
   pub text : IsTextOver m.table.now m.world.now
   pub prints : PrintsPieces m.content
-  pub pieces : AreMade (IsPiece (world_of m) m.content) (maker m.world.now m.content) (count_of m.world.now m.content) (length m.world.now.signatures)
+  pub pieces : AreMade (IsPiece (world_of m) m.content) (maker m.world.now m.content) (count_of m.world.now m.content)
+      (length m.world.now.signatures)
       m.pieces.now
   pub lists : AreLinesKept (world_of m) (wants_list m.content m.world.now.queries) m.lists.now
   pub counted : length m.lists.now ≡ length m.world.now.signatures

@@ -43,9 +43,11 @@ Replies line input old new (Ok o) = IsToldVerdict line input old new o
 Replies line input old new (Err e) = WasToldPart line input old new
 
 -- After a check of this world that came to these rules of the protocols: a verdict; if memory runs out, a part of what is told.
-abbrev pub Finishes : CommandLine → Text → TextWorld → List Rule → Option (List Event) → Option (List Event) → Result Outcome AllocError → Type 0
+abbrev pub Finishes : CommandLine → Text → TextWorld → List Rule → Option (List Event) → Option (List Event)
+    → Result Outcome AllocError → Type 0
 Finishes line input w rules old new (Ok o) =
-    (more : List Event) × ((first : List Event) → IsBuiltOver (limits_of line) w rules first → IsVerdict line input o (first ++ more)) × GrewBy old new more
+    (more : List Event)
+    × ((first : List Event) → IsBuiltOver (limits_of line) w rules first → IsVerdict line input o (first ++ more)) × GrewBy old new more
 Finishes line input w rules old new (Err e) =
     (more : List Event) × ((first : List Event) → IsBuiltOver (limits_of line) w rules first → TellsPart line input (first ++ more))
     × GrewBy old new more

@@ -35,8 +35,8 @@ use Rattle.swreq_reply.specs.Wanted.{ArePlaces, count_of, machine_asked, maker}
 abbrev pub world_in : List Term → Setting → TextWorld
 world_in terms s = world_by terms s.world.now
 
--- The ids are of the table, the rules are those of the protocols, whose requirements are over type parameters, and each machine is asked for
--- the pieces that it makes.
+-- The ids are of the table, the rules are those of the protocols, whose requirements are over type parameters, and each machine is asked
+-- for the pieces that it makes.
 pub record IsReady (terms : List Term) (s : Setting) : Type 0 where
   pub text : IsTextOver terms s.world.now
   pub short : IsShort s.world.now

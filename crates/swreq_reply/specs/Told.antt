@@ -42,7 +42,8 @@ module _ (limits : Limits) (w : TextWorld) where
     -- Over these rules of the protocols minimising tells this: parts, one after the other, each of a signature that the command asks for.
     pub data MinimisingAllTells : List Event → Type 0 where
       nothing : MinimisingAllTells []
-      one_more : {before part told : List Event} (g : SignatureOver PlacedRequirement) → MinimisingAllTells before → IsMinimisedFor wants w g
+      one_more : {before part told : List Event} (g : SignatureOver PlacedRequirement) → MinimisingAllTells before
+          → IsMinimisedFor wants w g
           → MinimisingTells limits w rules g part → told ≡ before ++ part → MinimisingAllTells told
 
     -- Minimising fails in this way at a signature, after such parts of those before it.

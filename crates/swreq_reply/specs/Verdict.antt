@@ -143,8 +143,8 @@ module _ (line : CommandLine) (input : Text) where
     -- The source text has no world.
     without_world : (p : Parts) → AreParts line.command input p → (refusal : RefusalKind) → HasNoWorld p.source refusal
         → o ≡ refused_with refusal → told ≡ [] → IsRefused o told
-    -- The check of its machines refuses it: a side of a requirement is no type parameter, or a round of the protocols or of a signature passes
-    -- a limit.
+    -- The check of its machines refuses it: a side of a requirement is no type parameter, or a round of the protocols or of a signature
+    -- passes a limit.
     unchecked : (w : TextWorld) (cause : Refused) → ChecksMachines line.command → HasWorld w
         → machines.IsChecked (limits_of line) w (Some cause) told → o ≡ machine_outcome line w.lexicon cause → IsRefused o told
     -- A line of the second part does not fit the queries.
@@ -153,10 +153,12 @@ module _ (line : CommandLine) (input : Text) where
         → IsRefused o told
     -- The rounds that are run for a requirement of a protocol pass a limit, going through the requirements of the protocols.
     past_a_limit_of_families : (which : Which) (trace : List Rule) (c : PassesCheck told) → content_of line.command ≡ Families
-        → IsFamilyOutcome (limits_of line) c.world (Err (failed.Limit which trace)) c.more → o ≡ stopped_with line c.world.lexicon which trace
+        → IsFamilyOutcome (limits_of line) c.world (Err (failed.Limit which trace)) c.more
+        → o ≡ stopped_with line c.world.lexicon which trace
         → IsRefused o told
     -- The second part stands for no calls, or a name of its calls is refused. After the check nothing is told.
-    bad_calls : (refusal : RefusalKind) (c : PassesCheck told) → content_of line.command ≡ Calls → RefusesSecond c.world c.has_world.parts refusal
+    bad_calls : (refusal : RefusalKind) (c : PassesCheck told) → content_of line.command ≡ Calls
+        → RefusesSecond c.world c.has_world.parts refusal
         → c.more ≡ [] → o ≡ refused_with refusal → IsRefused o told
 
   module _ (guarded : Bool) where

@@ -59,9 +59,11 @@ fn put_path(
     requires ready { IsReady table.now s.now }
     requires machine { IsMachineFor table.now s.now own.now.f own.now.machine.now }
     requires asked { IsRequirementIn table.now s.now.world.now.lexicon (Conf t p) }
-    requires derivable { Derivable (facts_of (world_in table.now s.now)) (source_of (signature_at (world_in table.now s.now) own.now.f))
+    requires derivable { Derivable (facts_of (world_in table.now s.now))
+        (source_of (signature_at (world_in table.now s.now) own.now.f))
         (Requires (Conforms (term_at table.now t) p)) }
-    ensures { OnOk result ((text : List ℕ) × IsPathLine (world_in table.now s.now) own.now.f (term_at table.now t) p text
+    ensures { OnOk result ((text : List ℕ)
+        × IsPathLine (world_in table.now s.now) own.now.f (term_at table.now t) p text
         × (out.new.items ≡ out.old.items ++ text)) }
 {
     paths_have_texts();
@@ -80,10 +82,12 @@ fn put_derivation(
     out: &mut Vec<u8>,
 ) -> Result<(), AllocError>
     requires ready { IsReady table.old s.now }
-    requires book { IsBookFor (world_in table.old s.now) (signature_of (query_by table.old query.now)) book.now }
+    requires book { IsBookFor (world_in table.old s.now)
+        (signature_of (query_by table.old query.now)) book.now }
     requires query { Contains s.now.world.now.queries query.now }
     requires yes { HasAnswer (world_in table.old s.now) true Yes (query_by table.old query.now) }
-    ensures backing { OnOk result ((text : List ℕ) × IsDerivationText (world_in table.old s.now) (query_by table.old query.now) text
+    ensures backing { OnOk result ((text : List ℕ)
+        × IsDerivationText (world_in table.old s.now) (query_by table.old query.now) text
         × (out.new.items ≡ out.old.items ++ text)) }
     ensures extends { OnOk result (Extends table.old table.new) }
 {
@@ -105,7 +109,8 @@ fn put_backing(
     requires asks { signature_of (query_by table.old query.now) ≡ means.now.own.f }
     requires yes { HasAnswer (world_in table.old s.now) true Yes (query_by table.old query.now) }
     ensures backing { OnOk result ((text : List ℕ)
-        × BacksYes (world_in table.old s.now) (backing_of s.now.content) (query_by table.old query.now) text
+        × BacksYes (world_in table.old s.now) (backing_of s.now.content)
+        (query_by table.old query.now) text
         × (out.new.items ≡ out.old.items ++ text)) }
     ensures extends { OnOk result (Extends table.old table.new) }
 {
@@ -135,9 +140,11 @@ fn put_behind(
     requires means { AreMeansFor table.old s.now means.now }
     requires query { Contains s.now.world.now.queries query.now }
     requires asks { signature_of (query_by table.old query.now) ≡ means.now.own.f }
-    requires answer { HasAnswer (world_in table.old s.now) true (answer_of verdict) (query_by table.old query.now) }
+    requires answer { HasAnswer (world_in table.old s.now) true (answer_of verdict)
+        (query_by table.old query.now) }
     ensures backing { OnOk result ((text : List ℕ)
-        × Backs (world_in table.old s.now) (backing_of s.now.content) (query_by table.old query.now) (answer_of verdict) text
+        × Backs (world_in table.old s.now) (backing_of s.now.content) (query_by table.old query.now)
+        (answer_of verdict) text
         × (out.new.items ≡ out.old.items ++ text)) }
     ensures extends { OnOk result (Extends table.old table.new) }
 {
@@ -158,7 +165,8 @@ fn requirement_piece(
     requires means { AreMeansFor table.old s.now means.now }
     requires query { IsQueryFor table.old s.now means.now.own.f query.now }
     requires asks { AsksRequirement (query_by table.old query.now) }
-    ensures piece { IfOk result (AnswersByTypes (world_in table.old s.now) true (backing_of s.now.content) (query_by table.old query.now)) }
+    ensures piece { IfOk result (AnswersByTypes (world_in table.old s.now) true
+        (backing_of s.now.content) (query_by table.old query.now)) }
     ensures extends { OnOk result (Extends table.old table.new) }
 {
     let mut scratch = scratch(s.alloc, table, query)?;
@@ -187,7 +195,8 @@ fn type_piece(
     requires means { AreMeansFor table.now s.now means.now }
     requires query { IsQueryFor table.now s.now means.now.own.f query.now }
     requires asks { AsksType (query_by table.now query.now) }
-    ensures { IfOk result (AnswersByTypes (world_in table.now s.now) true (backing_of s.now.content) (query_by table.now query.now)) }
+    ensures { IfOk result (AnswersByTypes (world_in table.now s.now) true (backing_of s.now.content)
+        (query_by table.now query.now)) }
 {
     let mut scratch = scratch(s.alloc, table, query)?;
     let mut piece = Vec::new(s.alloc);
@@ -214,7 +223,8 @@ fn piece(
     requires ready { IsReady table.old s.now }
     requires means { AreMeansFor table.old s.now means.now }
     requires query { IsQueryFor table.old s.now means.now.own.f query.now }
-    ensures piece { IfOk result (IsLineOf (world_in table.old s.now) true (backing_of s.now.content) (query_by table.old query.now)) }
+    ensures piece { IfOk result (IsLineOf (world_in table.old s.now) true (backing_of s.now.content)
+        (query_by table.old query.now)) }
     ensures extends { OnOk result (Extends table.old table.new) }
 {
     match *query {
@@ -254,7 +264,8 @@ fn answer_at(
     requires means { AreMeansFor table.old s.now means.now }
     requires place { IsPlaceFor table.old s.now means.now.own.f place }
     requires pieces { length pieces.old.items ≡ length s.now.world.now.queries }
-    ensures piece { OnOk result ((piece : List ℕ) × IsPiece (world_in table.old s.now) s.now.content place piece
+    ensures piece { OnOk result
+        ((piece : List ℕ) × IsPiece (world_in table.old s.now) s.now.content place piece
         × (pieces.new.items ≡ set pieces.old.items place (Some piece))) }
     ensures extends { OnOk result (Extends table.old table.new) }
 {
@@ -275,7 +286,8 @@ pub(crate) fn answer_queries(
     requires answers { AreAnswers s.now.content }
     requires machine { IsMachineFor table.old s.now own.now.f own.now.machine.now }
     requires pieces { AreMadeIn table.old s.now own.now.f.place pieces.old.items }
-    ensures pieces { OnOk result (AreMadeIn table.old s.now (own.now.f.place + 1) pieces.new.items) }
+    ensures pieces { OnOk result
+        (AreMadeIn table.old s.now (own.now.f.place + 1) pieces.new.items) }
     ensures extends { OnOk result (Extends table.old table.new) }
 {
     let places = &s.places[own.f.place as usize];

@@ -53,7 +53,8 @@ pub(crate) fn lines_of_calls(
     requires short { IsShort p.now.world.now }
     requires passed { HasPassed table.old p.now }
     requires calls { All (IsCallIn table.old p.now.world.now) calls.now }
-    ensures { IfOk result (λ v. AnswersCalls (world_of table.old p.now) (map (call_by table.old) calls.now) v.items) }
+    ensures { IfOk result
+        (λ v. AnswersCalls (world_of table.old p.now) (map (call_by table.old) calls.now) v.items) }
 {
     let mut out = Vec::new(p.alloc);
     let mut last = None;

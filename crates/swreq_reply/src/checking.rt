@@ -53,7 +53,8 @@ fn check_anew<'a, W: Watch>(
     requires ready { IsReady table.old s.now }
     requires f { f.place < length s.now.world.now.signatures }
     requires pieces { AreMadeIn table.old s.now f.place pieces.old.items }
-    ensures check { ChecksAt table.old s.now f (W.told watch.old) (W.told watch.new) (ending result) }
+    ensures check { ChecksAt table.old s.now f (W.told watch.old)
+        (W.told watch.new) (ending result) }
     ensures kept { IfOk result (IsKeptFor table.new s.now) }
     ensures pieces { OnOk result (AreMadeIn table.old s.now (f.place + 1) pieces.new.items) }
     ensures extends { OnOk result (Extends table.old table.new) }
@@ -84,8 +85,10 @@ fn check_again<W: Watch>(
     requires ready { IsReady table.old s.now }
     requires machine { IsMachineFor table.old s.now own.now.f own.now.machine.now }
     requires pieces { AreMadeIn table.old s.now own.now.f.place pieces.old.items }
-    ensures check { ChecksAt table.old s.now own.now.f (W.told watch.old) (W.told watch.new) result }
-    ensures pieces { OnOk result (AreMadeIn table.old s.now (own.now.f.place + 1) pieces.new.items) }
+    ensures check { ChecksAt table.old s.now own.now.f (W.told watch.old)
+        (W.told watch.new) result }
+    ensures pieces { OnOk result
+        (AreMadeIn table.old s.now (own.now.f.place + 1) pieces.new.items) }
     ensures extends { OnOk result (Extends table.old table.new) }
 {
     own.machine.tell_again(s.protocols, watch)?;
@@ -106,7 +109,8 @@ fn check_inside<'a, W: Watch>(
     requires kept { IsKeptFor table.old s.now kept }
     requires inside { AddsNothing s.now.world.now.signatures kept.f f }
     requires pieces { AreMadeIn table.old s.now f.place pieces.old.items }
-    ensures check { ChecksAt table.old s.now f (W.told watch.old) (W.told watch.new) (ending result) }
+    ensures check { ChecksAt table.old s.now f (W.told watch.old)
+        (W.told watch.new) (ending result) }
     ensures kept { IfOk result (IsKeptFor table.new s.now) }
     ensures pieces { OnOk result (AreMadeIn table.old s.now (f.place + 1) pieces.new.items) }
     ensures extends { OnOk result (Extends table.old table.new) }
@@ -132,7 +136,8 @@ fn check_beside<'a, W: Watch>(
     requires f { f.place < length s.now.world.now.signatures }
     requires kept { IsKeptFor table.old s.now kept }
     requires pieces { AreMadeIn table.old s.now f.place pieces.old.items }
-    ensures check { ChecksAt table.old s.now f (W.told watch.old) (W.told watch.new) (ending result) }
+    ensures check { ChecksAt table.old s.now f (W.told watch.old)
+        (W.told watch.new) (ending result) }
     ensures kept { IfOk result (IsKeptFor table.new s.now) }
     ensures pieces { OnOk result (AreMadeIn table.old s.now (f.place + 1) pieces.new.items) }
     ensures extends { OnOk result (Extends table.old table.new) }
@@ -158,7 +163,8 @@ fn check_after<'a, W: Watch>(
     requires f { f.place < length s.now.world.now.signatures }
     requires kept { IsKeptFor table.old s.now kept }
     requires pieces { AreMadeIn table.old s.now f.place pieces.old.items }
-    ensures check { ChecksAt table.old s.now f (W.told watch.old) (W.told watch.new) (ending result) }
+    ensures check { ChecksAt table.old s.now f (W.told watch.old)
+        (W.told watch.new) (ending result) }
     ensures kept { IfOk result (IsKeptFor table.new s.now) }
     ensures pieces { OnOk result (AreMadeIn table.old s.now (f.place + 1) pieces.new.items) }
     ensures extends { OnOk result (Extends table.old table.new) }
@@ -183,7 +189,8 @@ fn check_one<'a, W: Watch>(
     requires f { f.place < length s.now.world.now.signatures }
     requires last { IsLast table.old s.now last }
     requires pieces { AreMadeIn table.old s.now f.place pieces.old.items }
-    ensures check { ChecksAt table.old s.now f (W.told watch.old) (W.told watch.new) (ending result) }
+    ensures check { ChecksAt table.old s.now f (W.told watch.old)
+        (W.told watch.new) (ending result) }
     ensures kept { IfOk result (IsKeptFor table.new s.now) }
     ensures pieces { OnOk result (AreMadeIn table.old s.now (f.place + 1) pieces.new.items) }
     ensures extends { OnOk result (Extends table.old table.new) }
@@ -203,8 +210,10 @@ fn check_all<W: Watch>(
 ) -> Result<(), Refused>
     requires ready { IsReady table.old s.now }
     requires pieces { AreMadeIn table.old s.now 0 pieces.old.items }
-    ensures check { ChecksAll s.now.limits (world_in table.old s.now) (last_rules s.now.protocols.now.rounds) (W.told watch.old) (W.told watch.new) result }
-    ensures pieces { OnOk result (AreMadeIn table.old s.now (length s.now.world.now.signatures) pieces.new.items) }
+    ensures check { ChecksAll s.now.limits (world_in table.old s.now)
+        (last_rules s.now.protocols.now.rounds) (W.told watch.old) (W.told watch.new) result }
+    ensures pieces { OnOk result
+        (AreMadeIn table.old s.now (length s.now.world.now.signatures) pieces.new.items) }
     ensures extends { OnOk result (Extends table.old table.new) }
 {
     let mut last = None;
@@ -239,8 +248,10 @@ pub(crate) fn check<W: Watch>(
     requires text { IsTextOver table.old world.now }
     requires short { IsShort world.now }
     requires asked { IsAskedOf world.now asked.now }
-    ensures check { Checks asked.now.limits (world_by table.old world.now) (W.told watch.old) (W.told watch.new) result }
-    ensures checked { IfOk result (IsCheckedFor asked.now.limits (world_by table.old world.now) world.now asked.now.content) }
+    ensures check { Checks asked.now.limits (world_by table.old world.now) (W.told watch.old)
+        (W.told watch.new) result }
+    ensures checked { IfOk result
+        (IsCheckedFor asked.now.limits (world_by table.old world.now) world.now asked.now.content) }
     ensures extends { OnOk result (Extends table.old table.new) }
 {
     let protocols = Protocols::build(alloc, world, table, asked.limits, watch)?;

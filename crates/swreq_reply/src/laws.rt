@@ -24,8 +24,10 @@ ghost use Rattle.swreq_reply.specs.Verdict.{IsRefused, IsVerdict};
 /// An input with this source text, and with its second part from this offset on, that is refused has no other verdict.
 pub fn one_verdict(input: &[u8], source: &[u8], from: u32)
     requires { from ≤ length input.now }
-    ensures { (line : CommandLine) (p : Parts) → AreParts line.command input.now p → p.source ≡ source.now → second_at p ≡ from
-        → (o q : Outcome) (told also : List Event) → IsRefused line input.now o told → IsVerdict line input.now q also → q ≡ o }
+    ensures { (line : CommandLine) (p : Parts) → AreParts line.command input.now p
+        → p.source ≡ source.now → second_at p ≡ from
+        → (o q : Outcome) (told also : List Event) → IsRefused line input.now o told
+        → IsVerdict line input.now q also → q ≡ o }
 {
     swreq_lex::laws::one_reading(source);
     swreq_decl::laws::one_skeleton(source);
@@ -40,9 +42,11 @@ pub fn one_verdict(input: &[u8], source: &[u8], from: u32)
 /// `explain` alone may be others.
 pub fn one_output(input: &[u8], source: &[u8], from: u32)
     requires { from ≤ length input.now }
-    ensures { (line : CommandLine) (p : Parts) → AreParts line.command input.now p → p.source ≡ source.now → second_at p ≡ from
+    ensures { (line : CommandLine) (p : Parts) → AreParts line.command input.now p
+        → p.source ≡ source.now → second_at p ≡ from
         → content_of line.command ≢ Answers (Each Derivation)
-        → (o q : Outcome) (told also : List Event) → IsVerdict line input.now o told → IsVerdict line input.now q also
+        → (o q : Outcome) (told also : List Event) → IsVerdict line input.now o told
+        → IsVerdict line input.now q also
         → o.status ≡ 0 → q.status ≡ 0 → q ≡ o }
 {
     swreq_decl::laws::one_skeleton(source);
@@ -54,18 +58,24 @@ pub fn one_output(input: &[u8], source: &[u8], from: u32)
 
 /// With `verify` nothing is told, whether the input has a verdict or memory runs out.
 pub fn verify_tells_nothing()
-    ensures verdict { (line : CommandLine) (input : Text) (o : Outcome) (told : List Event) → line.command ≡ Verify
+    ensures verdict { (line : CommandLine) (input : Text) (o : Outcome) (told : List Event)
+        → line.command ≡ Verify
         → IsVerdict line input o told → told ≡ [] }
-    ensures part { (line : CommandLine) (input : Text) (told : List Event) → line.command ≡ Verify → TellsPart line input told → told ≡ [] }
+    ensures part { (line : CommandLine) (input : Text) (told : List Event) → line.command ≡ Verify
+        → TellsPart line input told → told ≡ [] }
 {}
 
 /// What `explain` prints after a `yes`, `verify` calls `ok` under the same query: after a line `yes` it is a section, and of each section
 /// that is laid so `ok` is said. A second part has at most 1,048,576 bytes.
 pub fn explained_is_ok(text: &[u8])
-    ensures section { (w : TextWorld) (q : TermQuery) (behind : Text) → IsWorldOfText text.now w → Contains w.queries q
-        → IsDerivationText w q behind → length behind ≤ 1048576 → (s : TermSection) × IsLaidUnderYes w behind s }
-    ensures ok { (w : TextWorld) (q : TermQuery) (behind : Text) (s : TermSection) → IsWorldOfText text.now w → Contains w.queries q
-        → IsDerivationText w q behind → length behind ≤ 1048576 → IsLaidUnderYes w behind s → IsJudged w q s Derived }
+    ensures section { (w : TextWorld) (q : TermQuery) (behind : Text)
+        → IsWorldOfText text.now w → Contains w.queries q
+        → IsDerivationText w q behind → length behind ≤ 1048576
+        → (s : TermSection) × IsLaidUnderYes w behind s }
+    ensures ok { (w : TextWorld) (q : TermQuery) (behind : Text) (s : TermSection)
+        → IsWorldOfText text.now w → Contains w.queries q
+        → IsDerivationText w q behind → length behind ≤ 1048576 → IsLaidUnderYes w behind s
+        → IsJudged w q s Derived }
 {
     swreq_lowering::laws::lists_are_short(text);
     swreq_world::laws::worlds_are_closed(text);

@@ -41,7 +41,8 @@ pub(crate) fn make_pieces(
     requires ready { IsReady table.old s.now }
     requires machine { IsMachineFor table.old s.now own.now.f own.now.machine.now }
     requires pieces { AreMadeIn table.old s.now own.now.f.place pieces.old.items }
-    ensures pieces { OnOk result (AreMadeIn table.old s.now (own.now.f.place + 1) pieces.new.items) }
+    ensures pieces { OnOk result
+        (AreMadeIn table.old s.now (own.now.f.place + 1) pieces.new.items) }
     ensures extends { OnOk result (Extends table.old table.new) }
 {
     match s.content {

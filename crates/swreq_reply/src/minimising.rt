@@ -47,12 +47,15 @@ fn line_of<W: Watch>(
     requires text { IsTextOver table.old l.now.world.now }
     requires lists { AreReady table.old l.now }
     requires f { f.place < length l.now.world.now.signatures }
-    ensures line { IfOk result (IsMinimisedLine (world_of table.old l.now) (signature_at (world_of table.old l.now) f)) }
+    ensures line { IfOk result
+        (IsMinimisedLine (world_of table.old l.now) (signature_at (world_of table.old l.now) f)) }
     ensures told { OnOk result ((told : List Event)
-        × MinimisingTells l.now.limits (world_of table.old l.now) (rules_of l.now) (signature_at (world_of table.old l.now) f) told
+        × MinimisingTells l.now.limits (world_of table.old l.now) (rules_of l.now)
+        (signature_at (world_of table.old l.now) f) told
         × GrewBy (W.told watch.old) (W.told watch.new) told) }
     ensures failed { IfErr result (λ failed. (told : List Event)
-        × MinimisingFails l.now.limits (world_of table.old l.now) (rules_of l.now) (signature_at (world_of table.old l.now) f) failed told
+        × MinimisingFails l.now.limits (world_of table.old l.now) (rules_of l.now)
+        (signature_at (world_of table.old l.now) f) failed told
         × GrewBy (W.told watch.old) (W.told watch.new) told) }
     ensures extends { Extends table.old table.new }
 {
@@ -90,10 +93,12 @@ fn line_if_wanted<W: Watch>(
     requires f { f.place < length l.now.world.now.signatures }
     ensures line { IfOk result (IsLineKept (world_of table.old l.now) (wants l.now) f) }
     ensures told { OnOk result ((told : List Event)
-        × TellsOne l.now.limits (world_of table.old l.now) l.now.content (rules_of l.now) (signature_at (world_of table.old l.now) f) told
+        × TellsOne l.now.limits (world_of table.old l.now) l.now.content (rules_of l.now)
+        (signature_at (world_of table.old l.now) f) told
         × GrewBy (W.told watch.old) (W.told watch.new) told) }
     ensures failed { IfErr result (λ failed. (told : List Event)
-        × FailsAt l.now.limits (world_of table.old l.now) l.now.content (rules_of l.now) (signature_at (world_of table.old l.now) f) failed told
+        × FailsAt l.now.limits (world_of table.old l.now) l.now.content (rules_of l.now)
+        (signature_at (world_of table.old l.now) f) failed told
         × GrewBy (W.told watch.old) (W.told watch.new) told) }
     ensures extends { Extends table.old table.new }
 {
@@ -115,13 +120,16 @@ pub(crate) fn minimised_lines<W: Watch>(
 ) -> Result<Vec<Option<Seq<u8>>>, Failed>
     requires text { IsTextOver table.old l.now.world.now }
     requires lists { AreReady table.old l.now }
-    ensures lines { IfOk result (λ v. AreLinesKept (world_of table.old l.now) (wants l.now) v.items) }
+    ensures lines { IfOk result
+        (λ v. AreLinesKept (world_of table.old l.now) (wants l.now) v.items) }
     ensures count { IfOk result (λ v. length v.items ≡ length l.now.world.now.signatures) }
     ensures told { OnOk result ((told : List Event)
-        × MinimisingAllTells l.now.limits (world_of table.old l.now) l.now.content (rules_of l.now) told
+        × MinimisingAllTells l.now.limits
+        (world_of table.old l.now) l.now.content (rules_of l.now) told
         × GrewBy (W.told watch.old) (W.told watch.new) told) }
     ensures failed { IfErr result (λ failed. (told : List Event)
-        × MinimisingEndsIn l.now.limits (world_of table.old l.now) l.now.content (rules_of l.now) failed told
+        × MinimisingEndsIn l.now.limits (world_of table.old l.now) l.now.content
+        (rules_of l.now) failed told
         × GrewBy (W.told watch.old) (W.told watch.new) told) }
     ensures extends { Extends table.old table.new }
 {

@@ -81,9 +81,12 @@ pub fn reply<W: Watch>(
 ) -> Result<Outcome, AllocError>
     requires limits { AreInRange (limits_of line.now) }
     requires count { HasCount line.now.command }
-    ensures verdict { IfOk result (IsToldVerdict line.now (answered_text line.now.command text.now) (W.told watch.old) (W.told watch.new)) }
-    ensures told_part { OnErr result (WasToldPart line.now (answered_text line.now.command text.now) (W.told watch.old) (W.told watch.new)) }
-    ensures refused { (o : Outcome) (told : List Event) → IsRefused line.now (answered_text line.now.command text.now) o told
+    ensures verdict { IfOk result (IsToldVerdict line.now (answered_text line.now.command text.now)
+        (W.told watch.old) (W.told watch.new)) }
+    ensures told_part { OnErr result (WasToldPart line.now (answered_text line.now.command text.now)
+        (W.told watch.old) (W.told watch.new)) }
+    ensures refused { (o : Outcome) (told : List Event)
+        → IsRefused line.now (answered_text line.now.command text.now) o told
         → IfOk result (λ answer. answer ≡ o) }
 {
     match line.command {
@@ -105,7 +108,8 @@ fn read<W: Watch>(
     requires limits { AreInRange (limits_of line.now) }
     requires count { HasCount line.now.command }
     ensures reply { Replies line.now input.now (W.told watch.old) (W.told watch.new) result }
-    ensures refused { (o : Outcome) (told : List Event) → IsRefused line.now input.now o told → IfOk result (λ answer. answer ≡ o) }
+    ensures refused { (o : Outcome) (told : List Event) → IsRefused line.now input.now o told
+        → IfOk result (λ answer. answer ≡ o) }
 {
     if input.len() > TEXT_LIMIT {
         return refused(alloc, RefusalKind::TooLarge);
@@ -123,7 +127,8 @@ fn read<W: Watch>(
 /// What is answered of the source text.
 fn with_source<W: Watch>(r: &Request<'_>, watch: &mut W) -> Result<Outcome, AllocError>
     requires { IsRequest r.now }
-    ensures { Replies (line_of r.now) (parts_of r.now).input (W.told watch.old) (W.told watch.new) result }
+    ensures { Replies (line_of r.now) (parts_of r.now).input (W.told watch.old)
+        (W.told watch.new) result }
 {
     match parse(r.alloc, r.parts.source) {
         Ok(skeleton) => with_skeleton(r, &skeleton, watch),
@@ -149,7 +154,8 @@ fn with_skeleton<W: Watch>(
 ) -> Result<Outcome, AllocError>
     requires request { IsRequest r.now }
     requires stands { StandsFor (parts_of r.now).source skeleton.now }
-    ensures { Replies (line_of r.now) (parts_of r.now).input (W.told watch.old) (W.told watch.new) result }
+    ensures { Replies (line_of r.now) (parts_of r.now).input (W.told watch.old)
+        (W.told watch.new) result }
 {
     let mut table = ParamTable::new(r.alloc);
     over_table(r, skeleton, &mut table, watch)
@@ -164,7 +170,8 @@ fn over_table<W: Watch>(
 ) -> Result<Outcome, AllocError>
     requires request { IsRequest r.now }
     requires stands { StandsFor (parts_of r.now).source skeleton.now }
-    ensures { Replies (line_of r.now) (parts_of r.now).input (W.told watch.old) (W.told watch.new) result }
+    ensures { Replies (line_of r.now) (parts_of r.now).input (W.told watch.old)
+        (W.told watch.new) result }
 {
     one_skeleton(r.parts.source);
     match World::resolve(r.alloc, r.parts.source, skeleton, table) {
@@ -194,7 +201,8 @@ fn with_world<W: Watch>(
     requires world { IsWorldOfText (parts_of r.now).source (world_by table.old world.now) }
     requires text { IsTextOver table.old world.now }
     requires short { IsShort world.now }
-    ensures { Replies (line_of r.now) (parts_of r.now).input (W.told watch.old) (W.told watch.new) result }
+    ensures { Replies (line_of r.now) (parts_of r.now).input (W.told watch.old)
+        (W.told watch.new) result }
 {
     match content_of(r.line.command) {
         Content::Judgements => judged(r, world, table),
@@ -234,7 +242,8 @@ fn checked<W: Watch>(
     requires text { IsTextOver table.old world.now }
     requires short { IsShort world.now }
     requires checks { ChecksMachines (line_of r.now).command }
-    ensures { Replies (line_of r.now) (parts_of r.now).input (W.told watch.old) (W.told watch.new) result }
+    ensures { Replies (line_of r.now) (parts_of r.now).input (W.told watch.old)
+        (W.told watch.new) result }
 {
     let content = content_of(r.line.command);
     let places = places(r.alloc, world, content)?;
@@ -251,7 +260,8 @@ fn checked<W: Watch>(
 
 /// What is answered where the machines have this error.
 fn unchecked(r: &Request<'_>, world: &World, e: &Refused) -> Result<Outcome, AllocError>
-    ensures { IfOk result (λ o. (e.now ≢ machines.Memory) × (o ≡ machine_outcome (line_of r.now) world.now.lexicon e.now)) }
+    ensures { IfOk result (λ o.
+        (e.now ≢ machines.Memory) × (o ≡ machine_outcome (line_of r.now) world.now.lexicon e.now)) }
 {
     match e {
         Refused::Memory => Err(AllocError),
@@ -275,8 +285,10 @@ fn finish<W: Watch>(
     requires text { IsTextOver table.old world.now }
     requires short { IsShort world.now }
     requires checks { ChecksMachines (line_of r.now).command }
-    requires checked { IsCheckedFor (limits_in r.now) (world_by table.old world.now) world.now (printed_of r.now) checked.now }
-    ensures { Finishes (line_of r.now) (parts_of r.now).input (world_by table.old world.now) (last_rules checked.now.protocols.rounds)
+    requires checked { IsCheckedFor (limits_in r.now) (world_by table.old world.now) world.now
+        (printed_of r.now) checked.now }
+    ensures { Finishes (line_of r.now) (parts_of r.now).input (world_by table.old world.now)
+        (last_rules checked.now.protocols.rounds)
         (W.told watch.old) (W.told watch.new) result }
 {
     match content_of(r.line.command) {
@@ -298,8 +310,10 @@ fn families<W: Watch>(
     requires world { IsWorldOfText (parts_of r.now).source (world_by table.now world.now) }
     requires text { IsTextOver table.now world.now }
     requires families { printed_of r.now ≡ Families }
-    requires checked { IsCheckedFor (limits_in r.now) (world_by table.now world.now) world.now (printed_of r.now) checked.now }
-    ensures { Finishes (line_of r.now) (parts_of r.now).input (world_by table.now world.now) (last_rules checked.now.protocols.rounds)
+    requires checked { IsCheckedFor (limits_in r.now) (world_by table.now world.now) world.now
+        (printed_of r.now) checked.now }
+    ensures { Finishes (line_of r.now) (parts_of r.now).input (world_by table.now world.now)
+        (last_rules checked.now.protocols.rounds)
         (W.told watch.old) (W.told watch.new) result }
 {
     let _ = checked;
@@ -328,8 +342,10 @@ fn called(
     requires text { IsTextOver table.old world.now }
     requires short { IsShort world.now }
     requires calls { printed_of r.now ≡ Calls }
-    requires checked { IsCheckedFor (limits_in r.now) (world_by table.old world.now) world.now (printed_of r.now) checked.now }
-    ensures { (told : Option (List Event)) → Finishes (line_of r.now) (parts_of r.now).input (world_by table.old world.now)
+    requires checked { IsCheckedFor (limits_in r.now) (world_by table.old world.now) world.now
+        (printed_of r.now) checked.now }
+    ensures { (told : Option (List Event))
+        → Finishes (line_of r.now) (parts_of r.now).input (world_by table.old world.now)
         (last_rules checked.now.protocols.rounds) told told result }
 {
     names_have_ids(r.parts.source);
@@ -354,9 +370,11 @@ fn answered_calls(
     requires text { IsTextOver table.old world.now }
     requires short { IsShort world.now }
     requires limits { AreInRange (limits_in r.now) }
-    requires checked { IsCheckedFor (limits_in r.now) (world_by table.old world.now) world.now (printed_of r.now) checked.now }
+    requires checked { IsCheckedFor (limits_in r.now) (world_by table.old world.now) world.now
+        (printed_of r.now) checked.now }
     requires calls { All (IsCallIn table.old world.now) calls.now }
-    ensures { IfOk result (λ o. (o.status ≡ 0) × AnswersCalls (world_by table.old world.now) (map (call_by table.old) calls.now) o.output) }
+    ensures { IfOk result (λ o. (o.status ≡ 0) × AnswersCalls (world_by table.old world.now)
+        (map (call_by table.old) calls.now) o.output) }
 {
     let passed = Passed {
         alloc: r.alloc,
@@ -383,8 +401,10 @@ fn pieces<W: Watch>(
     requires world { IsWorldOfText (parts_of r.now).source (world_by table.old world.now) }
     requires text { IsTextOver table.old world.now }
     requires prints { PrintsPieces (printed_of r.now) }
-    requires checked { IsCheckedFor (limits_in r.now) (world_by table.old world.now) world.now (printed_of r.now) checked.now }
-    ensures { Finishes (line_of r.now) (parts_of r.now).input (world_by table.old world.now) (last_rules checked.now.protocols.rounds)
+    requires checked { IsCheckedFor (limits_in r.now) (world_by table.old world.now) world.now
+        (printed_of r.now) checked.now }
+    ensures { Finishes (line_of r.now) (parts_of r.now).input (world_by table.old world.now)
+        (last_rules checked.now.protocols.rounds)
         (W.told watch.old) (W.told watch.new) result }
 {
     let content = content_of(r.line.command);
@@ -422,8 +442,16 @@ fn answered(
     lists: &[Option<Seq<u8>>],
 ) -> Result<Outcome, AllocError>
     requires request { IsRequest r.now }
-    requires made { IsWhole (record { alloc = r.now.alloc; world = world; table = table; content = printed_of r.now; pieces = pieces; lists = lists }) }
-    ensures { IfOk result (λ o. (o.status ≡ 0) × IsOutput (world_by table.now world.now) true (printed_of r.now) (parts_of r.now) o.output) }
+    requires made { IsWhole (record {
+      alloc = r.now.alloc;
+      world = world;
+      table = table;
+      content = printed_of r.now;
+      pieces = pieces;
+      lists = lists;
+    }) }
+    ensures { IfOk result (λ o. (o.status ≡ 0) × IsOutput (world_by table.now world.now) true
+        (printed_of r.now) (parts_of r.now) o.output) }
 {
     let made = MadePieces {
         alloc: r.alloc,
@@ -458,7 +486,8 @@ fn stopped(
     which: Which,
     trace: &[Rule],
 ) -> Result<Outcome, AllocError>
-    ensures { IfOk result (λ o. o ≡ stopped_with (line_of r.now) world.now.lexicon which trace.now) }
+    ensures { IfOk result
+        (λ o. o ≡ stopped_with (line_of r.now) world.now.lexicon which trace.now) }
 {
     let mut out = Vec::new(r.alloc);
     refusal_text(r.alloc, &limit_refusal(limits_of(r.line), which), &mut out)?;

@@ -42,8 +42,10 @@ pub(crate) fn machine_of<'b>(
     requires text { IsTextOver table.now p.now.world.now }
     requires passed { HasPassed table.now p.now }
     requires f { f.place < length p.now.world.now.signatures }
-    ensures machine { IfOk result (IsMachineOf (world_of table.now p.now) (written_list (signature_at (world_of table.now p.now) f))) }
-    ensures params { IfOk result (λ m. m.params ≡ (signature_at (world_of table.now p.now) f).params) }
+    ensures machine { IfOk result (IsMachineOf (world_of table.now p.now)
+        (written_list (signature_at (world_of table.now p.now) f))) }
+    ensures params { IfOk result
+        (λ m. m.params ≡ (signature_at (world_of table.now p.now) f).params) }
 {
     let text = Text {
         world: p.world,

@@ -50,7 +50,8 @@ fn maker(world: &World, content: Content, k: usize) -> Option<FuncId>
 /// `count` lists without places.
 fn no_places(alloc: Global, count: usize) -> Result<Vec<Vec<usize>>, AllocError>
     ensures count { IfOk result (λ v. length v.items ≡ count) }
-    ensures empty { IfOk result (λ v. All (λ (places : Vec ℕ GlobalView). places.items ≡ []) v.items) }
+    ensures empty { IfOk result
+        (λ v. All (λ (places : Vec ℕ GlobalView). places.items ≡ []) v.items) }
 {
     let mut groups = Vec::new(alloc);
     for _ in 0..count {
@@ -68,9 +69,12 @@ fn note(
 ) -> Result<(), AllocError>
     requires k { k < count_of world.now content }
     requires short { IsShort world.now }
-    requires queries { (q : QueryView) → Contains world.now.queries q → (function_of q).place < length world.now.signatures }
-    requires places { ArePlaces (maker world.now content) (length world.now.signatures) k places.old.items }
-    ensures { OnOk result (ArePlaces (maker world.now content) (length world.now.signatures) (k + 1) places.new.items) }
+    requires queries { (q : QueryView) → Contains world.now.queries q
+        → (function_of q).place < length world.now.signatures }
+    requires places { ArePlaces (maker world.now content)
+        (length world.now.signatures) k places.old.items }
+    ensures { OnOk result (ArePlaces (maker world.now content) (length world.now.signatures)
+        (k + 1) places.new.items) }
 {
     match maker(world, content, k) {
         Some(f) => {
@@ -88,8 +92,10 @@ pub(crate) fn places(
     content: Content,
 ) -> Result<Vec<Vec<usize>>, AllocError>
     requires short { IsShort world.now }
-    requires queries { (q : QueryView) → Contains world.now.queries q → (function_of q).place < length world.now.signatures }
-    ensures { IfOk result (λ v. ArePlaces (maker world.now content) (length world.now.signatures) (count_of world.now content) v.items) }
+    requires queries { (q : QueryView) → Contains world.now.queries q
+        → (function_of q).place < length world.now.signatures }
+    ensures { IfOk result (λ v. ArePlaces (maker world.now content) (length world.now.signatures)
+        (count_of world.now content) v.items) }
 {
     let mut places = no_places(alloc, world.functions() as usize)?;
     for k in 0..count_of(world, content) {

@@ -53,7 +53,8 @@ fn answer_at<'a>(m: &MadePieces<'a>, k: usize) -> &'a [u8]
     requires k { k < length m.now.world.now.queries }
     requires answers { AreAnswers m.now.content }
     requires whole { IsWhole m.now }
-    ensures { IsLineOf (world_of m.now) true (backing_of m.now.content) (query_at m.now k) result.now }
+    ensures { IsLineOf (world_of m.now) true (backing_of m.now.content)
+        (query_at m.now k) result.now }
 {
     match list_asked(&m.world.queries()[k]) {
         Some(f) => text_at(m.lists, f.place as usize),
@@ -65,7 +66,8 @@ fn answer_at<'a>(m: &MadePieces<'a>, k: usize) -> &'a [u8]
 fn all_answers(m: &MadePieces<'_>) -> Result<Vec<u8>, AllocError>
     requires answers { AreAnswers m.now.content }
     requires whole { IsWhole m.now }
-    ensures { IfOk result (λ v. AreLinesIn (IsLineOf (world_of m.now) true (backing_of m.now.content)) (world_of m.now).queries v.items) }
+    ensures { IfOk result (λ v. AreLinesIn (IsLineOf (world_of m.now) true
+        (backing_of m.now.content)) (world_of m.now).queries v.items) }
 {
     let mut out = Vec::new(m.alloc);
     for k in 0..m.world.queries().len() {
@@ -79,7 +81,8 @@ fn has_verdict(m: &MadePieces<'_>, k: usize, verdict: Verdict) -> bool
     requires k { k < length m.now.world.now.queries }
     requires counts { (n : ℕ) × (m.now.content ≡ Answers (Counts n)) }
     requires whole { IsWhole m.now }
-    ensures { Decides result (HasAnswer (world_of m.now) true (answer_of verdict) (query_at m.now k)) }
+    ensures { Decides result
+        (HasAnswer (world_of m.now) true (answer_of verdict) (query_at m.now k)) }
 {
     answer_at(m, k) == verdict.line()
 }
@@ -88,7 +91,8 @@ fn has_verdict(m: &MadePieces<'_>, k: usize, verdict: Verdict) -> bool
 fn count_of(m: &MadePieces<'_>, verdict: Verdict) -> usize
     requires counts { (n : ℕ) × (m.now.content ≡ Answers (Counts n)) }
     requires whole { IsWhole m.now }
-    ensures { Counted (HasAnswer (world_of m.now) true (answer_of verdict)) (world_of m.now).queries result }
+    ensures { Counted (HasAnswer (world_of m.now) true (answer_of verdict))
+        (world_of m.now).queries result }
 {
     let mut count = 0;
     for k in 0..m.world.queries().len() {
@@ -137,7 +141,8 @@ fn put_verdicts(
     invalid_count: usize,
     out: &mut Vec<u8>,
 ) -> Result<(), AllocError>
-    ensures { OnOk result (out.new.items ≡ out.old.items ++ verdicts_text yes_count no_count invalid_count) }
+    ensures { OnOk result
+        (out.new.items ≡ out.old.items ++ verdicts_text yes_count no_count invalid_count) }
 {
     put_count("yes ", yes_count, out)?;
     put_count("\nno ", no_count, out)?;
@@ -149,7 +154,8 @@ fn put_verdicts(
 fn counts(m: &MadePieces<'_>, n: u32) -> Result<Vec<u8>, AllocError>
     requires counts { m.now.content ≡ Answers (Counts n) }
     requires whole { IsWhole m.now }
-    ensures { IfOk result (λ v. (lines : List Text) × AreCounts (world_of m.now) true n lines × (v.items ≡ concat lines)) }
+    ensures { IfOk result (λ v.
+        (lines : List Text) × AreCounts (world_of m.now) true n lines × (v.items ≡ concat lines)) }
 {
     let mut out = Vec::new(m.alloc);
     let yes_count = count_of(m, Verdict::Yes);
@@ -165,7 +171,8 @@ fn counts(m: &MadePieces<'_>, n: u32) -> Result<Vec<u8>, AllocError>
 fn all_systems(m: &MadePieces<'_>) -> Result<Vec<u8>, AllocError>
     requires systems { m.now.content ≡ Systems }
     requires whole { IsWhole m.now }
-    ensures { IfOk result (λ v. AreLinesIn (IsSystemText (world_of m.now)) (world_of m.now).signatures v.items) }
+    ensures { IfOk result
+        (λ v. AreLinesIn (IsSystemText (world_of m.now)) (world_of m.now).signatures v.items) }
 {
     let mut out = Vec::new(m.alloc);
     for k in 0..m.pieces.len() {
@@ -179,7 +186,8 @@ fn put_named(m: &MadePieces<'_>, f: FuncId, out: &mut Vec<u8>) -> Result<(), All
     requires signatures { m.now.content ≡ Signatures }
     requires whole { IsWhole m.now }
     requires f { f.place < length m.now.world.now.signatures }
-    ensures { OnOk result ((line : Text) × IsNamedLine (world_of m.now) (get_or (world_of m.now).signatures f.place no_signature) line
+    ensures { OnOk result ((line : Text) × IsNamedLine (world_of m.now)
+        (get_or (world_of m.now).signatures f.place no_signature) line
         × (out.new.items ≡ out.old.items ++ line)) }
 {
     full_name(m.world, m.table, f, out)?;
@@ -191,7 +199,8 @@ fn put_named(m: &MadePieces<'_>, f: FuncId, out: &mut Vec<u8>) -> Result<(), All
 fn all_signatures(m: &MadePieces<'_>) -> Result<Vec<u8>, AllocError>
     requires signatures { m.now.content ≡ Signatures }
     requires whole { IsWhole m.now }
-    ensures { IfOk result (λ v. AreLinesIn (IsNamedLine (world_of m.now)) (world_of m.now).signatures v.items) }
+    ensures { IfOk result
+        (λ v. AreLinesIn (IsNamedLine (world_of m.now)) (world_of m.now).signatures v.items) }
 {
     let mut out = Vec::new(m.alloc);
     for k in 0..m.world.functions() {
@@ -204,7 +213,8 @@ fn all_signatures(m: &MadePieces<'_>) -> Result<Vec<u8>, AllocError>
 fn shown_answers(m: &MadePieces<'_>, shown: Shown) -> Result<Vec<u8>, AllocError>
     requires shown { m.now.content ≡ Answers shown }
     requires whole { IsWhole m.now }
-    ensures { IfOk result (λ v. (parts : Parts) → IsOutput (world_of m.now) true (Answers shown) parts v.items) }
+    ensures { IfOk result
+        (λ v. (parts : Parts) → IsOutput (world_of m.now) true (Answers shown) parts v.items) }
 {
     match shown {
         Shown::Each { .. } => all_answers(m),
@@ -215,7 +225,8 @@ fn shown_answers(m: &MadePieces<'_>, shown: Shown) -> Result<Vec<u8>, AllocError
 /// What a command prints that prints pieces of machines or minimised lists.
 pub(crate) fn output(m: &MadePieces<'_>) -> Result<Vec<u8>, AllocError>
     requires { IsWhole m.now }
-    ensures { IfOk result (λ v. (parts : Parts) → IsOutput (world_of m.now) true m.now.content parts v.items) }
+    ensures { IfOk result
+        (λ v. (parts : Parts) → IsOutput (world_of m.now) true m.now.content parts v.items) }
 {
     match m.content {
         Content::Answers { shown } => shown_answers(m, shown),

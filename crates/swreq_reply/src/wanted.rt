@@ -39,8 +39,10 @@ fn flags(alloc: Global, count: usize, flag: bool) -> Result<Vec<bool>, AllocErro
 
 /// Of each signature, whether some query asks for its minimised list.
 fn lists_asked(alloc: Global, world: &World) -> Result<Vec<bool>, AllocError>
-    requires { (q : Query) → Contains world.now.queries q → (function_of q).place < length world.now.signatures }
-    ensures { IfOk result (λ v. AreFlags (is_list_asked world.now.queries) (length world.now.signatures) v.items) }
+    requires { (q : Query) → Contains world.now.queries q
+        → (function_of q).place < length world.now.signatures }
+    ensures { IfOk result
+        (λ v. AreFlags (is_list_asked world.now.queries) (length world.now.signatures) v.items) }
 {
     let mut flags = flags(alloc, world.functions() as usize, false)?;
     for k in 0..world.queries().len() {
@@ -57,8 +59,10 @@ pub(crate) fn lists_wanted(
     world: &World,
     content: Content,
 ) -> Result<Vec<bool>, AllocError>
-    requires { (q : Query) → Contains world.now.queries q → (function_of q).place < length world.now.signatures }
-    ensures { IfOk result (λ v. AreFlags (wants_list content world.now.queries) (length world.now.signatures) v.items) }
+    requires { (q : Query) → Contains world.now.queries q
+        → (function_of q).place < length world.now.signatures }
+    ensures { IfOk result (λ v.
+        AreFlags (wants_list content world.now.queries) (length world.now.signatures) v.items) }
 {
     match content {
         Content::Answers { .. } => lists_asked(alloc, world),

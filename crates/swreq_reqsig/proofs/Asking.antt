@@ -76,7 +76,8 @@ module _ (w : IdWorld) (terms : List Term) (text : IsTextOver terms w) where
 
   -- a requirement at its place
   requirement_there : (k : ℕ) (outline : Outline) → slice_get (outlines_of w.lexicon (owned W)) k ≡ Some outline
-      → (x : Place) × IsRequirementIn terms w.lexicon x.requirement × (outline_in w.lexicon x.proto (requirement_of terms x.requirement) ≡ outline)
+      → (x : Place) × IsRequirementIn terms w.lexicon x.requirement
+      × (outline_in w.lexicon x.proto (requirement_of terms x.requirement) ≡ outline)
   requirement_there k outline at =
       let (o, there, same) = get_of_map (outline_of w.lexicon) (owned W) k outline at in
       let (x, placed, is) = get_of_map (owned_at terms) (all_places w) k o (ap (λ z. slice_get z k) (places_owned w terms) ∙ there) in (
@@ -101,7 +102,8 @@ module _ (w : IdWorld) (terms : List Term) (text : IsTextOver terms w) where
       let named = (text.closed.ids.associated e (get_contains w.lexicon.associated d.rank e there)).1 in
       let rank = ap (λ (z : ProtocolName). z.name.rank) is in omega (arith, named, rank)
 
-  names_in : (r : TermRequirement) (p : ProtoId) → IsRequirementOf w.lexicon r → HasLists (length w.lexicon.names + 1) (outline_in w.lexicon p r)
+  names_in : (r : TermRequirement) (p : ProtoId) → IsRequirementOf w.lexicon r
+      → HasLists (length w.lexicon.names + 1) (outline_in w.lexicon p r)
   names_in (Conforms t q) p h a is = subst (λ (z : Option NameId). list_of z < length w.lexicon.names + 1) is (name_below t h.0)
   names_in (IsAnyObject t) p h a is = subst (λ (z : Option NameId). list_of z < length w.lexicon.names + 1) is (name_below t h)
   names_in (Equals t u) p h a is = elim is [
@@ -121,7 +123,8 @@ module _ (w : IdWorld) (terms : List Term) (text : IsTextOver terms w) where
   kept_family places flags e =
       ap (λ (z : List Place). chosen (map (owned_at terms) z) flags) e ∙ ap (λ (z : List Owned). chosen z flags) (places_owned w terms)
 
-  module _ (places : List Place) (flags : List Bool) (at : ℕ) (x : Place) (are : places ≡ all_places w) (there : slice_get places at ≡ Some x) where
+  module _ (places : List Place) (flags : List Bool) (at : ℕ) (x : Place) (are : places ≡ all_places w)
+      (there : slice_get places at ≡ Some x) where
     stands : slice_get (owned W) at ≡ Some (owned_at terms x)
     stands = owned_there w terms at x (ap (λ z. slice_get z at) (sym are) ∙ there)
 
@@ -194,7 +197,8 @@ module _ (w : IdWorld) (terms : List Term) (text : IsTextOver terms w) where
         let reached : AreReachedFlags (owned W) flags x.proto asked =
         subst (λ (o : Owned). AreReachedFlags (owned W) flags o.proto asked) (here are.requirement are.stands) are.reached in
         let part : IsReachedPart (family_of W flags) x.proto (family_of W asked) = flags_give_part (owned W) flags asked x.proto reached in
-        let law = derives_by_reach ds (family_of W flags) (family_of W asked) x.proto part (Requires (requirement_of terms x.requirement)) in
+        let law =
+        derives_by_reach ds (family_of W flags) (family_of W asked) x.proto part (Requires (requirement_of terms x.requirement)) in
         ((λ t. law.1 (d.0 t)), λ e. d.1 (law.0 e))
 
   pub asks_answer : (places : List Place) (flags : List Bool) (at : ℕ) → places ≡ all_places w → (y : Place) → slice_get places at ≡ Some y

@@ -39,7 +39,8 @@ module _ (ds : List AssociatedType) (family : List Owned) (p : ProtoId) where
   of_self : (q r : ProtoId) (t u : Term) → Reaches family p q → Conforms t r ≡ Conforms u q → Reaches family p r
   of_self q r t u h e = let alike : r ≡ q = cc in subst (Reaches family p) (sym alike) h
 
-  pub conforms_to : {q r : ProtoId} {t : Term} → Derivable whole (SelfOf q) (Requires (Conforms t r)) → Reaches family p q → Reaches family p r
+  pub conforms_to : {q r : ProtoId} {t : Term} → Derivable whole (SelfOf q) (Requires (Conforms t r))
+      → Reaches family p q → Reaches family p r
   conforms_to {q = q} (conf {t = t} {p = r} e v) h = of_self q r t _ h e
   conforms_to (assoc_conf {u = u} {p = x} {q = y} e c v) h = leads_on x y u (conforms_to e h) c
   conforms_to (same_conf e i) h = conforms_to e h
@@ -109,7 +110,8 @@ module _ {A : Type 0} where
       → Contains (chosen xs bs) x
   at_chosen [] bs n x e h = absurd cc
   at_chosen (y ∷ xs) [] n x e h = absurd cc
-  at_chosen (y ∷ xs) (true ∷ bs) zero x e h = let is : y ≡ x = cc in subst (λ z. Contains (y ∷ chosen xs bs) z) is (first_member y (chosen xs bs))
+  at_chosen (y ∷ xs) (true ∷ bs) zero x e h =
+      let is : y ≡ x = cc in subst (λ z. Contains (y ∷ chosen xs bs) z) is (first_member y (chosen xs bs))
   at_chosen (y ∷ xs) (true ∷ bs) (suc n) x e h = later_member y x (chosen xs bs) (at_chosen xs bs n x e h)
   at_chosen (y ∷ xs) (false ∷ bs) zero x e h = absurd (let f : false ≡ true = cc in cc)
   at_chosen (y ∷ xs) (false ∷ bs) (suc n) x e h = at_chosen xs bs n x e h

@@ -28,7 +28,8 @@ use Rattle.swreq_valid.specs.Rounds.{last_rules}
 use Rattle.swreq_valid.proofs.OfKept.{kept_of_text}
 use Rattle.swreq_reqsig.specs.Families.{AreRulesOfKept}
 
-module _ (m : Symbols) (g : TermFacts) (fit : AreSymbolsOf m g) (ranges : AreOfText m g) (rules : List Rule) (are : AreProtocolRules m g rules)
+module _ (m : Symbols) (g : TermFacts) (fit : AreSymbolsOf m g) (ranges : AreOfText m g) (rules : List Rule)
+    (are : AreProtocolRules m g rules)
     (p : ProtoId) (h : IsOfText m p) where
   into : (l r : Word) → ProtocolEquation m g l r → UsableEquation m g (SelfOf p) l r
   into l r (twice q k) = twice q k
@@ -67,7 +68,8 @@ module _ (w : TextWorld) (closed : IsClosed w) (keep : List (List Bool)) (v : Pr
     (of : IsProtocol w.lexicon p) (r : TermRequirement) where
   -- the rules link the two sides of its equation
   abbrev AreSidesLinked : Type 0
-  AreSidesLinked = Links (last_rules v.rounds) (left_side (symbols_of w.lexicon) (SelfOf p) r) (right_side (symbols_of w.lexicon) (SelfOf p) r)
+  AreSidesLinked =
+      Links (last_rules v.rounds) (left_side (symbols_of w.lexicon) (SelfOf p) r) (right_side (symbols_of w.lexicon) (SelfOf p) r)
 
   abbrev IsDerivable : Type 0
   IsDerivable = Derivable (kept_facts w keep) (SelfOf p) (Requires r)
@@ -84,6 +86,7 @@ module _ (w : TextWorld) (closed : IsClosed w) (keep : List (List Bool)) (v : Pr
       → Decides linked AreSidesLinked
       → Decides linked IsDerivable
   usable_by_words b linked usable set d =
-      let law = by_words (symbols_of w.lexicon) (kept_facts w keep) (symbols_law w closed) (kept_of_text w closed keep) (last_rules v.rounds) made.rules p
+      let law = by_words (symbols_of w.lexicon) (kept_facts w keep) (symbols_law w closed) (kept_of_text w closed keep)
+      (last_rules v.rounds) made.rules p
       ((closed.ids.written_order p).1 of) r (usable.0 set) in
       ((λ l. law.1 (d.0 l)), λ e. d.1 (law.0 e))

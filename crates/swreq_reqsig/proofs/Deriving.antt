@@ -25,8 +25,10 @@ module _ (w : IdWorld) (terms : List Term) where
   pub follows_by : IsTextOver terms w → (lists : List (List Bool)) (flags : List Bool) → lists ≡ flag_lists w flags
       → (p : ProtoId) (r : TermRequirement) (b : Bool)
       → IsTrue b ↔ Derivable (kept_facts (world_by terms w) lists) (SelfOf p) (Requires r)
-      → IsTrue b ↔ Derivable (owned_facts (associated_types_of (world_by terms w)) (family_of (world_by terms w) flags)) (SelfOf p) (Requires r)
+      → IsTrue b
+      ↔ Derivable (owned_facts (associated_types_of (world_by terms w)) (family_of (world_by terms w) flags)) (SelfOf p) (Requires r)
   follows_by text lists flags e p r b d =
       let law = kept_derivable (world_by terms w) text.closed flags p (Requires r) in
-      let here = subst (λ (z : List (List Bool)). IsTrue b ↔ Derivable (kept_facts (world_by terms w) z) (SelfOf p) (Requires r)) (lists_by lists flags e) d in
+      let here = subst (λ (z : List (List Bool)). IsTrue b ↔ Derivable (kept_facts (world_by terms w) z) (SelfOf p) (Requires r))
+      (lists_by lists flags e) d in
       ((λ t. law.0 (here.0 t)), λ k. here.1 (law.1 k))

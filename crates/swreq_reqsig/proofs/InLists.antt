@@ -22,7 +22,8 @@ use Rattle.swreq_reqsig.proofs.OfWorld.{chosen_first}
 
 -- ---- list by list
 
-pub one_list : (w : IdWorld) (ps : List ProtoId) (k count : ℕ) (p : ProtoId) (list : List Requirement) (rest mine further : List Bool) (old new whole : List (List Bool))
+pub one_list : (w : IdWorld) (ps : List ProtoId) (k count : ℕ) (p : ProtoId) (list : List Requirement) (rest mine further : List Bool)
+    (old new whole : List (List Bool))
     → slice_get ps k ≡ Some p → list ≡ bare (requirements_of w p) → count ≡ length list → mine ≡ take count rest → further ≡ drop count rest
     → new ≡ old ++ mine ∷ [] → old ++ in_lists w (drop k ps) rest ≡ whole → new ++ in_lists w (drop (k + 1) ps) further ≡ whole
 one_list w ps k count p list rest mine further old new whole e b c m n f h =
@@ -53,7 +54,8 @@ module _ (w : IdWorld) where
   first_count : (p : ProtoId) (ps : List ProtoId) → length (places_in w (p ∷ ps)) ≡ length (requirements_of w p) + length (places_in w ps)
   first_count p ps =
       length-append (places_from p 1 (bare (requirements_of w p))) (places_in w ps)
-      ∙ ap (λ (n : ℕ). n + length (places_in w ps)) (from_count p 1 (bare (requirements_of w p)) ∙ length-map (requirements_of w p) (λ (r : Written). r.requirement))
+      ∙ ap (λ (n : ℕ). n + length (places_in w ps))
+      (from_count p 1 (bare (requirements_of w p)) ∙ length-map (requirements_of w p) (λ (r : Written). r.requirement))
 
   flags_each : (ps : List ProtoId) (flags : List Bool) → length flags ≡ length (places_in w ps)
       → (k : ℕ) (p : ProtoId) (own_flags : List Bool)
@@ -64,7 +66,8 @@ module _ (w : IdWorld) where
       let mine : take (length (requirements_of w q)) flags ≡ own_flags = cc in
       let c = first_count q ps in
       let t = length-take (length (requirements_of w q)) flags in
-      ap length (sym mine) ∙ (let g : length (take (length (requirements_of w q)) flags) ≡ length (requirements_of w q) = omega (arith, t, c, n) in g)
+      ap length (sym mine)
+      ∙ (let g : length (take (length (requirements_of w q)) flags) ≡ length (requirements_of w q) = omega (arith, t, c, n) in g)
       ∙ ap (λ (z : ProtoId). length (requirements_of w z)) same
   flags_each (q ∷ ps) flags n (suc k) p own_flags e h =
       let c = first_count q ps in
@@ -118,7 +121,8 @@ module _ {A : Type 0} where
       → numbered (front ++ xs) (numbers_from (suc n) flags) ≡ chosen xs flags
   numbered_from front [] n [] e = refl
   numbered_from front (x ∷ xs) n [] e = refl
-  numbered_from front [] n (b ∷ flags) e = numbered_beyond (front ++ []) n (b ∷ flags) (let l = ap length (append-nil front) in omega (arith, l, e))
+  numbered_from front [] n (b ∷ flags) e =
+      numbered_beyond (front ++ []) n (b ∷ flags) (let l = ap length (append-nil front) in omega (arith, l, e))
   numbered_from front (x ∷ xs) n (true ∷ flags) e =
       let z : suc n - 1 ≡ length front = omega (arith, e) in
       let more = numbered_from (front ++ x ∷ []) xs (suc n) flags (let l = length-append front (x ∷ []) in omega (arith, l, e)) in

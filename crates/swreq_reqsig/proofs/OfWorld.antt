@@ -42,9 +42,11 @@ for_self-valid (Member u x) v = ap (λ t. Member t x) (for_self-valid u (valid_b
 pub usable_derivable : (f : TermFacts) (p : ProtoId) (r : TermRequirement) → Contains (f.of_protocol p) r → HasValidSides f (SelfOf p) r
     → Derivable f (SelfOf p) (Requires r)
 usable_derivable f p (Conforms u q) c v =
-    subst (λ z. Derivable f (SelfOf p) (Requires (Conforms z q))) (for_self-valid u v) (assoc_conf {u = u} (conf refl (λ _. generic refl)) c (λ _. v))
+    subst (λ z. Derivable f (SelfOf p) (Requires (Conforms z q))) (for_self-valid u v)
+    (assoc_conf {u = u} (conf refl (λ _. generic refl)) c (λ _. v))
 usable_derivable f p (IsAnyObject u) c v =
-    subst (λ z. Derivable f (SelfOf p) (Requires (IsAnyObject z))) (for_self-valid u v) (assoc_layout {u = u} (conf refl (λ _. generic refl)) c (λ _. v))
+    subst (λ z. Derivable f (SelfOf p) (Requires (IsAnyObject z))) (for_self-valid u v)
+    (assoc_layout {u = u} (conf refl (λ _. generic refl)) c (λ _. v))
 usable_derivable f p (Equals u x) c v =
     subst (λ z. Derivable f (SelfOf p) (Requires (Equals z x))) (for_self-valid u v.0)
     (subst (λ z. Derivable f (SelfOf p) (Requires (Equals (for_self self u) z))) (for_self-valid x v.1)
@@ -54,16 +56,19 @@ usable_derivable f p (Equals u x) c v =
 
 module _ (w : TextWorld) where
   own_length : (p : ProtoId) → length (map (own p) ((facts_of w).of_protocol p)) ≡ length (requirements_of w p)
-  own_length p = length-map ((facts_of w).of_protocol p) (own p) ∙ length-map (requirements_of w p) (λ (r : PlacedRequirement). r.requirement)
+  own_length p =
+      length-map ((facts_of w).of_protocol p) (own p) ∙ length-map (requirements_of w p) (λ (r : PlacedRequirement). r.requirement)
 
   -- what is chosen of the requirements of some protocols is what is chosen of the first one, and then of the others
   pub chosen_first : (p : ProtoId) (ps : List ProtoId) (flags : List Bool) → chosen (owned_in w (p ∷ ps)) flags
-      ≡ map (own p) (chosen ((facts_of w).of_protocol p) (take (length (requirements_of w p)) flags)) ++ chosen (owned_in w ps) (drop (length (requirements_of w p)) flags)
+      ≡ map (own p) (chosen ((facts_of w).of_protocol p) (take (length (requirements_of w p)) flags))
+      ++ chosen (owned_in w ps) (drop (length (requirements_of w p)) flags)
   chosen_first p ps flags =
       let mine : List TermRequirement = (facts_of w).of_protocol p in
       chosen-append (map (own p) mine) (owned_in w ps) flags
       ∙ ap (λ (n : ℕ). chosen (map (own p) mine) (take n flags) ++ chosen (owned_in w ps) (drop n flags)) (own_length p)
-      ∙ ap (λ z. z ++ chosen (owned_in w ps) (drop (length (requirements_of w p)) flags)) (chosen_map (own p) mine (take (length (requirements_of w p)) flags))
+      ∙ ap (λ z. z ++ chosen (owned_in w ps) (drop (length (requirements_of w p)) flags))
+      (chosen_map (own p) mine (take (length (requirements_of w p)) flags))
 
 module _ (w : TextWorld) (closed : IsClosed w) where
   abbrev f : TermFacts
@@ -89,7 +94,8 @@ module _ (w : TextWorld) (closed : IsClosed w) where
   owned_is : (ps : List ProtoId) (o : Owned) → Contains (owned_in w ps) o → Contains (f.of_protocol o.proto) o.requirement
   owned_is [] o c = no_member o c
   owned_is (q ∷ ps) o c = elim (Contains-append_cases (map (own q) (f.of_protocol q)) (owned_in w ps) o c) [
-    | inl k ↦ (let r = contains_of_map (own q) (f.of_protocol q) o k in subst (λ (z : Owned). Contains (f.of_protocol z.proto) z.requirement) (sym r.2) r.1)
+    | inl k ↦ (let r = contains_of_map (own q) (f.of_protocol q) o k in
+        subst (λ (z : Owned). Contains (f.of_protocol z.proto) z.requirement) (sym r.2) r.1)
     | inr k ↦ owned_is ps o k
   ]
 
@@ -125,7 +131,8 @@ module _ (w : TextWorld) (closed : IsClosed w) where
       let same : q ≡ p = cc in
       let mine : take (length (requirements_of w q)) flags ≡ own_flags = cc in
       let here = chosen (f.of_protocol q) (take (length (requirements_of w q)) flags) in
-      let there : Contains here r = subst (λ (z : ProtoId). Contains (chosen (f.of_protocol z) (take (length (requirements_of w q)) flags)) r) (sym same)
+      let there : Contains here r =
+      subst (λ (z : ProtoId). Contains (chosen (f.of_protocol z) (take (length (requirements_of w q)) flags)) r) (sym same)
       (subst (λ z. Contains (chosen (f.of_protocol p) z) r) (sym mine) c) in
       subst (λ z. Contains z (own p r)) (sym (chosen_first w q ps flags))
       (Contains-append_left (map (own q) here) (chosen (owned_in w ps) (drop (length (requirements_of w q)) flags)) (own p r)
@@ -155,21 +162,24 @@ module _ (w : TextWorld) (closed : IsClosed w) where
           own_flags = take (length (requirements_of w q)) flags;
           proto = ap (λ (z : Owned). Some z.proto) (sym r.2);
           flags_are = refl;
-          is_chosen = subst (λ (z : Owned). Contains (chosen (f.of_protocol z.proto) (take (length (requirements_of w q)) flags)) z.requirement) (sym r.2) r.1;
+          is_chosen = subst (λ (z : Owned).
+              Contains (chosen (f.of_protocol z.proto) (take (length (requirements_of w q)) flags)) z.requirement) (sym r.2) r.1;
         })
-        | inr k ↦ (let i : IsInPart ps (drop (length (requirements_of w q)) flags) o = part_of ps (drop (length (requirements_of w q)) flags) o k in record {
-          place = suc i.place;
-          own_flags = i.own_flags;
-          proto = i.proto;
-          flags_are = i.flags_are;
-          is_chosen = i.is_chosen;
-        })
+        | inr k ↦ (let i : IsInPart ps (drop (length (requirements_of w q)) flags) o =
+            part_of ps (drop (length (requirements_of w q)) flags) o k in record {
+              place = suc i.place;
+              own_flags = i.own_flags;
+              proto = i.proto;
+              flags_are = i.flags_are;
+              is_chosen = i.is_chosen;
+            })
       ]
 
   -- the flags of the protocol at a place
   flags_there : (flags : List Bool) (k : ℕ) (p : ProtoId) (own_flags : List Bool) → slice_get order k ≡ Some p
       → slice_get (flag_lists w flags) k ≡ Some own_flags → flags_of order (flag_lists w flags) p ≡ own_flags
-  flags_there flags k p own_flags e h = flags_at order (flag_lists w flags) k p own_flags (λ i q l g. once w.lexicon closed.ids i k q p l g e) e h
+  flags_there flags k p own_flags e h =
+      flags_at order (flag_lists w flags) k p own_flags (λ i q l g. once w.lexicon closed.ids i k q p l g e) e h
 
   kept_less : (flags : List Bool) (p : ProtoId) (r : TermRequirement) → Contains (owned_by (family_of w flags) p) r
       → Contains ((kept_facts w (flag_lists w flags)).of_protocol p) r
@@ -194,7 +204,8 @@ module _ (w : TextWorld) (closed : IsClosed w) where
       let n : length keep ≡ length order = in_lists-length order flags in
       let there : slice_get keep k ≡ Some (get_or keep k []) = slice_get-get_or keep k [] (omega (arith, l, n)) in
       member_owned (family_of w flags) p (own p r)
-      (part_has order flags k p (get_or keep k []) r at there (subst (λ z. Contains (chosen (f.of_protocol p) z) r) (flags_there flags k p (get_or keep k []) at there) h))
+      (part_has order flags k p (get_or keep k []) r at there
+      (subst (λ z. Contains (chosen (f.of_protocol p) z) r) (flags_there flags k p (get_or keep k []) at there) h))
       (own_rank p)
 
   -- the same is derivable by lists and by one list

@@ -70,15 +70,18 @@ within_reach marks false r t p e m n u q says = absurd (let z : true ≡ false =
 -- ---- a step
 
 -- the requirement of a place that leads to a protocol is one of the family
-leads_in : (terms : List Term) (places : List Place) (flags : List Bool) (k : ℕ) (x : Place) (t : TermId) (q : ProtoId) → slice_get places k ≡ Some x
-    → slice_get flags k ≡ Some true → x.requirement ≡ Conf t q → Contains (kept_at terms places flags) (own x.proto (Conforms (term_at terms t) q))
+leads_in : (terms : List Term) (places : List Place) (flags : List Bool) (k : ℕ) (x : Place) (t : TermId) (q : ProtoId)
+    → slice_get places k ≡ Some x
+    → slice_get flags k ≡ Some true → x.requirement ≡ Conf t q
+    → Contains (kept_at terms places flags) (own x.proto (Conforms (term_at terms t) q))
 leads_in terms places flags k x t q at set says =
     subst (λ (r : Requirement). Contains (kept_at terms places flags) (own x.proto (requirement_of terms r))) says
     (at_chosen (map (owned_at terms) places) flags k (owned_at terms x) (get_map (owned_at terms) places k x at) set)
 
 module _ (places : List Place) (flags : List Bool) where
   -- a mark more, to which a requirement leads
-  reach_more : (terms : List Term) (starts : List Bool) (k : ℕ) (x : Place) (kept : Bool) (old new : List Bool) → slice_get places k ≡ Some x
+  reach_more : (terms : List Term) (starts : List Bool) (k : ℕ) (x : Place) (kept : Bool) (old new : List Bool)
+      → slice_get places k ≡ Some x
       → slice_get flags k ≡ Some kept → IsMarkedBy x kept old new → AreReachable (kept_at terms places flags) starts old
       → AreReachable (kept_at terms places flags) starts new
   reach_more terms starts k x kept old new at flag by h q m =
@@ -106,7 +109,8 @@ module _ (places : List Place) (flags : List Bool) where
   }
 
   module _ (n : ℕ) (x : Place) (kept : Bool) (at : slice_get places n ≡ Some x) (flag : slice_get flags n ≡ Some kept) where
-    closed_too : (marks : List Bool) → AreClosedFrom places flags marks (suc n) → IsClosedAt x kept marks → AreClosedFrom places flags marks n
+    closed_too : (marks : List Bool) → AreClosedFrom places flags marks (suc n) → IsClosedAt x kept marks
+        → AreClosedFrom places flags marks n
     closed_too marks h c k y b f there set = elim (cases_eq k n) [
       | inl e ↦ (let here : slice_get places n ≡ Some y = ap (slice_get places) (sym e) ∙ there in
           let same : x ≡ y = same_Some _ _ (sym at ∙ here) in
@@ -164,7 +168,8 @@ module _ (places : List Place) (flags : List Bool) where
       (subst (λ (z : ℕ). HasPassed places flags z grew old mid) i h) stays more)
 
 -- what stands for a conformance is one
-pub conf_of : (terms : List Term) (r : Requirement) (u : Term) (q : ProtoId) → requirement_of terms r ≡ Conforms u q → (t : TermId) × (r ≡ Conf t q)
+pub conf_of : (terms : List Term) (r : Requirement) (u : Term) (q : ProtoId) → requirement_of terms r ≡ Conforms u q
+    → (t : TermId) × (r ≡ Conf t q)
 conf_of terms (Conf t x) u q e = (t, let same : x ≡ q = cc in ap (Conf t) same)
 conf_of terms (Layout t) u q e = absurd cc
 conf_of terms (Same t s) u q e = absurd cc
@@ -188,7 +193,8 @@ module _ (places : List Place) (flags starts : List Bool) where
     closed = λ e k x kept f there set q leads. absurd (none e x.proto leads.own);
   }
 
-  pub found_more : (grows grew : Bool) (old new : List Bool) → AreFound grows old → HasPassed places flags 0 grew old new → AreFound grew new
+  pub found_more : (grows grew : Bool) (old new : List Bool) → AreFound grows old
+      → HasPassed places flags 0 grew old new → AreFound grew new
   found_more grows grew old new f h = record {
     count = h.count ∙ f.count;
     start = λ q m. h.stay q (f.start q m);
@@ -233,7 +239,8 @@ pub reached_by_one : (protocols : ℕ) (family : List Owned) (p : ProtoId) (star
     → starts ≡ slice_set (replicate protocols false) p.rank true → TellLed family starts marks → TellReached family p marks
 reached_by_one protocols family p starts marks l e tell q = (
   (λ m. let led = (tell q).0 m in
-      elim (set_cases (replicate protocols false) p.rank true led.start.rank true (subst (λ (z : List Bool). IsMarked z led.start) e led.is_marked)) [
+      elim (set_cases (replicate protocols false) p.rank true led.start.rank true
+      (subst (λ (z : List Bool). IsMarked z led.start) e led.is_marked)) [
         | inl k ↦ absurd (no_mark protocols led.start k)
         | inr k ↦ subst (λ (z : ProtoId). Reaches family z q) (same_rank led.start p k.0) led.reaches
       ]),
@@ -247,7 +254,8 @@ reached_by_one protocols family p starts marks l e tell q = (
 
 -- ---- the flags of the part
 
-marked_count : (places : List Place) (flags marks : List Bool) → length flags ≡ length places → length (marked places flags marks) ≡ length places
+marked_count : (places : List Place) (flags marks : List Bool) → length flags ≡ length places
+    → length (marked places flags marks) ≡ length places
 marked_count [] flags marks e = refl
 marked_count (x ∷ places) [] marks e = absurd (omega (arith, e))
 marked_count (x ∷ places) (b ∷ flags) marks e = ap suc (marked_count places flags marks (omega (arith, e)))
@@ -262,7 +270,8 @@ marked_at [] flags marks n x e = absurd cc
 marked_at (y ∷ places) [] marks n x e = ((λ h. absurd cc), λ h. absurd (let z = h.0 in cc))
 marked_at (y ∷ places) (b ∷ flags) marks zero x e =
     let same : y ≡ x = cc in
-    subst (λ (z : Place). (Some (b && slice_index_or marks y.proto.rank false) ≡ Some true) ↔ ((Some b ≡ Some true) × IsMarked marks z.proto)) same (
+    subst (λ (z : Place).
+    (Some (b && slice_index_or marks y.proto.rank false) ≡ Some true) ↔ ((Some b ≡ Some true) × IsMarked marks z.proto)) same (
       (λ h. let set : (b && slice_index_or marks y.proto.rank false) ≡ true = cc in
           let two = both_set b (slice_index_or marks y.proto.rank false) set in (ap Some two.0, mark_read marks y.proto.rank two.1)),
       λ h. let k = h.0 in let set : b ≡ true = cc in

@@ -54,20 +54,21 @@ record IsFrom (p : ProtoId) (n : ℕ) (rs : List Requirement) (x : Place) : Type
 
 is_from : (p : ProtoId) (n : ℕ) (rs : List Requirement) (x : Place) → Contains (places_from p (suc n) rs) x → IsFrom p n rs x
 is_from p n [] x c = no_member x c
-is_from p n (r ∷ rs) x c = elim (member_cases (record { proto = p; number = suc n; requirement = r }) x (places_from p (suc (suc n)) rs) c) [
-  | inl e ↦ record {
-    proto = ap (λ (z : Place). z.proto) e;
-    count = 0;
-    number = (let i = ap (λ (z : Place). z.number) e in omega (arith, i));
-    there = ap (λ (z : Place). Some z.requirement) (sym e);
-  }
-  | inr k ↦ (let f : IsFrom p (suc n) rs x = is_from p (suc n) rs x k in record {
-    proto = f.proto;
-    count = suc f.count;
-    number = (let i = f.number in omega (arith, i));
-    there = f.there;
-  })
-]
+is_from p n (r ∷ rs) x c =
+    elim (member_cases (record { proto = p; number = suc n; requirement = r }) x (places_from p (suc (suc n)) rs) c) [
+      | inl e ↦ record {
+        proto = ap (λ (z : Place). z.proto) e;
+        count = 0;
+        number = (let i = ap (λ (z : Place). z.number) e in omega (arith, i));
+        there = ap (λ (z : Place). Some z.requirement) (sym e);
+      }
+      | inr k ↦ (let f : IsFrom p (suc n) rs x = is_from p (suc n) rs x k in record {
+        proto = f.proto;
+        count = suc f.count;
+        number = (let i = f.number in omega (arith, i));
+        there = f.there;
+      })
+    ]
 
 place_in : (w : IdWorld) → AreIds w.lexicon → (ps : List ProtoId) → ((p : ProtoId) → Contains ps p → Contains w.lexicon.written_order p)
     → (x : Place)
@@ -98,7 +99,8 @@ module _ (w : IdWorld) (terms : List Term) where
   in_owned [] = refl
   in_owned (p ∷ ps) =
       map-append (owned_at terms) (places_from p 1 (bare (requirements_of w p))) (places_in w ps)
-      ∙ ap₂ (λ a b. a ++ b) (from_owned p 1 (bare (requirements_of w p)) ∙ ap (map (own p)) (sym (own_requirements w terms p))) (in_owned ps)
+      ∙ ap₂ (λ a b. a ++ b)
+      (from_owned p 1 (bare (requirements_of w p)) ∙ ap (map (own p)) (sym (own_requirements w terms p))) (in_owned ps)
 
   pub places_owned : map (owned_at terms) (all_places w) ≡ owned (world_by terms w)
   places_owned = in_owned w.lexicon.written_order

@@ -51,14 +51,16 @@ map-numbered f xs (n ∷ ns) =
 
 -- ---- the requirements of one protocol that have some numbers
 
-module _ (w : IdWorld) (terms : List Term) (p : ProtoId) (list printed : List Requirement) (ns : List ℕ) (e : list ≡ bare (requirements_of w p))
+module _ (w : IdWorld) (terms : List Term) (p : ProtoId) (list printed : List Requirement) (ns : List ℕ)
+    (e : list ≡ bare (requirements_of w p))
     (f : printed ≡ numbered list ns) where
   -- their ids are of the table
   pub numbered_known : IsTextOver terms w → All (HasIdsOf terms) printed
   numbered_known text k d l =
       let r = get_or printed k d in
       let c : Contains (numbered list ns) r = subst (λ z. Contains z r) f (Contains-get_or printed k d l) in
-      let q = contains_of_map (λ (z : Written). z.requirement) (requirements_of w p) r (subst (λ z. Contains z r) e (numbered_in list ns r c)) in
+      let q =
+      contains_of_map (λ (z : Written). z.requirement) (requirements_of w p) r (subst (λ z. Contains z r) e (numbered_in list ns r c)) in
       subst (HasIdsOf terms) (sym q.2) (protocol_written w terms text p q.0 q.1).0
 
   -- over type parameters they are those with these numbers

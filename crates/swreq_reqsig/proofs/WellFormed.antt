@@ -33,7 +33,8 @@ in_sides s (q ∷ rs) r x c k = elim (member_cases q r rs c) [
 ]
 
 -- a list whose sides are valid is well formed
-pub list_formed : (f : TermFacts) (s : Source) (rs : List PlacedRequirement) → HoldsOfEach (IsValidSide f) (sides s rs) → (r : TermRequirement)
+pub list_formed : (f : TermFacts) (s : Source) (rs : List PlacedRequirement)
+    → HoldsOfEach (IsValidSide f) (sides s rs) → (r : TermRequirement)
     → Contains (map (λ (q : PlacedRequirement). q.requirement) rs) r → HasValidSides f s r
 list_formed f s rs h r c =
     let q = contains_of_map (λ (q : PlacedRequirement). q.requirement) rs r c in

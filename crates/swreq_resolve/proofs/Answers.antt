@@ -32,16 +32,30 @@ inherits_within text s i k =
 -- ---- the answers
 
 module _ (text : List ℕ) (s : Skeleton) (n : NamesView) (h : HasDeclared text s n) where
-  as_refusals : (o : Option Refusal) → least None (refusals_in text n.declared (leads n.inherits) s) ≡ o → least None (refusals text (leads n.inherits) s) ≡ o
+  as_refusals : (o : Option Refusal) → least None (refusals_in text n.declared (leads n.inherits) s) ≡ o
+      → least None (refusals text (leads n.inherits) s) ≡ o
   as_refusals o e = subst (λ (d : Spaces). least None (refusals_in text d (leads n.inherits) s) ≡ o) h.declared e
 
-  pub refused_name : (r : Refusal) (e : NameErr) → least None (refusals_in text n.declared (leads n.inherits) s) ≡ Some r → e ≡ error_of r → RefusesSkeleton text s e
+  pub refused_name : (r : Refusal) (e : NameErr) → least None (refusals_in text n.declared (leads n.inherits) s) ≡ Some r → e ≡ error_of r
+      → RefusesSkeleton text s e
   refused_name r e l is =
-      inl (r, record { inherits = leads n.inherits; tells = h.tells; first = least_is_first (refusals text (leads n.inherits) s) r (as_refusals (Some r) l) }, is)
+      inl (
+        r,
+        record {
+          inherits = leads n.inherits;
+          tells = h.tells;
+          first = least_is_first (refusals text (leads n.inherits) s) r (as_refusals (Some r) l);
+        },
+        is,
+      )
 
   module _ (l : least None (refusals_in text n.declared (leads n.inherits) s) ≡ None) where
     has_names : HasNames text s
-    has_names = record { inherits = leads n.inherits; tells = h.tells; none = none_refused (refusals text (leads n.inherits) s) (as_refusals None l) }
+    has_names = record {
+      inherits = leads n.inherits;
+      tells = h.tells;
+      none = none_refused (refusals text (leads n.inherits) s) (as_refusals None l);
+    }
 
     pub refused_cycle : (at : ℕ) → IsLoopAt n.inherits s at → RefusesCycle text s at
     refused_cycle at c = record {
@@ -49,7 +63,10 @@ module _ (text : List ℕ) (s : Skeleton) (n : NamesView) (h : HasDeclared text 
       place = c.place;
       protocol = c.protocol;
       stands = c.stands;
-      cycle = record { itself = (h.tells c.place c.place).0 c.loop.itself; first = λ j g k. true≢false (sym ((h.tells j j).1 k) ∙ c.loop.first j g) };
+      cycle = record {
+        itself = (h.tells c.place c.place).0 c.loop.itself;
+        first = λ j g k. true≢false (sym ((h.tells j j).1 k) ∙ c.loop.first j g);
+      };
       is = c.is;
     }
 
@@ -76,11 +93,13 @@ module _ (text : List ℕ) (s : Skeleton) where
   one_name r q n m = one_first (refusals text m.inherits s) r q (first_with r m.inherits m.tells n) m.first
 
   one_place : (i j : ℕ) → IsFirstCycle text s i → IsFirstCycle text s j → i ≡ j
-  one_place i j c d = ⊎_elim (λ l. absurd (d.first i l c.itself)) (λ l. ⊎_elim (λ e. e) (λ n. absurd (c.first j (above i j l n) d.itself)) (cases_eq i j)) (cases_lt i j)
+  one_place i j c d = ⊎_elim (λ l. absurd (d.first i l c.itself))
+      (λ l. ⊎_elim (λ e. e) (λ n. absurd (c.first j (above i j l n) d.itself)) (cases_eq i j)) (cases_lt i j)
 
   one_cycle : (at other : ℕ) → RefusesCycle text s at → RefusesCycle text s other → at ≡ other
   one_cycle at other c d =
-      let e : Some c.protocol ≡ Some d.protocol = sym c.stands ∙ ap (slice_get s.protocols) (one_place c.place d.place c.cycle d.cycle) ∙ d.stands in
+      let e : Some c.protocol ≡ Some d.protocol =
+      sym c.stands ∙ ap (slice_get s.protocols) (one_place c.place d.place c.cycle d.cycle) ∙ d.stands in
       c.is ∙ ap (λ (p : ProtocolDecl). p.name.start) (same_protocol c.protocol d.protocol e) ∙ sym d.is
     where
       same_protocol : (p q : ProtocolDecl) → Some p ≡ Some q → p ≡ q

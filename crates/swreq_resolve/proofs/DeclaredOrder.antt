@@ -142,7 +142,8 @@ at_twice p q = record { holds = λ from ts v r m. (p.holds from ts v r m, q.hold
 each_part : {A : Type 0} (g : Line A) (Is : A → Type 0) → Keeps g Is → (from : ℕ) (ts : Tokens) (vs : List A) → Rising from ts
     → Parts (Matches number g) ts vs → AllByRecursion Is vs
 each_part g Is p from ts [] r e = tt
-each_part g Is p from ts (v ∷ vs) r (a, b, s, m, ms) = let k = rising_parts from ts a b s r in (p.holds from a v k.0 m, each_part g Is p from b vs k.1 ms)
+each_part g Is p from ts (v ∷ vs) r (a, b, s, m, ms) =
+    let k = rising_parts from ts a b s r in (p.holds from a v k.0 m, each_part g Is p from b vs k.1 ms)
 
 at_each : {A : Type 0} {limit : Limit Kind} {g : Line A} {Is : A → Type 0} → Keeps g Is → Keeps (repetition limit g) (AllByRecursion Is)
 at_each {A} {limit} {g} {Is} p = record { holds = λ from ts vs r m. each_part g Is p from ts vs r m.0 }
@@ -160,7 +161,8 @@ rising_in {A} {limit} {g} {start} b = record {
   holds = λ from ts vs r m. rising_sooner start 0 from (omega arith) vs (names_rising g start b from ts vs r m.0);
 }
 
-rising_separated : {A : Type 0} {ss : List Terminal} {g : Line A} {start : A → ℕ} → Begins g start → Keeps (separated ss g) (AreRising start 0)
+rising_separated : {A : Type 0} {ss : List Terminal} {g : Line A} {start : A → ℕ} → Begins g start
+    → Keeps (separated ss g) (AreRising start 0)
 rising_separated {A} {ss} {g} {start} b = at_mapped (record {
   holds = λ from ts v r m.
       let q = rising_past from (start v.0) m.0 m.1 (subst (Rising from) m.2 r) (b.at m.0 v.0 m.3) in
@@ -250,7 +252,8 @@ inner_risen = at_before (at_after function_risen)
 structure_risen : Keeps lines.structure IsRisenStruct
 unfolding lines.structure
 structure_risen =
-    at_mapped (at_after (at_second (at_both params_risen (at_second (at_after (at_before (at_twice (rising_in inner_begins) (at_each inner_risen))))))))
+    at_mapped (at_after
+    (at_second (at_both params_risen (at_second (at_after (at_before (at_twice (rising_in inner_begins) (at_each inner_risen))))))))
 
 declaration_risen : Keeps lines.declaration IsRisenItem
 unfolding lines.declaration
@@ -276,16 +279,19 @@ starts_from start from (x ∷ xs) r y c =
     ⊎_elim (λ e. let k = r.0 in let s = ap start e in omega (arith, k, s))
     (λ h. let k = r.0 in let l = starts_from start (suc (start x)) xs r.1 y h in omega (arith, k, l)) (member_cases x y xs c)
 
-one_more_struct : (t : StructDecl) (ts : List StructDecl) (fs : List FunctionDecl) → AreRising function_start (suc (struct_start t)) fs → AreApart ts fs
+one_more_struct : (t : StructDecl) (ts : List StructDecl) (fs : List FunctionDecl)
+    → AreRising function_start (suc (struct_start t)) fs → AreApart ts fs
     → AreApart (t ∷ ts) fs
 one_more_struct t ts fs r a u f c d e =
     ⊎_elim (λ s. let l = starts_from function_start (suc (struct_start t)) fs r f d in let z = ap struct_start s in omega (arith, l, z, e))
     (λ h. a u f h d e) (member_cases t u ts c)
 
-one_more_function : (f : FunctionDecl) (ts : List StructDecl) (fs : List FunctionDecl) → AreRising struct_start (suc (function_start f)) ts → AreApart ts fs
+one_more_function : (f : FunctionDecl) (ts : List StructDecl) (fs : List FunctionDecl)
+    → AreRising struct_start (suc (function_start f)) ts → AreApart ts fs
     → AreApart ts (f ∷ fs)
 one_more_function f ts fs r a t g c d e =
-    ⊎_elim (λ s. let l = starts_from struct_start (suc (function_start f)) ts r t c in let z = ap function_start s in omega (arith, l, z, e))
+    ⊎_elim (λ s.
+    let l = starts_from struct_start (suc (function_start f)) ts r t c in let z = ap function_start s in omega (arith, l, z, e))
     (λ h. a t g c h e) (member_cases f g fs d)
 
 -- The names that the parts of a skeleton declare stand in order, and so do the names of the parts of each kind.
@@ -309,8 +315,17 @@ sooner from to l s r = record {
   apart = r.apart;
 }
 
-parts_risen : (from : ℕ) (vs : List Item) (ts : Tokens) → Parts (Matches number lines.item) ts vs → Rising from ts → IsRisen from (skeleton_of vs)
-parts_risen from [] ts e r = record { protocols = tt; structs = tt; functions = tt; each_protocol = tt; each_struct = tt; each_function = tt; apart = λ t f c d e. no_member t c }
+parts_risen : (from : ℕ) (vs : List Item) (ts : Tokens) → Parts (Matches number lines.item) ts vs → Rising from ts
+    → IsRisen from (skeleton_of vs)
+parts_risen from [] ts e r = record {
+  protocols = tt;
+  structs = tt;
+  functions = tt;
+  each_protocol = tt;
+  each_struct = tt;
+  each_function = tt;
+  apart = λ t f c d e. no_member t c;
+}
 parts_risen from (items.Protocol p ∷ vs) ts (a, b, s, m, ms) r =
     let k = rising_parts from ts a b s r in
     let q = rising_past from p.name.start a b (subst (Rising from) s r) (item_stands a (items.Protocol p) m) in
@@ -368,17 +383,20 @@ parts_risen from (items.Query q ∷ vs) ts (a, b, s, m, ms) r =
       apart = all.apart;
     }
 
-pub text_risen : (text : List ℕ) (s : Skeleton) → ((ts : List lexed.Token) → HasTokens text ts → AreSlices text (first_offset (chars text)) ts)
+pub text_risen : (text : List ℕ) (s : Skeleton)
+    → ((ts : List lexed.Token) → HasTokens text ts → AreSlices text (first_offset (chars text)) ts)
     → StandsFor text s → IsRisen (first_offset (chars text)) s
 unfolding lines.source
 text_risen text s slices (found, tokens, (parts, m, e)) =
     let from = first_offset (chars text) in
-    subst (IsRisen from) (sym e) (parts_risen from parts (with_terminals text found) m.0 (slices_rising text from found (slices found tokens)))
+    subst (IsRisen from) (sym e)
+    (parts_risen from parts (with_terminals text found) m.0 (slices_rising text from found (slices found tokens)))
 
 -- ---- declared names
 
 module _ (text : List ℕ) where
-  none_sooner : (from : ℕ) (ss : List Span) → AreRising span_start from ss → (d : Declaration) → Contains (declarations text ss) d → from ≤ d.at
+  none_sooner : (from : ℕ) (ss : List Span) → AreRising span_start from ss → (d : Declaration)
+      → Contains (declarations text ss) d → from ≤ d.at
   none_sooner from [] r d c = no_member d c
   none_sooner from (x ∷ ss) r d c =
       ⊎_elim (λ e. let k = r.0 in let s = ap (λ (y : Declaration). y.at) e in omega (arith, k, s))
@@ -389,7 +407,8 @@ module _ (text : List ℕ) where
   in_order from [] r = tt
   in_order from (x ∷ ss) r = ((λ d c. let l = none_sooner (suc x.start) ss r.1 d c in omega (arith, l)), in_order (suc x.start) ss r.1)
 
-  named_rising : {A : Type 0} (name : A → Span) (from : ℕ) (xs : List A) → AreRising (λ x. (name x).start) from xs → AreRising span_start from (map name xs)
+  named_rising : {A : Type 0} (name : A → Span) (from : ℕ) (xs : List A) → AreRising (λ x. (name x).start) from xs
+      → AreRising span_start from (map name xs)
   named_rising name from [] r = tt
   named_rising name from (x ∷ xs) r = (r.0, named_rising name (suc (name x).start) xs r.1)
 
@@ -419,17 +438,21 @@ module _ (text : List ℕ) where
   module _ (from : ℕ) (s : Skeleton) (r : IsRisen from s) where
     of_structs : (i : ℕ) → AreInOrder (get_or (map (λ t. of_params text t.params) s.structs) i [])
     of_structs i =
-        at_place AreInOrder (λ (t : StructDecl). of_params text t.params) IsRisenStruct tt (λ t h. params_in_order t.params h.0) s.structs r.each_struct i
+        at_place AreInOrder (λ (t : StructDecl). of_params text t.params) IsRisenStruct tt
+        (λ t h. params_in_order t.params h.0) s.structs r.each_struct i
 
     of_functions : (i : ℕ) → AreInOrder (get_or (map (λ f. of_params text f.params) s.functions) i [])
     of_functions i =
-        at_place AreInOrder (λ (f : FunctionDecl). of_params text f.params) IsRisenFunction tt (λ f h. params_in_order f.params h) s.functions r.each_function i
+        at_place AreInOrder (λ (f : FunctionDecl). of_params text f.params) IsRisenFunction tt
+        (λ f h. params_in_order f.params h) s.functions r.each_function i
 
     of_nested : (i j : ℕ) → AreInOrder (get_or (get_or (map (λ t. map (λ f. of_params text f.params) t.functions) s.structs) i []) j [])
     of_nested i j =
-        at_place (λ (dss : List (List Declaration)). AreInOrder (get_or dss j [])) (λ (t : StructDecl). map (λ (f : FunctionDecl). of_params text f.params) t.functions)
+        at_place (λ (dss : List (List Declaration)). AreInOrder (get_or dss j []))
+        (λ (t : StructDecl). map (λ (f : FunctionDecl). of_params text f.params) t.functions)
         IsRisenStruct tt
-        (λ t h. at_place AreInOrder (λ (f : FunctionDecl). of_params text f.params) IsRisenFunction tt (λ f k. params_in_order f.params k) t.functions h.1.1 j)
+        (λ t h. at_place AreInOrder (λ (f : FunctionDecl). of_params text f.params) IsRisenFunction tt
+        (λ f k. params_in_order f.params k) t.functions h.1.1 j)
         s.structs r.each_struct i
 
     own_in_order : (g : Signature) → AreInOrder (own_params (spaces text s) g)

@@ -47,7 +47,8 @@ within_inner f [] i j y c = no_member y c
 within_inner f (x ∷ xs) zero j y c = (x, refl, c)
 within_inner f (x ∷ xs) (suc i) j y c = within_inner f xs i j y c
 
-module _ (text : List ℕ) (s : Skeleton) (inherits : ℕ → ℕ → Bool) (tells : TellsInheritance text s inherits) (order : IsInOrder (spaces text s)) where
+module _ (text : List ℕ) (s : Skeleton) (inherits : ℕ → ℕ → Bool) (tells : TellsInheritance text s inherits)
+    (order : IsInOrder (spaces text s)) where
   abbrev d : Spaces
   d = spaces text s
 
@@ -136,11 +137,13 @@ module _ (text : List ℕ) (s : Skeleton) (inherits : ℕ → ℕ → Bool) (tel
         let mine = own_params d g in
         let around = outer_params d g in
         ⊎_elim
-        (λ a. Contains-append_right (duplicates mine mine) (duplicates around mine) again (duplicates_from around (order.outer g) mine x c a))
+        (λ a.
+        Contains-append_right (duplicates mine mine) (duplicates around mine) again (duplicates_from around (order.outer g) mine x c a))
         (λ a. Contains-append_left (duplicates mine mine) (duplicates around mine) again (duplicates_from mine (order.own g) mine x c a))
         (earlier_cases around mine x.name x.at h)
 
-    parameters_found : (g : Signature) → Contains (own_params d g) x → HasEarlier (outer_params d g ++ own_params d g) x.name x.at → IsFound again
+    parameters_found : (g : Signature) → Contains (own_params d g) x
+        → HasEarlier (outer_params d g ++ own_params d g) x.name x.at → IsFound again
     parameters_found (Struct i) c h =
         let t = within_map (λ (t : StructDecl). of_params text t.params) s.structs i x c in
         let first = again_in_signature text s inherits (Struct i) in
@@ -215,7 +218,8 @@ module _ (text : List ℕ) (s : Skeleton) (inherits : ℕ → ℕ → Bool) (tel
       = denied (has_member d inherits i x.name) (HasMemberName text s i x.name) (member_to text s inherits tells i x.name) n in
       found_protocol i p.0 p.1 r
       (Contains-append_right (again_in_protocol text s inherits i) (primaries_in_protocol text s inherits i) r
-      (in_pieces (primary_of d inherits i) (get_or d.primaries i []) x r c (when_from (not (has_member d inherits i x.name)) NoSuchMember x.at lacks)))
+      (in_pieces (primary_of d inherits i) (get_or d.primaries i []) x r c
+      (when_from (not (has_member d inherits i x.name)) NoSuchMember x.at lacks)))
 
   -- ---- queries
 
@@ -233,14 +237,17 @@ module _ (text : List ℕ) (s : Skeleton) (inherits : ℕ → ℕ → Bool) (tel
         let f : struct_of d (word text q.function) ≡ None
         = none_from (struct_of d (word text q.function)) (NamesStruct text s q.function) (struct text s order q.function) no_structs in
         let g : function_of d (word text q.function) ≡ None
-        = none_from (function_of d (word text q.function)) (NamesFunction text s q.function) (function text s order q.function) no_functions in
+        = none_from (function_of d (word text q.function)) (NamesFunction text s q.function)
+        (function text s order q.function) no_functions in
         let h : signature_of d (word text q.function) ≡ None
-        = ap (λ a. elim a as (λ _. Option Signature) [ None ↦ option_map Function (function_of d (word text q.function)) | Some i ↦ Some (Struct i) ]) f
+        = ap (λ a. elim a
+        as (λ _. Option Signature) [ None ↦ option_map Function (function_of d (word text q.function)) | Some i ↦ Some (Struct i) ]) f
         ∙ ap (option_map Function) g in
         query_found None e here
         (subst (λ (o : Option Signature). Contains (unknown_signature text s inherits q o) here) (sym h) (first_member here []))
 
-    struct_found : (outer : Span) → q.outer ≡ Some outer → ((i : ℕ) → NamesStruct text s outer i → ⊥) → IsFound (refused UnknownSignature outer.start)
+    struct_found : (outer : Span) → q.outer ≡ Some outer → ((i : ℕ) → NamesStruct text s outer i → ⊥)
+        → IsFound (refused UnknownSignature outer.start)
     struct_found outer e n =
         let r = refused UnknownSignature outer.start in
         let h : struct_of d (word text outer) ≡ None
@@ -248,20 +255,23 @@ module _ (text : List ℕ) (s : Skeleton) (inherits : ℕ → ℕ → Bool) (tel
         query_found (Some outer) e r
         (subst (λ (o : Option ℕ). Contains (unknown_struct text s inherits q outer o) r) (sym h) (first_member r []))
 
-    inner_found : (outer : Span) → q.outer ≡ Some outer → (i : ℕ) → NamesStruct text s outer i → ((j : ℕ) → NamesInner text s i q.function j → ⊥)
+    inner_found : (outer : Span) → q.outer ≡ Some outer → (i : ℕ) → NamesStruct text s outer i
+        → ((j : ℕ) → NamesInner text s i q.function j → ⊥)
         → IsFound here
     inner_found outer e i m n =
         let f : struct_of d (word text outer) ≡ Some i = (struct text s order outer).from i m in
         let h : nested_in d i (word text q.function) ≡ None
         = ap (option_map (Nested i))
-        (none_from (place (get_or d.nested i []) (word text q.function)) (NamesInner text s i q.function) (inner text s order i q.function) n) in
+        (none_from (place (get_or d.nested i []) (word text q.function)) (NamesInner text s i q.function)
+        (inner text s order i q.function) n) in
         query_found (Some outer) e here
         (subst (λ (o : Option ℕ). Contains (unknown_struct text s inherits q outer o) here) (sym f)
         (subst (λ (o : Option Signature). Contains (unknown_signature text s inherits q o) here) (sym h) (first_member here [])))
 
   -- ---- scopes
 
-  scope_begins : (g : Signature) (scope : Scope) → IsScopeOf text s g scope → begins_at text s inherits scope ≡ Some (begins_in_signature d g)
+  scope_begins : (g : Signature) (scope : Scope) → IsScopeOf text s g scope
+      → begins_at text s inherits scope ≡ Some (begins_in_signature d g)
   scope_begins g (in_protocol i) h = absurd h
   scope_begins g (in_signature f) e = ap (λ (x : Signature). Some (begins_in_signature d x)) e
   scope_begins g (in_query k) (q, e, m) =
@@ -277,12 +287,14 @@ module _ (text : List ℕ) (s : Skeleton) (inherits : ℕ → ℕ → Bool) (tel
 
   -- ---- entities
 
-  entity_found : (scope : Scope) (e : Entity) → HasEntity text s scope e → (o : Option ℕ) → protocol_of d (word text e.span) ≡ o → (r : Refusal)
+  entity_found : (scope : Scope) (e : Entity) → HasEntity text s scope e → (o : Option ℕ)
+      → protocol_of d (word text e.span) ≡ o → (r : Refusal)
       → Contains (of_protocol_name d e.span (length e.args) o) r → IsFound r
   entity_found scope e w o h r c =
       let b = some_begins scope w.looked_at in
       let named : Contains (of_named text d e) r
-      = subst (λ (l : Bool). Contains (cond l [] (of_protocol_name d e.span (length e.args) (protocol_of d (word text e.span)))) r) (sym w.named)
+      = subst (λ (l : Bool). Contains (cond l [] (of_protocol_name d e.span (length e.args) (protocol_of d (word text e.span)))) r)
+      (sym w.named)
       (subst (λ (p : Option ℕ). Contains (of_protocol_name d e.span (length e.args) p) r) (sym h) c) in
       found_entity (scope, e) w.written r (subst (λ (p : Option Begins). Contains (named_by text s inherits p e) r) (sym b.1) named)
 
@@ -299,9 +311,11 @@ module _ (text : List ℕ) (s : Skeleton) (inherits : ℕ → ℕ → Bool) (tel
 
   -- ---- types
 
-  type_found : (scope : Scope) (t : TypeDecl) → HasType text s scope t → (b : Begins) → begins_at text s inherits scope ≡ Some b → (r : Refusal)
+  type_found : (scope : Scope) (t : TypeDecl) → HasType text s scope t → (b : Begins)
+      → begins_at text s inherits scope ≡ Some b → (r : Refusal)
       → Contains (of_type text d b t) r → IsFound r
-  type_found scope t w b h r c = found_type (scope, t) w.written r (subst (λ (p : Option Begins). Contains (typed_by text s inherits p t) r) (sym h) c)
+  type_found scope t w b h r c =
+      found_type (scope, t) w.written r (subst (λ (p : Option Begins). Contains (typed_by text s inherits p t) r) (sym h) c)
 
   head_found : (scope : Scope) (t : TypeDecl) → HasType text s scope t → (b : Begins) → begins_at text s inherits scope ≡ Some b
       → not (b (word text t.head)) ≡ true → IsFound (refused ConcreteType t.head.start)
@@ -330,7 +344,8 @@ module _ (text : List ℕ) (s : Skeleton) (inherits : ℕ → ℕ → Bool) (tel
       let h : protocol_of d (word text p) ≡ Some i = (protocol text s order p).from i m in
       let name : List ℕ = word text a in
       bound_found scope t w p a c (Some i) h (refused NoSuchMember a.start)
-      (when_from (not (declares d i name)) NoSuchMember a.start (denied (declares d i name) (DeclaresName text s i name) (declares_to text s i name) n))
+      (when_from (not (declares d i name)) NoSuchMember a.start
+      (denied (declares d i name) (DeclaresName text s i name) (declares_to text s i name) n))
 
   in_protocol_found : (i : ℕ) (t : TypeDecl) → HasType text s (in_protocol i) t → (word text t.head ≡ self_bytes → ⊥)
       → (HasMemberName text s i (word text t.head) → ⊥) → IsFound (refused ConcreteType t.head.start)
@@ -338,14 +353,16 @@ module _ (text : List ℕ) (s : Skeleton) (inherits : ℕ → ℕ → Bool) (tel
       let name : List ℕ = word text t.head in
       let begins : Begins = begins_in_protocol d inherits i in
       head_found (in_protocol i) t w begins refl
-      (denied (begins name) ((name ≡ self_bytes) ⊎ HasMemberName text s i name) (begins_to text s inherits tells i name) (λ h. ⊎_elim self member h))
+      (denied (begins name) ((name ≡ self_bytes) ⊎ HasMemberName text s i name) (begins_to text s inherits tells i name)
+      (λ h. ⊎_elim self member h))
 
   in_signature_found : (scope : Scope) (g : Signature) (t : TypeDecl) → HasType text s scope t → IsScopeOf text s g scope
       → (HasParameter text s g (word text t.head) → ⊥) → IsFound (refused ConcreteType t.head.start)
   in_signature_found scope g t w h n =
       let name : List ℕ = word text t.head in
       let begins : Begins = begins_in_signature d g in
-      head_found scope t w begins (scope_begins g scope h) (denied (begins name) (HasParameter text s g name) (parameter_to text s g name) n)
+      head_found scope t w begins (scope_begins g scope h)
+      (denied (begins name) (HasParameter text s g name) (parameter_to text s g name) n)
 
   no_protocols : (p : Span) → ((i : ℕ) → NamesProtocol text s p i → ⊥) → protocol_of d (word text p) ≡ None
   no_protocols p n = none_from (protocol_of d (word text p)) (NamesProtocol text s p) (protocol text s order p) n

@@ -45,13 +45,15 @@ module _ (text : List ℕ) (d : Spaces) (begins : List ℕ → Bool) where
   entities_same es =
       then (split (of_named text d) (λ (e : Entity). flat_map (of_type text d begins) e.args) es)
       (both (itself (flat_map (of_named text d) es))
-      (equal (flat_map (λ (e : Entity). flat_map (of_type text d begins) e.args) es) (flat_map (of_type text d begins) (flat_map parts.types_of_entity es))
+      (equal (flat_map (λ (e : Entity). flat_map (of_type text d begins) e.args) es)
+      (flat_map (of_type text d begins) (flat_map parts.types_of_entity es))
       (sym (pieces_of_pieces (of_type text d begins) parts.types_of_entity es))))
 
   requirement_same : (r : ReqDecl) → Same (of_requirement text d begins r) (said (parts.of_requirement r))
   requirement_same (requirements.Bound t bounds) =
       then (both (itself (of_type text d begins t)) (entities_same bounds))
-      (moved (of_type text d begins t) (flat_map (of_named text d) bounds) (flat_map (of_type text d begins) (flat_map parts.types_of_entity bounds)))
+      (moved (of_type text d begins t) (flat_map (of_named text d) bounds)
+      (flat_map (of_type text d begins) (flat_map parts.types_of_entity bounds)))
   requirement_same (requirements.Same t u) =
       equal (of_type text d begins t ++ of_type text d begins u) (of_type text d begins t ++ (of_type text d begins u ++ []))
       (ap (λ rs. of_type text d begins t ++ rs) (sym (append-nil (of_type text d begins u))))
@@ -59,7 +61,8 @@ module _ (text : List ℕ) (d : Spaces) (begins : List ℕ → Bool) where
   clause_same : (rs : List ReqDecl) → Same (flat_map (of_requirement text d begins) rs) (flat_map said (parts.of_clause rs))
   clause_same rs =
       then (each (of_requirement text d begins) (λ r. said (parts.of_requirement r)) rs (λ r c. requirement_same r))
-      (equal (flat_map (λ r. said (parts.of_requirement r)) rs) (flat_map said (parts.of_clause rs)) (sym (flat_map-map said parts.of_requirement rs)))
+      (equal (flat_map (λ r. said (parts.of_requirement r)) rs) (flat_map said (parts.of_clause rs))
+      (sym (flat_map-map said parts.of_requirement rs)))
 
   member_same : (m : AssocDecl) → Same (of_member text d begins m) (flat_map said (parts.of_member m))
   member_same m = both (entities_same m.inherits) (clause_same m.clause)
@@ -67,10 +70,12 @@ module _ (text : List ℕ) (d : Spaces) (begins : List ℕ → Bool) where
   members_same : (ms : List AssocDecl) → Same (flat_map (of_member text d begins) ms) (flat_map said (flat_map parts.of_member ms))
   members_same ms =
       then (each (of_member text d begins) (λ m. flat_map said (parts.of_member m)) ms (λ m c. member_same m))
-      (equal (flat_map (λ m. flat_map said (parts.of_member m)) ms) (flat_map said (flat_map parts.of_member ms)) (sym (pieces_of_pieces said parts.of_member ms)))
+      (equal (flat_map (λ m. flat_map said (parts.of_member m)) ms) (flat_map said (flat_map parts.of_member ms))
+      (sym (pieces_of_pieces said parts.of_member ms)))
 
   protocol_same : (p : ProtocolDecl)
-      → Same (flat_map (of_entity text d begins) p.inherits ++ (flat_map (of_requirement text d begins) p.clause ++ flat_map (of_member text d begins) p.members))
+      → Same (flat_map (of_entity text d begins) p.inherits
+      ++ (flat_map (of_requirement text d begins) p.clause ++ flat_map (of_member text d begins) p.members))
       (flat_map said (parts.of_protocol p))
   protocol_same p =
       both (entities_same p.inherits)
@@ -79,7 +84,8 @@ module _ (text : List ℕ) (d : Spaces) (begins : List ℕ → Bool) where
       (flat_map said (parts.of_clause p.clause ++ flat_map parts.of_member p.members))
       (sym (flat_map-append said (parts.of_clause p.clause) (flat_map parts.of_member p.members)))))
 
-  params_same : (i : ℕ) (gs : List ParamDecl) → Same (flat_map (of_param text d begins) gs) (flat_map said (map parts.of_param (numbered i gs)))
+  params_same : (i : ℕ) (gs : List ParamDecl)
+      → Same (flat_map (of_param text d begins) gs) (flat_map said (map parts.of_param (numbered i gs)))
   params_same i [] = itself []
   params_same i (g ∷ gs) = both (entities_same g.bounds) (params_same (i + 1) gs)
 
@@ -157,7 +163,8 @@ module _ (text : List ℕ) (s : Skeleton) (inherits : ℕ → ℕ → Bool) wher
       then (split named typed cs)
       (both
       (then (each named (λ c. flat_map named_at (parts.entities_at c)) cs
-      (λ c h. equal (named c) (flat_map named_at (parts.entities_at c)) (sym (flat_map-map named_at (λ e. (c.0, e)) (parts.entities_of c.1)))))
+      (λ c h.
+      equal (named c) (flat_map named_at (parts.entities_at c)) (sym (flat_map-map named_at (λ e. (c.0, e)) (parts.entities_of c.1)))))
       (equal (flat_map (λ c. flat_map named_at (parts.entities_at c)) cs) (flat_map named_at (flat_map parts.entities_at cs))
       (sym (pieces_of_pieces named_at parts.entities_at cs))))
       (then (each typed (λ c. flat_map typed_at (parts.types_at c)) cs
@@ -178,7 +185,8 @@ module _ (text : List ℕ) (s : Skeleton) (inherits : ℕ → ℕ → Bool) wher
   abbrev pub own_of_protocol : ℕ × ProtocolDecl → List Refusal
   own_of_protocol p = again_in_protocol p.0 ++ primaries_in_protocol p.0
 
-  one_protocol : (p : ℕ × ProtocolDecl) → Same (of_protocol text d inherits p.0 p.1) (own_of_protocol p ++ flat_map said_at (parts.in_protocol_at p))
+  one_protocol : (p : ℕ × ProtocolDecl)
+      → Same (of_protocol text d inherits p.0 p.1) (own_of_protocol p ++ flat_map said_at (parts.in_protocol_at p))
   one_protocol p =
       let begins : List ℕ → Bool = begins_in_protocol d inherits p.0 in
       let again : List Refusal = duplicates (get_or d.primaries p.0 []) (get_or d.primaries p.0 []) in
@@ -188,13 +196,15 @@ module _ (text : List ℕ) (s : Skeleton) (inherits : ℕ → ℕ → Bool) wher
       let rs : List Refusal = flat_map (of_requirement text d begins) p.1.clause in
       let ms : List Refusal = flat_map (of_member text d begins) p.1.members in
       let says : List Refusal = flat_map said_at (parts.in_protocol_at p) in
-      let front : Same (es ++ (rs ++ (more ++ ms))) (more ++ (es ++ (rs ++ ms))) = then (both (itself es) (moved rs more ms)) (moved es more (rs ++ ms)) in
+      let front : Same (es ++ (rs ++ (more ++ ms))) (more ++ (es ++ (rs ++ ms))) =
+      then (both (itself es) (moved rs more ms)) (moved es more (rs ++ ms)) in
       then (both (itself (again ++ lacking)) front)
       (then (parted again lacking more (es ++ (rs ++ ms)))
       (then (equal ((again ++ more) ++ (lacking ++ (es ++ (rs ++ ms)))) (((again ++ more) ++ lacking) ++ (es ++ (rs ++ ms)))
       (sym (append_assoc (again ++ more) lacking (es ++ (rs ++ ms)))))
       (both (itself ((again ++ more) ++ lacking))
-      (then (protocol_same text d begins p.1) (equal (flat_map (said text d begins) (parts.of_protocol p.1)) says (stands (in_protocol p.0) (parts.of_protocol p.1)))))))
+      (then (protocol_same text d begins p.1)
+      (equal (flat_map (said text d begins) (parts.of_protocol p.1)) says (stands (in_protocol p.0) (parts.of_protocol p.1)))))))
 
   -- ---- signatures
 
@@ -212,19 +222,22 @@ module _ (text : List ℕ) (s : Skeleton) (inherits : ℕ → ℕ → Bool) wher
       then (equal (own ++ (outer ++ (ps ++ cs))) ((own ++ outer) ++ (ps ++ cs)) (sym (append_assoc own outer (ps ++ cs))))
       (both (itself (own ++ outer))
       (then (signature_same text d begins gs rs)
-      (equal (flat_map (said text d begins) (parts.of_signature gs rs)) (flat_map said_at (standing (in_signature g) (parts.of_signature gs rs)))
+      (equal (flat_map (said text d begins) (parts.of_signature gs rs))
+      (flat_map said_at (standing (in_signature g) (parts.of_signature gs rs)))
       (stands (in_signature g) (parts.of_signature gs rs)))))
 
   abbrev pub again_in_function : ℕ × FunctionDecl → List Refusal
   again_in_function f = again_in_signature (Function f.0)
 
-  one_function : (f : ℕ × FunctionDecl) → Same (of_function text d f.0 f.1) (again_in_function f ++ flat_map said_at (parts.in_function_at f))
+  one_function : (f : ℕ × FunctionDecl)
+      → Same (of_function text d f.0 f.1) (again_in_function f ++ flat_map said_at (parts.in_function_at f))
   one_function f = one_signature (Function f.0) f.1.params f.1.clause
 
   abbrev pub again_in_nested : ℕ → ℕ × FunctionDecl → List Refusal
   again_in_nested i f = again_in_signature (Nested i f.0)
 
-  one_nested : (i : ℕ) (f : ℕ × FunctionDecl) → Same (of_nested text d i f.0 f.1) (again_in_nested i f ++ flat_map said_at (parts.in_nested_at i f))
+  one_nested : (i : ℕ) (f : ℕ × FunctionDecl)
+      → Same (of_nested text d i f.0 f.1) (again_in_nested i f ++ flat_map said_at (parts.in_nested_at i f))
   one_nested i f = one_signature (Nested i f.0) f.1.params f.1.clause
 
   all_nested : (i : ℕ) (fs : List FunctionDecl)
@@ -232,8 +245,10 @@ module _ (text : List ℕ) (s : Skeleton) (inherits : ℕ → ℕ → Bool) wher
       (flat_map (again_in_nested i) (numbered 0 fs) ++ flat_map said_at (flat_map (parts.in_nested_at i) (numbered 0 fs)))
   all_nested i fs =
       let ns = numbered 0 fs in
-      then (equal (by_place (of_nested text d i) 0 fs) (flat_map (λ f. of_nested text d i f.0 f.1) ns) (by_number (of_nested text d i) 0 fs))
-      (then (each (λ f. of_nested text d i f.0 f.1) (λ f. again_in_nested i f ++ flat_map said_at (parts.in_nested_at i f)) ns (λ f c. one_nested i f))
+      then (equal (by_place (of_nested text d i) 0 fs) (flat_map (λ f. of_nested text d i f.0 f.1) ns)
+      (by_number (of_nested text d i) 0 fs))
+      (then (each (λ f. of_nested text d i f.0 f.1) (λ f. again_in_nested i f ++ flat_map said_at (parts.in_nested_at i f)) ns
+      (λ f c. one_nested i f))
       (then (split (again_in_nested i) (λ f. flat_map said_at (parts.in_nested_at i f)) ns)
       (both (itself (flat_map (again_in_nested i) ns))
       (equal (flat_map (λ f. flat_map said_at (parts.in_nested_at i f)) ns) (flat_map said_at (flat_map (parts.in_nested_at i) ns))
@@ -252,7 +267,8 @@ module _ (text : List ℕ) (s : Skeleton) (inherits : ℕ → ℕ → Bool) wher
       let inner : List Refusal = flat_map (again_in_nested t.0) (numbered 0 t.1.functions) in
       let more : List Refusal = flat_map said_at (flat_map (parts.in_nested_at t.0) (numbered 0 t.1.functions)) in
       then (both (one_signature (Struct t.0) t.1.params t.1.clause) (both (itself again) (all_nested t.0 t.1.functions)))
-      (then (both (itself (first ++ says)) (equal (again ++ (inner ++ more)) ((again ++ inner) ++ more) (sym (append_assoc again inner more))))
+      (then (both (itself (first ++ says))
+      (equal (again ++ (inner ++ more)) ((again ++ inner) ++ more) (sym (append_assoc again inner more))))
       (then (parted first says (again ++ inner) more)
       (both (itself (first ++ (again ++ inner)))
       (equal (says ++ more) (flat_map said_at (parts.in_struct_at t))
@@ -299,11 +315,13 @@ module _ (text : List ℕ) (s : Skeleton) (inherits : ℕ → ℕ → Bool) wher
   asked_is q (Some g) = refl
 
   nested_is : (q : QueryDecl) (outer : Span) (o : Option ℕ)
-      → of_nested_query text d q outer o ≡ unknown_struct q outer o ++ ask_by (elim o [ None ↦ None | Some i ↦ nested_in d i (word text q.function) ]) q.ask
+      → of_nested_query text d q outer o
+      ≡ unknown_struct q outer o ++ ask_by (elim o [ None ↦ None | Some i ↦ nested_in d i (word text q.function) ]) q.ask
   nested_is q outer None = refl
   nested_is q outer (Some i) = asked_is q (nested_in d i (word text q.function))
 
-  query_is : (q : QueryDecl) (o : Option Span) → of_query_in text d q o ≡ unknown_in q o ++ ask_by (signature_asked text s o q.function) q.ask
+  query_is : (q : QueryDecl) (o : Option Span)
+      → of_query_in text d q o ≡ unknown_in q o ++ ask_by (signature_asked text s o q.function) q.ask
   query_is q None = asked_is q (signature_of d (word text q.function))
   query_is q (Some outer) = nested_is q outer (struct_of d (word text outer))
 
@@ -326,13 +344,15 @@ module _ (text : List ℕ) (s : Skeleton) (inherits : ℕ → ℕ → Bool) wher
       let o : Option Signature = signature_asked text s q.1.outer q.1.function in
       let es : List Entity = parts.entities_of_ask q.1.ask in
       let ts : List TypeDecl = parts.types_of_ask q.1.ask in
-      let begins : begins_at (in_query q.0) ≡ option_map (begins_in_signature d) o = ap (λ p. option_map (begins_in_signature d) (asked_by p)) e in
+      let begins : begins_at (in_query q.0) ≡ option_map (begins_in_signature d) o =
+      ap (λ p. option_map (begins_in_signature d) (asked_by p)) e in
       then (equal (of_query text d q.1) (unknown q.1 ++ ask_by o q.1.ask) (query_is q.1 q.1.outer))
       (both (itself (unknown q.1))
       (then (asked_same o q.1.ask)
       (equal (both_by (option_map (begins_in_signature d) o) es ts) (asks_at q)
       (ap (λ b. both_by b es ts) (sym begins)
-      ∙ (λ i. sym (flat_map-map named_at (λ (x : Entity). (in_query q.0, x)) es) i ++ sym (flat_map-map typed_at (λ (x : TypeDecl). (in_query q.0, x)) ts) i)))))
+      ∙ (λ i. sym (flat_map-map named_at (λ (x : Entity). (in_query q.0, x)) es) i
+      ++ sym (flat_map-map typed_at (λ (x : TypeDecl). (in_query q.0, x)) ts) i)))))
 
   abbrev asked_named : List Refusal
   asked_named = flat_map named_at (flat_map parts.asked_entities_at (numbered 0 s.queries))
@@ -345,7 +365,8 @@ module _ (text : List ℕ) (s : Skeleton) (inherits : ℕ → ℕ → Bool) wher
       let ns : List (ℕ × QueryDecl) = numbered 0 s.queries in
       let named = λ (q : ℕ × QueryDecl). flat_map named_at (parts.asked_entities_at q) in
       let typed = λ (q : ℕ × QueryDecl). flat_map typed_at (parts.asked_at q) in
-      then (equal (flat_map (of_query text d) s.queries) (flat_map (λ q. of_query text d q.1) ns) (sym (unnumbered (of_query text d) 0 s.queries)))
+      then (equal (flat_map (of_query text d) s.queries) (flat_map (λ q. of_query text d q.1) ns)
+      (sym (unnumbered (of_query text d) 0 s.queries)))
       (then (each (λ q. of_query text d q.1) (λ q. unknown q.1 ++ asks_at q) ns (λ q c. one_query q (number_of s.queries q c)))
       (then (split (λ (q : ℕ × QueryDecl). unknown q.1) asks_at ns)
       (both (equal (flat_map (λ q. unknown q.1) ns) (flat_map unknown s.queries) (unnumbered unknown 0 s.queries))
@@ -357,7 +378,8 @@ module _ (text : List ℕ) (s : Skeleton) (inherits : ℕ → ℕ → Bool) wher
 
   -- what is refused of the names that protocols, structs and functions declare
   abbrev pub own : List Refusal
-  own = flat_map own_of_protocol (numbered 0 s.protocols) ++ (flat_map again_in_struct (numbered 0 s.structs) ++ flat_map again_in_function (numbered 0 s.functions))
+  own = flat_map own_of_protocol (numbered 0 s.protocols)
+      ++ (flat_map again_in_struct (numbered 0 s.structs) ++ flat_map again_in_function (numbered 0 s.functions))
 
   abbrev pub asked : List Refusal
   asked = flat_map unknown s.queries
@@ -378,7 +400,8 @@ module _ (text : List ℕ) (s : Skeleton) (inherits : ℕ → ℕ → Bool) wher
   says_functions = flat_map said_at (flat_map parts.in_function_at (numbered 0 s.functions))
 
   -- the declarations, by what is refused of the names that they declare and by what their constraints say
-  declarations_same : Same (by_place (of_protocol text d inherits) 0 s.protocols ++ of_signatures text d s) (own ++ flat_map said_at (constraints s))
+  declarations_same : Same (by_place (of_protocol text d inherits) 0 s.protocols ++ of_signatures text d s)
+      (own ++ flat_map said_at (constraints s))
   declarations_same =
       let ps : List Refusal = flat_map own_of_protocol (numbered 0 s.protocols) in
       let ss : List Refusal = flat_map again_in_struct (numbered 0 s.structs) in
@@ -412,7 +435,8 @@ module _ (text : List ℕ) (s : Skeleton) (inherits : ℕ → ℕ → Bool) wher
       (both (itself asked)
       (then (parted named typed asked_named asked_typed)
       (both
-      (equal (named ++ asked_named) of_entities (sym (flat_map-append named_at es (flat_map parts.asked_entities_at (numbered 0 s.queries)))))
+      (equal (named ++ asked_named) of_entities
+      (sym (flat_map-append named_at es (flat_map parts.asked_entities_at (numbered 0 s.queries)))))
       (equal (typed ++ asked_typed) of_types (sym (flat_map-append typed_at ts (flat_map parts.asked_at (numbered 0 s.queries)))))))))
 
   pub all_gathered : Same (refusals text inherits s) (of_spaces d ++ (own ++ (asked ++ (of_entities ++ of_types))))

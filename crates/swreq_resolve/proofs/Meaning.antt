@@ -82,7 +82,8 @@ placed_from (d ∷ ds) name i k e = by (bytes_eq name d.name) refl e (placed_fro
     by true h f more = (0, d, (let s = same_Some i k f in omega (arith, s)), refl, sym ((bytes_eq-Decides name d.name).0 h))
     by false h f more = let r = more f in (suc r.0, r.1, (let s = r.2 in omega (arith, s)), r.3, r.4)
 
-pub placed_at : (ds : List Declaration) (name : List ℕ) (k : ℕ) → place ds name ≡ Some k → (d : Declaration) × (slice_get ds k ≡ Some d) × (d.name ≡ name)
+pub placed_at : (ds : List Declaration) (name : List ℕ) (k : ℕ) → place ds name ≡ Some k
+    → (d : Declaration) × (slice_get ds k ≡ Some d) × (d.name ≡ name)
 placed_at ds name k e =
     let r = placed_from ds name 0 k e in
     let z : k ≡ r.0 = (let s = r.2 in omega (arith, s)) in
@@ -102,14 +103,16 @@ first_at [] name i e c same o = no_member e c
 first_at (d ∷ ds) name i e c same o = by (bytes_eq name d.name) refl (λ h. first_at ds name (i + 1) e h same o.1)
   where
     no_later : d.at ≤ e.at
-    no_later = ⊎_elim (λ s. let t = ap (λ (x : Declaration). x.at) s in omega (arith, t)) (λ h. let l = o.0 e h in omega (arith, l)) (member_cases d e ds c)
+    no_later = ⊎_elim (λ s. let t = ap (λ (x : Declaration). x.at) s in omega (arith, t))
+        (λ h. let l = o.0 e h in omega (arith, l)) (member_cases d e ds c)
 
     behind : bytes_eq name d.name ≡ false → Contains ds e
     behind h =
         ⊎_elim (λ s. absurd (true≢false (sym (same_true name d.name (sym same ∙ ap (λ (x : Declaration). x.name) s)) ∙ h))) (λ b. b)
         (member_cases d e ds c)
 
-    by : (b : Bool) → bytes_eq name d.name ≡ b → (Contains ds e → IsFoundBy ds (i + 1) e.at (position_from (bytes_eq name) (i + 1) (names_of ds)))
+    by : (b : Bool) → bytes_eq name d.name ≡ b
+        → (Contains ds e → IsFoundBy ds (i + 1) e.at (position_from (bytes_eq name) (i + 1) (names_of ds)))
         → IsFoundBy (d ∷ ds) i e.at (cond b (Some i) (position_from (bytes_eq name) (i + 1) (names_of ds)))
     by true h more = let z : i ≡ i + 0 = omega arith in (0, d, ap Some z, refl, no_later)
     by false h more =
@@ -134,11 +137,13 @@ earlier_to ds name at e = by (place ds name) refl e
     by None p l = absurd (true≢false (sym l))
     by (Some k) p l = here k p l
 
-pub earlier_from : (ds : List Declaration) (name : List ℕ) (at : ℕ) → AreInOrder ds → HasEarlier ds name at → is_declared_before ds name at ≡ true
+pub earlier_from : (ds : List Declaration) (name : List ℕ) (at : ℕ) → AreInOrder ds → HasEarlier ds name at
+    → is_declared_before ds name at ≡ true
 earlier_from ds name at o h =
     let r = first_at ds name 0 h.earlier h.declared h.same o in
     let z : 0 + r.0 ≡ r.0 = omega arith in
-    let less : offset_of ds r.0 < at = subst (λ n. n < at) (sym (offset_at ds r.0 r.1 r.3)) (let l = r.4 in let b = h.before in omega (arith, l, b)) in
+    let less : offset_of ds r.0 < at =
+    subst (λ n. n < at) (sym (offset_at ds r.0 r.1 r.3)) (let l = r.4 in let b = h.before in omega (arith, l, b)) in
     ap (λ p. elim p [ None ↦ false | Some k ↦ nat_lt (offset_of ds k) at ]) (r.2 ∙ ap Some z)
     ∙ lt-ltb (offset_of ds r.0) at less
 
@@ -151,7 +156,8 @@ pub earlier_right : (ds es : List Declaration) (name : List ℕ) (at : ℕ) → 
 earlier_right ds es name at h =
     record { earlier = h.earlier; declared = Contains-append_right ds es h.earlier h.declared; same = h.same; before = h.before }
 
-pub earlier_cases : (ds es : List Declaration) (name : List ℕ) (at : ℕ) → HasEarlier (ds ++ es) name at → HasEarlier ds name at ⊎ HasEarlier es name at
+pub earlier_cases : (ds es : List Declaration) (name : List ℕ) (at : ℕ) → HasEarlier (ds ++ es) name at
+    → HasEarlier ds name at ⊎ HasEarlier es name at
 earlier_cases ds es name at h =
     ⊎_elim
     (λ c. inl (record { earlier = h.earlier; declared = c; same = h.same; before = h.before }))
@@ -187,7 +193,8 @@ module _ (text : List ℕ) (s : Skeleton) where
       subst (λ ns. Contains ns name) (sym (map-append (λ (x : Declaration). x.name) (outer_params d g) (own_params d g)))
       (by (place (outer_params d g) name) refl e)
     where
-      own_to : (o : Option ℕ) → place (own_params d g) name ≡ o → is_some (option_map Own o) ≡ true → Contains (names_of (own_params d g)) name
+      own_to : (o : Option ℕ) → place (own_params d g) name ≡ o → is_some (option_map Own o) ≡ true
+          → Contains (names_of (own_params d g)) name
       own_to None p e = absurd (true≢false (sym e))
       own_to (Some k) p e = declared_to (own_params d g) name (ap is_some p)
 
@@ -197,7 +204,8 @@ module _ (text : List ℕ) (s : Skeleton) where
       by None p e =
           Contains-append_right (names_of (outer_params d g)) (names_of (own_params d g)) name (own_to (place (own_params d g) name) refl e)
       by (Some k) p e =
-          Contains-append_left (names_of (outer_params d g)) (names_of (own_params d g)) name (declared_to (outer_params d g) name (ap is_some p))
+          Contains-append_left (names_of (outer_params d g)) (names_of (own_params d g)) name
+          (declared_to (outer_params d g) name (ap is_some p))
 
   pub parameter_from : (g : Signature) (name : List ℕ) → HasParameter text s g name → begins_in_signature d g name ≡ true
   parameter_from g name c = by (place (outer_params d g) name) refl

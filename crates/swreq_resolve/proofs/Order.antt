@@ -102,7 +102,8 @@ some_least : (b : Refusal) (rs : List Refusal) → (r : Refusal) × (least (Some
 some_least b [] = (b, refl)
 some_least b (x ∷ rs) = by (precedes x b) refl (some_least x rs) (some_least b rs)
   where
-    by : (t : Bool) → precedes x b ≡ t → (r : Refusal) × (least (Some x) rs ≡ Some r) → (r : Refusal) × (least (Some b) rs ≡ Some r) → (r : Refusal) × (least (earlier (Some b) x) rs ≡ Some r)
+    by : (t : Bool) → precedes x b ≡ t → (r : Refusal) × (least (Some x) rs ≡ Some r) → (r : Refusal) × (least (Some b) rs ≡ Some r)
+        → (r : Refusal) × (least (earlier (Some b) x) rs ≡ Some r)
     by true h m n = (m.0, ap (λ t. least (cond t (Some x) (Some b)) rs) h ∙ m.1)
     by false h m n = (n.0, ap (λ t. least (cond t (Some x) (Some b)) rs) h ∙ n.1)
 
@@ -135,13 +136,18 @@ has_least_by b x rs r false h e here kept =
     record {
       one = ⊎_elim inl (λ c. inr (Contains-append_right (x ∷ []) rs r c)) k.one;
       start = s;
-      others = λ q c. ⊎_elim (λ d. subst (λ (y : Refusal). key r ≤ key y) (sym d) (omega (arith, le, s))) (k.others q) (member_cases x q rs c);
+      others =
+          λ q c. ⊎_elim (λ d. subst (λ (y : Refusal). key r ≤ key y) (sym d) (omega (arith, le, s))) (k.others q) (member_cases x q rs c);
     }
 
 has_least : (b : Refusal) (rs : List Refusal) (r : Refusal) → least (Some b) rs ≡ Some r → HasLeast b rs r
 has_least b [] r e =
     let same : b ≡ r = cc in
-    record { one = inl (sym same); start = subst (λ (x : Refusal). key x ≤ key b) same (omega arith); others = λ q h. absurd (omega (arith, h.1)) }
+    record {
+      one = inl (sym same);
+      start = subst (λ (x : Refusal). key x ≤ key b) same (omega arith);
+      others = λ q h. absurd (omega (arith, h.1));
+    }
 has_least b (x ∷ rs) r e = has_least_by b x rs r (precedes x b) refl e (has_least x rs r) (has_least b rs r)
 
 pub least_is_first : (rs : List Refusal) (r : Refusal) → least None rs ≡ Some r → IsFirst rs r
@@ -149,5 +155,6 @@ least_is_first [] r e = absurd cc
 least_is_first (x ∷ rs) r e =
     let k = has_least x rs r e in record {
       is = ⊎_elim (λ c. subst (λ y. Contains (x ∷ rs) y) (sym c) (first_member x rs)) (λ c. later_member x r rs c) k.one;
-      first = λ q c. not_precedes_from q r (⊎_elim (λ d. subst (λ (y : Refusal). key r ≤ key y) (sym d) k.start) (k.others q) (member_cases x q rs c));
+      first = λ q c.
+          not_precedes_from q r (⊎_elim (λ d. subst (λ (y : Refusal). key r ≤ key y) (sym d) k.start) (k.others q) (member_cases x q rs c));
     }

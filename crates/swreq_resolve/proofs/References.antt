@@ -29,7 +29,8 @@ none_from (Some x) P a n = absurd (n x (a.to x refl))
 
 -- ---- the first of a name
 
-one_place : (ds : List Declaration) → AreInOrder ds → (i j : ℕ) (x y : Declaration) → slice_get ds i ≡ Some x → slice_get ds j ≡ Some y → x.at ≡ y.at
+one_place : (ds : List Declaration) → AreInOrder ds → (i j : ℕ) (x y : Declaration) → slice_get ds i ≡ Some x
+    → slice_get ds j ≡ Some y → x.at ≡ y.at
     → i ≡ j
 one_place [] o i j x y e f s = absurd cc
 one_place (d ∷ ds) o zero zero x y e f s = refl
@@ -44,7 +45,8 @@ module _ (ds : List Declaration) (o : AreInOrder ds) (name : List ℕ) where
   no_earlier : (k : ℕ) → place ds name ≡ Some k → (d : Declaration) → slice_get ds k ≡ Some d → HasEarlier ds name d.at → ⊥
   no_earlier k p d e h =
       let is : nat_lt d.at d.at ≡ true
-      = ap (λ n. nat_lt n d.at) (sym (offset_at ds k d e)) ∙ ap (λ q. elim q [ None ↦ false | Some k ↦ nat_lt (offset_of ds k) d.at ]) (sym p)
+      =
+      ap (λ n. nat_lt n d.at) (sym (offset_at ds k d e)) ∙ ap (λ q. elim q [ None ↦ false | Some k ↦ nat_lt (offset_of ds k) d.at ]) (sym p)
       ∙ earlier_from ds name d.at o h in
       let l = ltb-true d.at d.at is in
       omega (arith, l)
@@ -61,7 +63,8 @@ module _ (ds : List Declaration) (o : AreInOrder ds) (name : List ℕ) where
       by : (j : ℕ) (x : Declaration) → slice_get ds j ≡ Some x → x.at ≤ d.at → {y : Declaration} → x ≡ y → y.name ≡ name → j ≡ i
       by j x f l s n =
           ⊎_elim
-          (λ h. absurd (first (record { earlier = x; declared = get_contains ds j x f; same = ap (λ (z : Declaration). z.name) s ∙ n; before = h })))
+          (λ h. absurd
+          (first (record { earlier = x; declared = get_contains ds j x f; same = ap (λ (z : Declaration). z.name) s ∙ n; before = h })))
           (λ h. one_place ds o j i x d f e (omega arith)) (cases_lt x.at d.at)
 
   pub placed : Answers (place ds name) (Means ds ds name)
@@ -71,7 +74,8 @@ module _ (ds : List Declaration) (o : AreInOrder ds) (name : List ℕ) where
   }
 
 module _ (ds others : List Declaration) (o : AreInOrder ds) (p : AreInOrder others) (name : List ℕ) where
-  means_at : (k i : ℕ) → place ds name ≡ Some k → (b : Bool) → is_declared_before others name (offset_of ds k) ≡ b → cond b None (Some k) ≡ Some i
+  means_at : (k i : ℕ) → place ds name ≡ Some k → (b : Bool) → is_declared_before others name (offset_of ds k) ≡ b
+      → cond b None (Some k) ≡ Some i
       → Means ds (ds ++ others) name i
   means_at k i e true h f = absurd cc
   means_at k i e false h f =
@@ -82,7 +86,8 @@ module _ (ds others : List Declaration) (o : AreInOrder ds) (p : AreInOrder othe
         place = subst (λ n. slice_get ds n ≡ Some r.0) s r.1;
         named = r.2;
         first = λ a. ⊎_elim (no_earlier ds o name k e r.0 r.1)
-            (λ c. true≢false (sym (earlier_from others name r.0.at p c) ∙ ap (is_declared_before others name) (sym (offset_at ds k r.0 r.1)) ∙ h))
+            (λ c.
+            true≢false (sym (earlier_from others name r.0.at p c) ∙ ap (is_declared_before others name) (sym (offset_at ds k r.0 r.1)) ∙ h))
             (earlier_cases ds others name r.0.at a);
       }
 
@@ -111,7 +116,12 @@ earlier_swapped ds es name at h = ⊎_elim (earlier_right es ds name at) (earlie
 
 means_swapped : (ds es fs : List Declaration) (name : List ℕ) (i : ℕ) → Means fs (ds ++ es) name i → Means fs (es ++ ds) name i
 means_swapped ds es fs name i m =
-    record { declaration = m.declaration; place = m.place; named = m.named; first = λ h. m.first (earlier_swapped es ds name m.declaration.at h) }
+    record {
+      declaration = m.declaration;
+      place = m.place;
+      named = m.named;
+      first = λ h. m.first (earlier_swapped es ds name m.declaration.at h);
+    }
 
 -- ---- the names of a text
 
@@ -146,26 +156,40 @@ module _ (text : List ℕ) (s : Skeleton) (order : IsInOrder (spaces text s)) wh
       let y = get_contains d.functions j n.declaration n.place in
       ⊎_elim (order.apart m.declaration n.declaration x y)
       (λ l. ⊎_elim
-      (λ h. n.first (record { earlier = m.declaration; declared = Contains-append_left d.structs d.functions m.declaration x; same = m.named; before = h }))
-      (λ h. m.first (record { earlier = n.declaration; declared = Contains-append_right d.structs d.functions n.declaration y; same = n.named; before = h })) l)
+      (λ h. n.first (record {
+        earlier = m.declaration;
+        declared = Contains-append_left d.structs d.functions m.declaration x;
+        same = m.named;
+        before = h;
+      }))
+      (λ h. m.first (record {
+        earlier = n.declaration;
+        declared = Contains-append_right d.structs d.functions n.declaration y;
+        same = n.named;
+        before = h;
+      })) l)
       (cases_order m.declaration.at n.declaration.at)
 
   -- ---- signatures
 
   at_top : (p : Span) (a b : Option ℕ) → struct_of d (word text p) ≡ a → function_of d (word text p) ≡ b → (g : Signature)
-      → elim a as (λ _. Option Signature) [ None ↦ option_map Function b | Some i ↦ Some (Struct i) ] ≡ Some g → NamesSignature text s None p g
+      → elim a as (λ _. Option Signature) [ None ↦ option_map Function b | Some i ↦ Some (Struct i) ] ≡ Some g
+      → NamesSignature text s None p g
   at_top p (Some i) b e f g h = subst (NamesSignature text s None p) (same_Some (Struct i) g h) ((struct p).to i e)
   at_top p None (Some i) e f g h = subst (NamesSignature text s None p) (same_Some (Function i) g h) ((function p).to i f)
   at_top p None None e f g h = absurd cc
 
   in_struct : (outer p : Span) (a : Option ℕ) → struct_of d (word text outer) ≡ a → (g : Signature)
-      → elim a as (λ _. Option Signature) [ None ↦ None | Some i ↦ nested_in d i (word text p) ] ≡ Some g → NamesSignature text s (Some outer) p g
+      → elim a as (λ _. Option Signature) [ None ↦ None | Some i ↦ nested_in d i (word text p) ] ≡ Some g
+      → NamesSignature text s (Some outer) p g
   in_struct outer p None e g h = absurd cc
   in_struct outer p (Some i) e g h = by (place (get_or d.nested i []) (word text p)) refl h
     where
-      by : (b : Option ℕ) → place (get_or d.nested i []) (word text p) ≡ b → option_map (Nested i) b ≡ Some g → NamesSignature text s (Some outer) p g
+      by : (b : Option ℕ) → place (get_or d.nested i []) (word text p) ≡ b → option_map (Nested i) b ≡ Some g
+          → NamesSignature text s (Some outer) p g
       by None f k = absurd cc
-      by (Some j) f k = subst (NamesSignature text s (Some outer) p) (same_Some (Nested i j) g k) ((struct outer).to i e, (inner i p).to j f)
+      by (Some j) f k =
+          subst (NamesSignature text s (Some outer) p) (same_Some (Nested i j) g k) ((struct outer).to i e, (inner i p).to j f)
 
   names_to : (o : Option Span) (p : Span) (g : Signature) → signature_asked text s o p ≡ Some g → NamesSignature text s o p g
   names_to None p g e = at_top p (struct_of d (word text p)) (function_of d (word text p)) refl refl g e
@@ -173,7 +197,8 @@ module _ (text : List ℕ) (s : Skeleton) (order : IsInOrder (spaces text s)) wh
 
   names_from : (o : Option Span) (p : Span) (g : Signature) → NamesSignature text s o p g → signature_asked text s o p ≡ Some g
   names_from None p (Struct i) m =
-      ap (λ a. elim a as (λ _. Option Signature) [ None ↦ option_map Function (function_of d (word text p)) | Some i ↦ Some (Struct i) ]) ((struct p).from i m)
+      ap (λ a. elim a as (λ _. Option Signature) [ None ↦ option_map Function (function_of d (word text p)) | Some i ↦ Some (Struct i) ])
+      ((struct p).from i m)
   names_from None p (Function i) m =
       let no : struct_of d (word text p) ≡ None
       = none_from (struct_of d (word text p)) (NamesStruct text s p) (struct p) (λ j n. not_both p j i n m) in

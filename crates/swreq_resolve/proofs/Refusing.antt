@@ -30,7 +30,8 @@ use Rattle.swreq_resolve.proofs.References.{none_to, protocol, struct, function,
 use Rattle.swreq_resolve.proofs.Gathered.{signature_asked, begins_at, named_by, typed_by, named_at, typed_at, again_in_protocol, primaries_in_protocol, own_of_protocol, again_in_signature, again_in_function, again_in_nested, again_in_struct, unknown_signature, unknown_struct, unknown_in, unknown, own, asked, of_entities, of_types, all_gathered}
 use Rattle.swreq_resolve.proofs.Duplicates.{when_to, refuted, duplicates_to, of_space_to}
 
-module _ (text : List ℕ) (s : Skeleton) (inherits : ℕ → ℕ → Bool) (tells : TellsInheritance text s inherits) (order : IsInOrder (spaces text s)) where
+module _ (text : List ℕ) (s : Skeleton) (inherits : ℕ → ℕ → Bool) (tells : TellsInheritance text s inherits)
+    (order : IsInOrder (spaces text s)) where
   abbrev d : Spaces
   d = spaces text s
 
@@ -52,7 +53,8 @@ module _ (text : List ℕ) (s : Skeleton) (inherits : ℕ → ℕ → Bool) (tel
   turned q r e h = subst (IsRefused text s) (sym e) h
 
   again_in : (space : Space) (r : Refusal)
-      → (x : Declaration) × Contains (declarations_of d space) x × HasEarlier (told_apart d space) x.name x.at × (r ≡ refused Duplicate x.at)
+      → (x : Declaration) × Contains (declarations_of d space) x × HasEarlier (told_apart d space) x.name x.at
+      × (r ≡ refused Duplicate x.at)
       → IsRefused text s r
   again_in space r p = turned (refused Duplicate p.0.at) r p.3 (declared_again space p.1 p.2)
 
@@ -74,7 +76,8 @@ module _ (text : List ℕ) (s : Skeleton) (inherits : ℕ → ℕ → Bool) (tel
       (λ k. let p = from_pieces (primary_of d inherits i) primaries r k in
       let w = when_to (not (has_member d inherits i p.0.name)) NoSuchMember p.0.at r p.2 in
       turned (refused NoSuchMember p.0.at) r w.1
-      (no_such_primary p.1 (refuted (has_member d inherits i p.0.name) (HasMemberName text s i p.0.name) (member_from text s inherits tells i p.0.name) w.0)))
+      (no_such_primary p.1
+      (refuted (has_member d inherits i p.0.name) (HasMemberName text s i p.0.name) (member_from text s inherits tells i p.0.name) w.0)))
       (Contains-append_cases (again_in_protocol text s inherits i) (primaries_in_protocol text s inherits i) r c)
 
   signature_to : (g : Signature) (r : Refusal) → Contains (again_in_signature text s inherits g) r → IsRefused text s r
@@ -82,8 +85,10 @@ module _ (text : List ℕ) (s : Skeleton) (inherits : ℕ → ℕ → Bool) (tel
       let mine = own_params d g in
       let around = outer_params d g in
       ⊎_elim
-      (λ h. let p = duplicates_to mine mine r h in again_in (parameters_of g) r (p.0, p.1, earlier_right around mine p.0.name p.0.at p.2, p.3))
-      (λ h. let p = duplicates_to around mine r h in again_in (parameters_of g) r (p.0, p.1, earlier_left around mine p.0.name p.0.at p.2, p.3))
+      (λ h.
+      let p = duplicates_to mine mine r h in again_in (parameters_of g) r (p.0, p.1, earlier_right around mine p.0.name p.0.at p.2, p.3))
+      (λ h.
+      let p = duplicates_to around mine r h in again_in (parameters_of g) r (p.0, p.1, earlier_left around mine p.0.name p.0.at p.2, p.3))
       (Contains-append_cases (duplicates mine mine) (duplicates around mine) r c)
 
   struct_to : (t : ℕ × StructDecl) (r : Refusal) → Contains (again_in_struct text s inherits t) r → IsRefused text s r
@@ -92,7 +97,8 @@ module _ (text : List ℕ) (s : Skeleton) (inherits : ℕ → ℕ → Bool) (tel
       let params = flat_map (again_in_nested text s inherits t.0) (numbered 0 t.1.functions) in
       ⊎_elim (signature_to (Struct t.0) r)
       (λ k. ⊎_elim (λ h. again_in (functions_of t.0) r (duplicates_to inner inner r h))
-      (λ h. let f = from_pieces (again_in_nested text s inherits t.0) (numbered 0 t.1.functions) r h in signature_to (Nested t.0 f.0.0) r f.2)
+      (λ h.
+      let f = from_pieces (again_in_nested text s inherits t.0) (numbered 0 t.1.functions) r h in signature_to (Nested t.0 f.0.0) r f.2)
       (Contains-append_cases (duplicates inner inner) params r k))
       (Contains-append_cases (again_in_signature text s inherits (Struct t.0)) (duplicates inner inner ++ params) r c)
 
@@ -118,18 +124,22 @@ module _ (text : List ℕ) (s : Skeleton) (inherits : ℕ → ℕ → Bool) (tel
         → IsRefused text s r
     top_to e None None f g k =
         let no_structs = none_to (struct_of d (word text q.function)) (NamesStruct text s q.function) (struct text s order q.function) f in
-        let no_functions = none_to (function_of d (word text q.function)) (NamesFunction text s q.function) (function text s order q.function) g in
+        let no_functions =
+        none_to (function_of d (word text q.function)) (NamesFunction text s q.function) (function text s order q.function) g in
         turned (refused UnknownSignature q.function.start) r (only_member (refused UnknownSignature q.function.start) r k)
         (no_signature c e no_structs no_functions)
     top_to e None (Some j) f g k = no_member r k
     top_to e (Some i) b f g k = no_member r k
 
     inner_to : (outer : Span) → q.outer ≡ Some outer → (i : ℕ) → NamesStruct text s outer i → (o : Option ℕ)
-        → place (get_or d.nested i []) (word text q.function) ≡ o → Contains (unknown_signature text s inherits q (option_map (Nested i) o)) r
+        → place (get_or d.nested i []) (word text q.function) ≡ o
+        → Contains (unknown_signature text s inherits q (option_map (Nested i) o)) r
         → IsRefused text s r
     inner_to outer e i f None h k =
-        let none = none_to (place (get_or d.nested i []) (word text q.function)) (NamesInner text s i q.function) (inner text s order i q.function) h in
-        turned (refused UnknownSignature q.function.start) r (only_member (refused UnknownSignature q.function.start) r k) (no_function c e f none)
+        let none = none_to (place (get_or d.nested i []) (word text q.function)) (NamesInner text s i q.function)
+        (inner text s order i q.function) h in
+        turned (refused UnknownSignature q.function.start) r (only_member (refused UnknownSignature q.function.start) r k)
+        (no_function c e f none)
     inner_to outer e i f (Some j) h k = no_member r k
 
     outer_to : (outer : Span) → q.outer ≡ Some outer → (o : Option ℕ) → struct_of d (word text outer) ≡ o
@@ -155,10 +165,12 @@ module _ (text : List ℕ) (s : Skeleton) (inherits : ℕ → ℕ → Bool) (tel
   -- a scope of a signature
   asked_begins : (k : ℕ) (p : Option QueryDecl) → slice_get s.queries k ≡ p → (o : Option Signature)
       → elim p [ None ↦ None | Some q ↦ signature_asked text s q.outer q.function ] ≡ o
-      → (b : Begins) → option_map (begins_in_signature d) o ≡ Some b → (g : Signature) × IsScopeOf text s g (in_query k) × (begins_in_signature d g ≡ b)
+      → (b : Begins) → option_map (begins_in_signature d) o ≡ Some b
+      → (g : Signature) × IsScopeOf text s g (in_query k) × (begins_in_signature d g ≡ b)
   asked_begins k p e None f b h = absurd cc
   asked_begins k None e (Some g) f b h = absurd cc
-  asked_begins k (Some q) e (Some g) f b h = (g, (q, e, (signature text s order q.outer q.function).to g f), same_begins (begins_in_signature d g) b h)
+  asked_begins k (Some q) e (Some g) f b h =
+      (g, (q, e, (signature text s order q.outer q.function).to g f), same_begins (begins_in_signature d g) b h)
     where
       same_begins : (a b : Begins) → Some a ≡ Some b → a ≡ b
       same_begins a b e = cc
@@ -175,12 +187,14 @@ module _ (text : List ℕ) (s : Skeleton) (inherits : ℕ → ℕ → Bool) (tel
     stands n = record { written = there; looked_at = looked; named = n }
 
     wrong_to : e.layout ≡ false → (i : ℕ) → protocol_of d (word text e.span) ≡ Some i → (a b : Bool) → nat_eq (length e.args) 0 ≡ a
-        → nat_eq (length e.args) (length (get_or d.primaries i [])) ≡ b → Contains (when (not (a || b)) WrongArity e.span.start) r → IsRefused text s r
+        → nat_eq (length e.args) (length (get_or d.primaries i [])) ≡ b
+        → Contains (when (not (a || b)) WrongArity e.span.start) r → IsRefused text s r
     wrong_to n i h true b f g c = no_member r c
     wrong_to n i h false true f g c = no_member r c
     wrong_to n i h false false f g c =
         turned (refused WrongArity e.span.start) r (only_member (refused WrongArity e.span.start) r c)
-        (wrong_arguments (stands n) ((protocol text s order e.span).to i h) (eqb-false (length e.args) 0 f) (eqb-false (length e.args) (length (get_or d.primaries i [])) g))
+        (wrong_arguments (stands n) ((protocol text s order e.span).to i h) (eqb-false (length e.args) 0 f)
+        (eqb-false (length e.args) (length (get_or d.primaries i [])) g))
 
     protocol_name_to : e.layout ≡ false → (o : Option ℕ) → protocol_of d (word text e.span) ≡ o
         → Contains (of_protocol_name d e.span (length e.args) o) r → IsRefused text s r
@@ -190,7 +204,8 @@ module _ (text : List ℕ) (s : Skeleton) (inherits : ℕ → ℕ → Bool) (tel
     protocol_name_to n (Some i) h c =
         wrong_to n i h (nat_eq (length e.args) 0) (nat_eq (length e.args) (length (get_or d.primaries i []))) refl refl c
 
-    named_to : (l : Bool) → e.layout ≡ l → Contains (cond l [] (of_protocol_name d e.span (length e.args) (protocol_of d (word text e.span)))) r
+    named_to : (l : Bool) → e.layout ≡ l
+        → Contains (cond l [] (of_protocol_name d e.span (length e.args) (protocol_of d (word text e.span)))) r
         → IsRefused text s r
     named_to true n c = no_member r c
     named_to false n c = protocol_name_to n (protocol_of d (word text e.span)) refl c
@@ -201,7 +216,8 @@ module _ (text : List ℕ) (s : Skeleton) (inherits : ℕ → ℕ → Bool) (tel
   entity_to p c (Some b) h r k = named_to p.0 p.1 c (looked_at p.0 b h) r p.1.layout refl k
 
   entities_to : (r : Refusal) → Contains entity_names r → IsRefused text s r
-  entities_to r c = let p = from_pieces (named_at text s inherits) (entities s) r c in entity_to p.0 p.1 (begins_at text s inherits p.0.0) refl r p.2
+  entities_to r c =
+      let p = from_pieces (named_at text s inherits) (entities s) r c in entity_to p.0 p.1 (begins_at text s inherits p.0.0) refl r p.2
 
   -- ---- types
 
@@ -237,7 +253,8 @@ module _ (text : List ℕ) (s : Skeleton) (inherits : ℕ → ℕ → Bool) (tel
   bound_to scope t w p a c (Some i) h r k =
       let e = when_to (not (declares d i (word text a))) NoSuchMember a.start r k in
       turned (refused NoSuchMember a.start) r e.1
-      (no_such_member w c ((protocol text s order p).to i h) (refuted (declares d i (word text a)) (DeclaresName text s i (word text a)) (declares_from text s i (word text a)) e.0))
+      (no_such_member w c ((protocol text s order p).to i h)
+      (refuted (declares d i (word text a)) (DeclaresName text s i (word text a)) (declares_from text s i (word text a)) e.0))
 
   step_to : (scope : Scope) (t : TypeDecl) → HasType text s scope t → (step : StepDecl) → Contains t.steps step
       → (r : Refusal) → Contains (of_step text d step) r → IsRefused text s r
@@ -257,7 +274,8 @@ module _ (text : List ℕ) (s : Skeleton) (inherits : ℕ → ℕ → Bool) (tel
       (Contains-append_cases first (flat_map (of_step text d) p.1.steps) r k)
 
   types_to : (r : Refusal) → Contains type_names r → IsRefused text s r
-  types_to r c = let p = from_pieces (typed_at text s inherits) (types s) r c in type_to p.0 p.1 (begins_at text s inherits p.0.0) refl r p.2
+  types_to r c =
+      let p = from_pieces (typed_at text s inherits) (types s) r c in type_to p.0 p.1 (begins_at text s inherits p.0.0) refl r p.2
 
   pub refusals_to : (r : Refusal) → Contains (refusals text inherits s) r → IsRefused text s r
   refusals_to r c =
@@ -268,4 +286,5 @@ module _ (text : List ℕ) (s : Skeleton) (inherits : ℕ → ℕ → Bool) (tel
       (Contains-append_cases entity_names type_names r m))
       (Contains-append_cases asked_names (entity_names ++ type_names) r l))
       (Contains-append_cases own_names (asked_names ++ (entity_names ++ type_names)) r k))
-      (Contains-append_cases (of_spaces d) (own_names ++ (asked_names ++ (entity_names ++ type_names))) r ((all_gathered text s inherits).to r c))
+      (Contains-append_cases (of_spaces d) (own_names ++ (asked_names ++ (entity_names ++ type_names))) r
+      ((all_gathered text s inherits).to r c))

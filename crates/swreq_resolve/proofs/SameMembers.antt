@@ -30,14 +30,17 @@ module _ {X : Type 0} where
   -- one after the other
   pub both : {ps qs rs ts : List X} → Same ps qs → Same rs ts → Same (ps ++ rs) (qs ++ ts)
   both {ps} {qs} {rs} {ts} s t = record {
-    to = λ x c. ⊎_elim (λ h. Contains-append_left qs ts x (s.to x h)) (λ h. Contains-append_right qs ts x (t.to x h)) (Contains-append_cases ps rs x c);
-    from = λ x c. ⊎_elim (λ h. Contains-append_left ps rs x (s.from x h)) (λ h. Contains-append_right ps rs x (t.from x h)) (Contains-append_cases qs ts x c);
+    to = λ x c. ⊎_elim (λ h. Contains-append_left qs ts x (s.to x h)) (λ h. Contains-append_right qs ts x (t.to x h))
+        (Contains-append_cases ps rs x c);
+    from = λ x c. ⊎_elim (λ h. Contains-append_left ps rs x (s.from x h)) (λ h. Contains-append_right ps rs x (t.from x h))
+        (Contains-append_cases qs ts x c);
   }
 
   moved_to : (ps qs rs : List X) (x : X) → Contains (ps ++ (qs ++ rs)) x → Contains (qs ++ (ps ++ rs)) x
   moved_to ps qs rs x c =
       ⊎_elim (λ h. Contains-append_right qs (ps ++ rs) x (Contains-append_left ps rs x h))
-      (λ h. ⊎_elim (λ k. Contains-append_left qs (ps ++ rs) x k) (λ k. Contains-append_right qs (ps ++ rs) x (Contains-append_right ps rs x k))
+      (λ h.
+      ⊎_elim (λ k. Contains-append_left qs (ps ++ rs) x k) (λ k. Contains-append_right qs (ps ++ rs) x (Contains-append_right ps rs x k))
       (Contains-append_cases qs rs x h))
       (Contains-append_cases ps (qs ++ rs) x c)
 
@@ -48,7 +51,8 @@ module _ {X : Type 0} where
   pub parted : (ps qs rs ts : List X) → Same ((ps ++ qs) ++ (rs ++ ts)) ((ps ++ rs) ++ (qs ++ ts))
   parted ps qs rs ts =
       then (equal ((ps ++ qs) ++ (rs ++ ts)) (ps ++ (qs ++ (rs ++ ts))) (append_assoc ps qs (rs ++ ts)))
-      (then (both (itself ps) (moved qs rs ts)) (equal (ps ++ (rs ++ (qs ++ ts))) ((ps ++ rs) ++ (qs ++ ts)) (sym (append_assoc ps rs (qs ++ ts)))))
+      (then (both (itself ps) (moved qs rs ts))
+      (equal (ps ++ (rs ++ (qs ++ ts))) ((ps ++ rs) ++ (qs ++ ts)) (sym (append_assoc ps rs (qs ++ ts)))))
 
 module _ {A B : Type 0} where
   -- pieces with the same members

@@ -117,7 +117,8 @@ module _ (text : List ℕ) (d : Spaces) where
   abbrev pub of_protocol : (ℕ → ℕ → Bool) → ℕ → ProtocolDecl → List Refusal
   of_protocol inherits i p =
       let begins : List ℕ → Bool = begins_in_protocol d inherits i in
-      of_primaries d inherits i ++ (flat_map (of_entity begins) p.inherits ++ (flat_map (of_requirement begins) p.clause ++ of_members begins i p.members))
+      of_primaries d inherits i
+      ++ (flat_map (of_entity begins) p.inherits ++ (flat_map (of_requirement begins) p.clause ++ of_members begins i p.members))
 
   -- Generic parameters are told apart within a signature, also from those of the struct around it.
   abbrev pub of_signature : Signature → List ParamDecl → List ReqDecl → List Refusal
@@ -167,7 +168,8 @@ of_signatures text d s = by_place (of_struct text d) 0 s.structs ++ by_place (of
 -- all names that are refused, where d has the declared names
 abbrev pub refusals_in : List ℕ → Spaces → (ℕ → ℕ → Bool) → Skeleton → List Refusal
 refusals_in text d inherits s =
-    of_spaces d ++ (by_place (of_protocol text d inherits) 0 s.protocols ++ (of_signatures text d s ++ flat_map (of_query text d) s.queries))
+    of_spaces d
+    ++ (by_place (of_protocol text d inherits) 0 s.protocols ++ (of_signatures text d s ++ flat_map (of_query text d) s.queries))
 
 abbrev pub refusals : List ℕ → (ℕ → ℕ → Bool) → Skeleton → List Refusal
 refusals text inherits s = refusals_in text (spaces text s) inherits s

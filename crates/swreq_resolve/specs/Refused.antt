@@ -1,5 +1,5 @@
--- Which names of a text are refused, and as what: the rule of spaces, and then the rows of the table of what each name has to be, in their order
--- (docs/LANGUAGE.md, "Names").
+-- Which names of a text are refused, and as what: the rule of spaces, and then the rows of the table of what each name has to be, in their
+-- order (docs/LANGUAGE.md, "Names").
 use Rattle.std.specs.Prelude.{◌≡◌, ◌≢◌, ◌⊎◌, ℕ, ◌<◌, false, List, [], ◌++◌, length, Option, Some, None, slice_get, slice_index_or, Contains}
 use Rattle.swreq_decl.specs.declared.skeleton.Span.{Span}
 use Rattle.swreq_decl.specs.declared.skeleton.Entity.{Entity}
@@ -85,7 +85,8 @@ module _ (text : List ℕ) (s : Skeleton) where
 
   -- the j-th function of the i-th struct
   abbrev pub NamesInner : ℕ → Span → ℕ → Type 0
-  NamesInner i p j = Means (declarations_of (spaces text s) (functions_of i)) (declarations_of (spaces text s) (functions_of i)) (word text p) j
+  NamesInner i p j =
+      Means (declarations_of (spaces text s) (functions_of i)) (declarations_of (spaces text s) (functions_of i)) (word text p) j
 
   -- the signature of a query `S(..)` or `S.f(..)`
   abbrev pub NamesSignature : Option Span → Span → Signature → Type 0
@@ -114,7 +115,8 @@ module _ (text : List ℕ) (s : Skeleton) where
   IsScopeOf g (in_signature h) = h ≡ g
   IsScopeOf g (in_query k) = (q : QueryDecl) × (slice_get s.queries k ≡ Some q) × NamesSignature q.outer q.function g
 
-  -- What stands in a declaration is looked at, and what stands in a query on a signature. The rest of a query on an unknown signature is not.
+  -- What stands in a declaration is looked at, and what stands in a query on a signature. The rest of a query on an unknown signature is
+  -- not.
   abbrev pub IsLookedAt : Scope → Type 0
   IsLookedAt (in_query k) = (g : Signature) × IsScopeOf g (in_query k)
   IsLookedAt _ = Unit {0}

@@ -77,7 +77,8 @@ fn check_protocol_name(
     count: usize,
     best: Option<Refusal>,
 ) -> Option<Refusal>
-    ensures { result ≡ least best (of_protocol_name d.now span count (protocol_of d.now (word text.now span))) }
+    ensures { result
+        ≡ least best (of_protocol_name d.now span count (protocol_of d.now (word text.now span))) }
 {
     match d.protocol_of(word(text, span)) {
         Some(protocol) => {
@@ -96,7 +97,8 @@ fn check_bound(
     name: Span,
     best: Option<Refusal>,
 ) -> Option<Refusal>
-    ensures { result ≡ least best (of_bound text.now d.now proto name (protocol_of d.now (word text.now proto))) }
+    ensures { result ≡ least best
+        (of_bound text.now d.now proto name (protocol_of d.now (word text.now proto))) }
 {
     match d.protocol_of(word(text, proto)) {
         Some(protocol) => {
@@ -149,7 +151,8 @@ fn check_types(
     types: &[TypeDecl],
     best: Option<Refusal>,
 ) -> Option<Refusal>
-    ensures { result ≡ walk (of_type text.now d.now (begins d.now first_words.entry)) best types.now }
+    ensures { result
+        ≡ walk (of_type text.now d.now (begins d.now first_words.entry)) best types.now }
 {
     types
         .iter()
@@ -175,7 +178,8 @@ pub fn check_entity(
     e: &Entity,
     best: Option<Refusal>,
 ) -> Option<Refusal>
-    ensures { result ≡ least best (of_entity text.now d.now (begins d.now first_words.entry) e.now) }
+    ensures { result
+        ≡ least best (of_entity text.now d.now (begins d.now first_words.entry) e.now) }
 {
     let best = check_named(text, d, e, best);
     check_types(text, d, first_words, e.args.items(), best)
@@ -188,7 +192,8 @@ pub fn check_entities(
     entities: &[Entity],
     best: Option<Refusal>,
 ) -> Option<Refusal>
-    ensures { result ≡ walk (of_entity text.now d.now (begins d.now first_words.entry)) best entities.now }
+    ensures { result
+        ≡ walk (of_entity text.now d.now (begins d.now first_words.entry)) best entities.now }
 {
     entities
         .iter()
@@ -203,7 +208,8 @@ fn check_requirement(
     r: &ReqDecl,
     best: Option<Refusal>,
 ) -> Option<Refusal>
-    ensures { result ≡ least best (of_requirement text.now d.now (begins d.now first_words.entry) r.now) }
+    ensures { result
+        ≡ least best (of_requirement text.now d.now (begins d.now first_words.entry) r.now) }
 {
     match r {
         ReqDecl::Bound { subject, bounds } => {
@@ -224,7 +230,8 @@ pub fn check_requirements(
     clause: &[ReqDecl],
     best: Option<Refusal>,
 ) -> Option<Refusal>
-    ensures { result ≡ walk (of_requirement text.now d.now (begins d.now first_words.entry)) best clause.now }
+    ensures { result
+        ≡ walk (of_requirement text.now d.now (begins d.now first_words.entry)) best clause.now }
 {
     clause
         .iter()

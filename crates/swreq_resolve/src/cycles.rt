@@ -20,7 +20,8 @@ fn first_loop(inherits: &Closure, count: usize) -> Option<usize>
 
 /// Where the first protocol that inherits itself has its name, if there is one.
 pub fn cycle_of(s: &Skeleton, inherits: &Closure) -> Option<u32>
-    ensures { MatchOption result (HasNoLoop inherits.now (length s.now.protocols)) (IsLoopAt inherits.now s.now) }
+    ensures { MatchOption result (HasNoLoop inherits.now (length s.now.protocols))
+        (IsLoopAt inherits.now s.now) }
 {
     let protocols = s.protocols.items();
     match first_loop(inherits, protocols.len()) {

@@ -32,7 +32,8 @@ fn check_member(
     m: &AssocDecl,
     best: Option<Refusal>,
 ) -> Option<Refusal>
-    ensures { result ≡ least best (of_member text.now d.now (begins d.now first_words.entry) m.now) }
+    ensures { result
+        ≡ least best (of_member text.now d.now (begins d.now first_words.entry) m.now) }
 {
     let best = check_entities(text, d, first_words, m.inherits.items(), best);
     check_requirements(text, d, first_words, m.clause.items(), best)
@@ -45,7 +46,8 @@ fn check_members(
     members: &[AssocDecl],
     best: Option<Refusal>,
 ) -> Option<Refusal>
-    ensures { result ≡ walk (of_member text.now d.now (begins d.now first_words.entry)) best members.now }
+    ensures { result
+        ≡ walk (of_member text.now d.now (begins d.now first_words.entry)) best members.now }
 {
     members
         .iter()
@@ -103,7 +105,8 @@ fn check_all_members(
     members: &[AssocDecl],
     best: Option<Refusal>,
 ) -> Option<Refusal>
-    ensures { result ≡ least best (of_members text.now d.now (begins d.now first_words.entry) i members.now) }
+    ensures { result
+        ≡ least best (of_members text.now d.now (begins d.now first_words.entry) i members.now) }
 {
     let names = d.members(i);
     let best = check_duplicates(names, names.items(), best);
@@ -135,7 +138,8 @@ fn check_protocols(
     protocols: &[ProtocolDecl],
     best: Option<Refusal>,
 ) -> Option<Refusal>
-    ensures { result ≡ least best (by_place (of_protocol text.now d.now (leads inherits.now)) 0 protocols.now) }
+    ensures { result
+        ≡ least best (by_place (of_protocol text.now d.now (leads inherits.now)) 0 protocols.now) }
 {
     let mut best = best;
     for (i, p) in protocols.iter().enumerate() {
@@ -164,7 +168,8 @@ fn check_params(
     params: &[ParamDecl],
     best: Option<Refusal>,
 ) -> Option<Refusal>
-    ensures { result ≡ walk (of_param text.now d.now (begins d.now first_words.entry)) best params.now }
+    ensures { result
+        ≡ walk (of_param text.now d.now (begins d.now first_words.entry)) best params.now }
 {
     params
         .iter()

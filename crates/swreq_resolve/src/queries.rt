@@ -17,7 +17,8 @@ fn check_ask(
     ask: &Ask,
     best: Option<Refusal>,
 ) -> Option<Refusal>
-    ensures { result ≡ least best (of_ask text.now d.now (begins_in_signature d.now signature) ask.now) }
+    ensures { result
+        ≡ least best (of_ask text.now d.now (begins_in_signature d.now signature) ask.now) }
 {
     let first_words = FirstWords::Signature(signature);
     match ask {
@@ -58,7 +59,8 @@ fn check_nested_query(
     outer: Span,
     best: Option<Refusal>,
 ) -> Option<Refusal>
-    ensures { result ≡ least best (of_nested_query text.now d.now q.now outer (struct_of d.now (word text.now outer))) }
+    ensures { result ≡ least best
+        (of_nested_query text.now d.now q.now outer (struct_of d.now (word text.now outer))) }
 {
     match d.struct_of(word(text, outer)) {
         Some(place) => {

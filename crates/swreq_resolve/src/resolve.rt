@@ -41,7 +41,8 @@ pub fn resolve_names(alloc: Global, text: &[u8], s: &Skeleton) -> Result<Names, 
     ensures ok { IsOk result → Resolve text.now s.now }
     ensures resolves { Resolve text.now s.now → IsOk result ⊎ (result ≡ Err Memory) }
     ensures refused { IfErr result (λ e. RefusesSkeleton text.now s.now e ⊎ (e ≡ Memory)) }
-    ensures refuses { (e : NameErr) → RefusesSkeleton text.now s.now e → (result ≡ Err e) ⊎ (result ≡ Err Memory) }
+    ensures refuses { (e : NameErr) → RefusesSkeleton text.now s.now e
+        → (result ≡ Err e) ⊎ (result ≡ Err Memory) }
 {
     let names = Names::of(alloc, text, s)?;
     match first_error(text, s, &names) {
@@ -63,7 +64,8 @@ pub fn resolve_type(
         (IsFirst (of_type_on d.now signature written.now t.now)) }
     // Where no name is refused, there is no refusal, and the first refusal, where there is one, is the answer.
     ensures resolves { of_type_on d.now signature written.now t.now ≡ [] → IsOk result }
-    ensures refuses { (r : Refusal) → IsFirst (of_type_on d.now signature written.now t.now) r → result ≡ Err r }
+    ensures refuses { (r : Refusal)
+        → IsFirst (of_type_on d.now signature written.now t.now) r → result ≡ Err r }
 {
     match check_type(written, d, FirstWords::Signature(signature), t, None) {
         Some(r) => Err(r),

@@ -33,9 +33,12 @@ drop_front (suc n) (x ∷ xs) ys = drop_front n xs ys
 -- the events of a front of a trace are a front of its events
 events_front : (base : ℕ) (part whole : List Rule) → part ≡ take (length part) whole → Begins (events base whole) (events base part)
 events_front base part whole e =
-    let cut : whole ≡ part ++ drop (length part) whole = sym (take-append-drop (length part) whole) ∙ ap (λ l. l ++ drop (length part) whole) (sym e) in
-    let (rest, k) = drop_front base part (drop (length part) whole) in
-    (map Born rest, ap (λ l. Start base ∷ map Born l) (ap (drop base) cut ∙ k) ∙ ap (λ l. Start base ∷ l) (map-append Born (drop base part) rest))
+    let cut : whole ≡ part ++ drop (length part) whole =
+    sym (take-append-drop (length part) whole) ∙ ap (λ l. l ++ drop (length part) whole) (sym e) in
+    let (rest, k) = drop_front base part (drop (length part) whole) in (
+      map Born rest,
+      ap (λ l. Start base ∷ map Born l) (ap (drop base) cut ∙ k) ∙ ap (λ l. Start base ∷ l) (map-append Born (drop base part) rest),
+    )
 
 module _ (limits : Limits) (plan : Plan) where
   -- a round that goes on is followed by what comes of the next
@@ -63,18 +66,22 @@ module _ (limits : Limits) (plan : Plan) where
       let (later, p, j) = step turn q in
       (later, p, i ∙ (ap (λ l. before ++ l) j ∙ (sym (append_assoc before now later) ∙ ap (λ l. l ++ later) (sym e))))
 
-  module _ (used : List Item) (first : Option Passed) (trace : List Rule) (due : IsDue limits plan used first) (begins : BeginsWith plan.base trace)
+  module _ (used : List Item) (first : Option Passed) (trace : List Rule) (due : IsDue limits plan used first)
+      (begins : BeginsWith plan.base trace)
       (within : IsWithin limits (length plan.base) (given plan used) trace) where
     front_of : (whole : List Rule) → BeginsWith plan.base whole
-        → EndsWithin limits (length plan.base) (given plan used) whole ⊎ ((which : Which) × Passes limits (length plan.base) (given plan used) whole which)
+        → EndsWithin limits (length plan.base) (given plan used) whole
+        ⊎ ((which : Which) × Passes limits (length plan.base) (given plan used) whole which)
         → Begins (events (length plan.base) whole) (events (length plan.base) trace)
-    front_of whole b h = events_front (length plan.base) trace whole (within_is_prefix limits plan.base (given plan used) trace whole begins within b h)
+    front_of whole b h =
+        events_front (length plan.base) trace whole (within_is_prefix limits plan.base (given plan used) trace whole begins within b h)
 
     -- the events of a trace that a completion reaches are a front of what the round tells
     turn_front : {now : List Event} {n : Next} → Turns limits plan used first now n → Begins now (events (length plan.base) trace)
     turn_front {n = n} (joins p e b t) = due_not_begun limits plan used first p n e due b
     turn_front (ends rules d k t c) = subst (λ l. Begins l (events (length plan.base) trace)) (sym t) (front_of rules k.0 (inl k.1))
-    turn_front (stops p d k t c) = subst (λ l. Begins l (events (length plan.base) trace)) (sym t) (front_of p.trace k.0 (inr (p.which, k.1)))
+    turn_front (stops p d k t c) =
+        subst (λ l. Begins l (events (length plan.base) trace)) (sym t) (front_of p.trace k.0 (inr (p.which, k.1)))
 
     round_front : {more : List Event} {a : Result (List Rule) Failed} → Onward limits plan used first more a
         → Begins more (events (length plan.base) trace)
@@ -90,8 +97,10 @@ module _ (limits : Limits) (plan : Plan) where
       → Begins told part
   by_part used first before part told more a o i (inl e) = (more, i ∙ ap (λ l. l ++ more) (sym e))
   by_part used first before part told more a o i (inr (trace, due, begins, within, e)) =
-      let (rest, k) = round_front used first trace due begins within o in
-      (rest, i ∙ (ap (λ l. before ++ l) k ∙ (sym (append_assoc before (events (length plan.base) trace) rest) ∙ ap (λ l. l ++ rest) (sym e))))
+      let (rest, k) = round_front used first trace due begins within o in (
+        rest,
+        i ∙ (ap (λ l. before ++ l) k ∙ (sym (append_assoc before (events (length plan.base) trace) rest) ∙ ap (λ l. l ++ rest) (sym e))),
+      )
 
 pub parts_are_fronts : (limits : Limits) (plan : Plan) → PartsAreFronts limits plan
 parts_are_fronts limits plan part told a so_far outcome = elim (onward limits plan a told outcome) [

@@ -63,9 +63,11 @@ module _ (m : Symbols) (f : TermFacts) (fit : AreSymbolsOf m f) (ranges : AreOfT
   out used p h l r (twice q k) = twice q k
   out used p h l r (member k i) = member k i
   out used p h l r (of_protocol q x k) = of_protocol q x k
-  out used p h l r (of_source x k) = subst (λ y. Of used (Written [] []) (left_side m (SelfOf p) y) (right_side m (SelfOf p) y)) (sym k) (twice p h)
+  out used p h l r (of_source x k) =
+      subst (λ y. Of used (Written [] []) (left_side m (SelfOf p) y) (right_side m (SelfOf p) y)) (sym k) (twice p h)
 
-  given_is : (used : List Item) → ((x : Item) → Contains used x → Contains plan.all x) → (l r : Word) → Contains (given plan used) (l, r) → Of used (Written [] []) l r
+  given_is : (used : List Item) → ((x : Item) → Contains used x → Contains plan.all x) → (l r : Word) → Contains (given plan used) (l, r)
+      → Of used (Written [] []) l r
   given_is used within l r h = elim (Contains-append_cases {X = Word × Word} (basic_equations m) (map (equation_of m) used) (l, r) h) [
     | inl k ↦ elim (basic_is m m.protocols (l, r) k) [
       | inl q ↦ subst₂ (Of used (Written [] [])) (sym (ap (λ e. e.0) q.2)) (sym (ap (λ e. e.1) q.2)) (twice q.0 q.1)
@@ -75,24 +77,30 @@ module _ (m : Symbols) (f : TermFacts) (fit : AreSymbolsOf m f) (ranges : AreOfT
         let i = items_are f m.protocols x.0 (within x.0 x.1) in
         let e : Contains used (of_self i.0 i.1) = subst (λ z. Contains used z) i.3 x.1 in
         subst₂ (Of used (Written [] [])) (sym (ap (λ z. z.0) x.2)) (sym (ap (λ z. z.1) x.2))
-        (subst (λ (z : Item). Of used (Written [] []) (left_side m z.source z.requirement) (right_side m z.source z.requirement)) (sym i.3) (of_protocol i.0 i.1 e)))
+        (subst (λ (z : Item). Of used (Written [] []) (left_side m z.source z.requirement) (right_side m z.source z.requirement)) (sym i.3)
+        (of_protocol i.0 i.1 e)))
   ]
 
   is_given : (used : List Item) (l r : Word) → Of used (Written [] []) l r → Contains (given plan used) (l, r)
   is_given used l r (twice p h) = Contains-append_left (basic_equations m) (map (equation_of m) used) (l, r) (has_doubled m m.protocols p h)
-  is_given used l r (member k i) = Contains-append_left (basic_equations m) (map (equation_of m) used) (l, r) (has_named m m.protocols k i (ranges.members k i))
-  is_given used l r (of_protocol p x h) = Contains-append_right (basic_equations m) (map (equation_of m) used) (l, r) (contains_map (equation_of m) used (of_self p x) h)
+  is_given used l r (member k i) =
+      Contains-append_left (basic_equations m) (map (equation_of m) used) (l, r) (has_named m m.protocols k i (ranges.members k i))
+  is_given used l r (of_protocol p x h) =
+      Contains-append_right (basic_equations m) (map (equation_of m) used) (l, r) (contains_map (equation_of m) used (of_self p x) h)
   is_given used l r (of_source x h) = absurd h
 
-  round_presents : (used : List Item) → ((x : Item) → Contains used x → Contains plan.all x) → (rules : List Rule) → Ends limits plan used rules → Presents rules (Of used (Written [] []))
+  round_presents : (used : List Item) → ((x : Item) → Contains used x → Contains plan.all x) → (rules : List Rule)
+      → Ends limits plan used rules → Presents rules (Of used (Written [] []))
   round_presents used within rules e =
       ended_presents [] (given plan used) rules (λ l r. ⊥) (Of used (Written [] [])) e.0 e.1.ended none_presents
       (λ l r z. absurd z) (given_is used within) (λ l r z. inr (is_given used l r z))
 
   -- a requirement of P is shown by the rules of a round where it is by its equations over [τ_0_0 : P]
-  shown_over_self : (used : List Item) (rules : List Rule) → Presents rules (Of used (Written [] [])) → (p : ProtoId) → IsOfText m p → (r : TermRequirement)
+  shown_over_self : (used : List Item) (rules : List Rule) → Presents rules (Of used (Written [] [])) → (p : ProtoId)
+      → IsOfText m p → (r : TermRequirement)
       → ShowsUsable m f (SelfOf p) (Linked (Step rules)) r ↔ ShowsUsable m f (SelfOf p) (Linking (Of used (SelfOf p))) r
-  shown_over_self used rules present p h r = shown_both m f (SelfOf p) rules (Of used (SelfOf p)) (presents_to rules (Of used (Written [] [])) (Of used (SelfOf p)) (into used p) (out used p h) present) r
+  shown_over_self used rules present p h r = shown_both m f (SelfOf p) rules (Of used (SelfOf p))
+      (presents_to rules (Of used (Written [] [])) (Of used (SelfOf p)) (into used p) (out used p h) present) r
 
   abbrev AreUsable : List Item → Type 0
   AreUsable used = (p : ProtoId) (r : TermRequirement) → Used used p r → UsableOf f p r
@@ -101,10 +109,12 @@ module _ (m : Symbols) (f : TermFacts) (fit : AreSymbolsOf m f) (ranges : AreOfT
   of_all p r h = let i = items_are f m.protocols (of_self p r) h in same i.0 i.1 i.2 i.3
     where
       same : (q : ProtoId) (x : TermRequirement) → Contains (f.of_protocol q) x → of_self p r ≡ of_self q x → Contains (f.of_protocol p) r
-      same q x k e = subst₂ (λ y z. Contains (f.of_protocol y) z) (sym (same_self (ap (λ z. z.source) e))) (sym (ap (λ z. z.requirement) e)) k
+      same q x k e =
+          subst₂ (λ y z. Contains (f.of_protocol y) z) (sym (same_self (ap (λ z. z.source) e))) (sym (ap (λ z. z.requirement) e)) k
 
   -- what a sound congruence shows of a round of usable requirements is usable
-  usable_by : (used : List Item) → AreUsable used → (C : Word → Word → Type 0) → ((u v : Word) → C u v → Linking (Of used (Written [] [])) u v)
+  usable_by : (used : List Item) → AreUsable used → (C : Word → Word → Type 0)
+      → ((u v : Word) → C u v → Linking (Of used (Written [] [])) u v)
       → (p : ProtoId) (r : TermRequirement) → Contains (f.of_protocol p) r → ShowsUsable m f (SelfOf p) C r → UsableOf f p r
   usable_by used sound C links p r k h = (
     k,
@@ -113,7 +123,8 @@ module _ (m : Symbols) (f : TermFacts) (fit : AreSymbolsOf m f) (ranges : AreOfT
   )
 
   -- the rules of a short round are sound
-  short_linking : (used : List Item) → ((x : Item) → Contains used x → Contains plan.all x) → (rules : List Rule) → Bears limits plan used rules
+  short_linking : (used : List Item) → ((x : Item) → Contains used x → Contains plan.all x) → (rules : List Rule)
+      → Bears limits plan used rules
       → (u v : Word) → ReduceAlike rules u v → Linking (Of used (Written [] [])) u v
   short_linking used within rules b u v a =
       reached_linking [] (given plan used) rules (λ l r. ⊥) (Of used (Written [] [])) b.0 b.1.reached none_presents (λ l r z. absurd z)
@@ -123,30 +134,35 @@ module _ (m : Symbols) (f : TermFacts) (fit : AreSymbolsOf m f) (ranges : AreOfT
   round_usable begin = λ p r h. no_member (of_self p r) h
   round_usable (after {used = used} r turn t) = λ p q h. elim (goes_on turn) [
     | shown rules e l d ↦ (let s = selected l (of_self p q) h in
-        usable_by used (round_usable r) (Linked (Step rules)) (λ u v k. (round_presents used (round_within r) rules e u v).0 k) p q (of_all p q s.0) s.1)
+        usable_by used (round_usable r) (Linked (Step rules))
+        (λ u v k. (round_presents used (round_within r) rules e u v).0 k) p q (of_all p q s.0) s.1)
     | joined rules b j d ↦ (let s = selected j (of_self p q) h in elim s.1 [
       | inl k ↦ round_usable r p q k
       | inr k ↦ usable_by used (round_usable r) (ReduceAlike rules) (short_linking used (round_within r) rules b) p q (of_all p q s.0) k
     ])
   ]
 
-  pub last_usable : (used : List Item) (rules : List Rule) (told : List Event) → IsLastRound limits plan used rules told → (p : ProtoId) (r : TermRequirement)
+  pub last_usable : (used : List Item) (rules : List Rule) (told : List Event) → IsLastRound limits plan used rules told
+      → (p : ProtoId) (r : TermRequirement)
       → Used used p r ↔ UsableOf f p r
   last_usable used rules told l p r = (round_usable l.round p r, λ u. closed p r u.0 (shown p r u))
     where
       present : Presents rules (Of used (Written [] []))
       present = round_presents used (round_within l.round) rules l.ends
 
-      closed : (q : ProtoId) (x : TermRequirement) → Contains (f.of_protocol q) x → ShowsUsable m f (SelfOf q) (Linking (Of used (SelfOf q))) x → Used used q x
+      closed : (q : ProtoId) (x : TermRequirement) → Contains (f.of_protocol q) x
+          → ShowsUsable m f (SelfOf q) (Linking (Of used (SelfOf q))) x → Used used q x
       closed q x h a =
-          selects l.repeats (of_self q x) (has_item f m.protocols q x (ranges.owners q x h) h) ((shown_over_self used rules present q (ranges.owners q x h) x).1 a)
+          selects l.repeats (of_self q x) (has_item f m.protocols q x (ranges.owners q x h) h)
+          ((shown_over_self used rules present q (ranges.owners q x h) x).1 a)
 
       shown : (q : ProtoId) (x : TermRequirement) → UsableOf f q x → ShowsUsable m f (SelfOf q) (Linking (Of used (SelfOf q))) x
       shown q x u =
           usable_shown m f fit ranges (SelfOf q) (self_in_range m q (ranges.owners q x u.0)) (Used used) (λ z. ⊥)
           (λ z y c w a. closed z y c a) (λ y c w a. c) x u.1
 
-  pub protocols_law : (used : List Item) (rules : List Rule) (told : List Event) → IsLastRound limits plan used rules told → AreProtocolRules m f rules
+  pub protocols_law : (used : List Item) (rules : List Rule) (told : List Event) → IsLastRound limits plan used rules told
+      → AreProtocolRules m f rules
   protocols_law used rules told l =
       let law = last_usable used rules told l in
       presents_to rules (Of used (Written [] [])) (ProtocolEquation m f)
@@ -156,7 +172,8 @@ module _ (m : Symbols) (f : TermFacts) (fit : AreSymbolsOf m f) (ranges : AreOfT
 -- ---- a list
 
 module _ (m : Symbols) (f : TermFacts) (fit : AreSymbolsOf m f) (ranges : AreOfText m f) (limits : Limits)
-    (base : List Rule) (over : AreProtocolRules m f base) (gs : List ParamId) (rs : List TermRequirement) (n : IsInText m (Written gs rs)) where
+    (base : List Rule) (over : AreProtocolRules m f base) (gs : List ParamId) (rs : List TermRequirement)
+    (n : IsInText m (Written gs rs)) where
   abbrev listed : Plan
   listed = list_plan m f base gs rs
 
@@ -175,7 +192,8 @@ module _ (m : Symbols) (f : TermFacts) (fit : AreSymbolsOf m f) (ranges : AreOfT
   member_is : (x : Item) → Contains listed.all x → (r : TermRequirement) × Contains rs r × (x ≡ of_list gs rs r)
   member_is x h = contains_of_map (of_list gs rs) rs x h
 
-  list_given : (used : List Item) → ((x : Item) → Contains used x → Contains listed.all x) → (l r : Word) → Contains (given listed used) (l, r) → ByList used l r
+  list_given : (used : List Item) → ((x : Item) → Contains used x → Contains listed.all x) → (l r : Word)
+      → Contains (given listed used) (l, r) → ByList used l r
   list_given used within l r h =
       let x = contains_of_map (equation_of m) used (l, r) h in
       let i = member_is x.0 (within x.0 x.1) in
@@ -189,9 +207,11 @@ module _ (m : Symbols) (f : TermFacts) (fit : AreSymbolsOf m f) (ranges : AreOfT
   by_list used l r (of_protocol p x k) = inl (of_protocol p x k)
   by_list used l r (of_source x k) = inr (contains_map (equation_of m) used (of_list gs rs x) k)
 
-  list_presents : (used : List Item) → ((x : Item) → Contains used x → Contains listed.all x) → (rules : List Rule) → Ends limits listed used rules → Presents rules (ByList used)
+  list_presents : (used : List Item) → ((x : Item) → Contains used x → Contains listed.all x) → (rules : List Rule)
+      → Ends limits listed used rules → Presents rules (ByList used)
   list_presents used within rules e =
-      ended_presents base (given listed used) rules (ProtocolEquation m f) (ByList used) e.0 e.1.ended over (from_protocols used) (list_given used within) (by_list used)
+      ended_presents base (given listed used) rules (ProtocolEquation m f) (ByList used) e.0 e.1.ended over (from_protocols used)
+      (list_given used within) (by_list used)
 
   of_listed : (r : TermRequirement) → Contains listed.all (of_list gs rs r) → Contains rs r
   of_listed r h = let i = member_is (of_list gs rs r) h in same i.0 i.1 i.2
@@ -208,7 +228,8 @@ module _ (m : Symbols) (f : TermFacts) (fit : AreSymbolsOf m f) (ranges : AreOfT
         (usable_by_more m f (Written gs rs) C (Linking (ByList used)) links r h),
   )
 
-  short_list_linking : (used : List Item) → ((x : Item) → Contains used x → Contains listed.all x) → (rules : List Rule) → Bears limits listed used rules
+  short_list_linking : (used : List Item) → ((x : Item) → Contains used x → Contains listed.all x) → (rules : List Rule)
+      → Bears limits listed used rules
       → (u v : Word) → ReduceAlike rules u v → Linking (ByList used) u v
   short_list_linking used within rules b u v a =
       reached_linking base (given listed used) rules (ProtocolEquation m f) (ByList used) b.0 b.1.reached over (from_protocols used)
@@ -219,14 +240,16 @@ module _ (m : Symbols) (f : TermFacts) (fit : AreSymbolsOf m f) (ranges : AreOfT
   list_usable begin = λ r h. no_member (of_list gs rs r) h
   list_usable (after {used = used} r turn t) = λ q h. elim (goes_on turn) [
     | shown rules e l d ↦ (let s = selected l (of_list gs rs q) h in
-        listed_by used (list_usable r) (Linked (Step rules)) (λ u v k. (list_presents used (round_within r) rules e u v).0 k) q (of_listed q s.0) s.1)
+        listed_by used (list_usable r) (Linked (Step rules))
+        (λ u v k. (list_presents used (round_within r) rules e u v).0 k) q (of_listed q s.0) s.1)
     | joined rules b j d ↦ (let s = selected j (of_list gs rs q) h in elim s.1 [
       | inl k ↦ list_usable r q k
       | inr k ↦ listed_by used (list_usable r) (ReduceAlike rules) (short_list_linking used (round_within r) rules b) q (of_listed q s.0) k
     ])
   ]
 
-  pub last_listed : (used : List Item) (rules : List Rule) (told : List Event) → IsLastRound limits listed used rules told → (r : TermRequirement)
+  pub last_listed : (used : List Item) (rules : List Rule) (told : List Event)
+      → IsLastRound limits listed used rules told → (r : TermRequirement)
       → Own used r ↔ UsableIn f (Written gs rs) r
   last_listed used rules told l r = (list_usable l.round r, λ u. closed r u.0 (shown r u))
     where
@@ -234,12 +257,15 @@ module _ (m : Symbols) (f : TermFacts) (fit : AreSymbolsOf m f) (ranges : AreOfT
       present = list_presents used (round_within l.round) rules l.ends
 
       closed : (x : TermRequirement) → Contains rs x → ShowsUsable m f (Written gs rs) (Linking (ByList used)) x → Own used x
-      closed x h a = selects l.repeats (of_list gs rs x) (contains_map (of_list gs rs) rs x h) ((shown_both m f (Written gs rs) rules (ByList used) present x).1 a)
+      closed x h a = selects l.repeats (of_list gs rs x) (contains_map (of_list gs rs) rs x h)
+          ((shown_both m f (Written gs rs) rules (ByList used) present x).1 a)
 
       shown : (x : TermRequirement) → UsableIn f (Written gs rs) x → ShowsUsable m f (Written gs rs) (Linking (ByList used)) x
-      shown x u = usable_shown m f fit ranges (Written gs rs) n (UsableOf f) (Own used) (λ p y c w a. (c, w)) (λ y c w a. closed y c a) x u.1
+      shown x u =
+          usable_shown m f fit ranges (Written gs rs) n (UsableOf f) (Own used) (λ p y c w a. (c, w)) (λ y c w a. closed y c a) x u.1
 
-  pub list_law : (used : List Item) (rules : List Rule) (told : List Event) → IsLastRound limits listed used rules told → AreListRules m f gs rs rules
+  pub list_law : (used : List Item) (rules : List Rule) (told : List Event) → IsLastRound limits listed used rules told
+      → AreListRules m f gs rs rules
   list_law used rules told l =
       let law = last_listed used rules told l in
       presents_to rules (ByList used) (UsableEquation m f (Written gs rs))

@@ -76,11 +76,13 @@ module _ (limits : Limits) (plan : Plan) (used : List Item) where
   pub one_short : (r s : List Rule) → Bears limits plan used r → Bears limits plan used s → r ≡ s
   one_short r s h k = elim (borne_is_one limits plan.base (given plan used) (Ok r) h (Ok s) k) [
     | inl e ↦ same_rules r s e
-    | inr e ↦ elim e [ inl i ↦ absurd (let z : ends_with r ≡ Err Memory = i in cc) | inr i ↦ absurd (let z : ends_with s ≡ Err Memory = i in cc) ]
+    | inr e ↦
+        elim e [ inl i ↦ absurd (let z : ends_with r ≡ Err Memory = i in cc) | inr i ↦ absurd (let z : ends_with s ≡ Err Memory = i in cc) ]
   ]
 
   -- where a rule that the equations bear by themselves passes a limit, there is no short round
-  pub closed_among : (w : Which) (t : List Rule) → IsBorneBy limits plan.base (given plan used) (Err (Limit w t)) → IsClosed limits plan used
+  pub closed_among : (w : Which) (t : List Rule) → IsBorneBy limits plan.base (given plan used) (Err (Limit w t))
+      → IsClosed limits plan used
   closed_among w t h rules b = absurd (elim (borne_is_one limits plan.base (given plan used) (Ok rules) b (Err (Limit w t)) h) [
     | inl e ↦ (let z : ends_with rules ≡ stops_with w t = e in cc)
     | inr e ↦ elim e [ inl i ↦ (let z : ends_with rules ≡ Err Memory = i in cc) | inr i ↦ (let z : stops_with w t ≡ Err Memory = i in cc) ]
@@ -101,10 +103,12 @@ module _ (limits : Limits) (plan : Plan) (used : List Item) where
       (subst (λ z. Selects (λ x. Contains used x ⊎ AreShownByReduction plan z x) plan.all b.more) (sym e) b.joins) in
       a.next_is ∙ ap (λ z. going z (Some p)) i ∙ sym b.next_is
 
-  pub usable_one : {u v : List Item} (r s : List Rule) → Ends limits plan used r → Ends limits plan used s → LeavesUsable plan r u → LeavesUsable plan s v → u ≡ v
+  pub usable_one : {u v : List Item} (r s : List Rule) → Ends limits plan used r → Ends limits plan used s → LeavesUsable plan r u
+      → LeavesUsable plan s v → u ≡ v
   usable_one {v = v} r s h k a b = one_selection a (subst (λ x. LeavesUsable plan x v) (sym (one_end r s h k)) b)
 
-  after_one : (r s : List Rule) (n m : Next) → Ends limits plan used r → Ends limits plan used s → ComesAfter plan used r n → ComesAfter plan used s m → n ≡ m
+  after_one : (r s : List Rule) (n m : Next) → Ends limits plan used r → Ends limits plan used s → ComesAfter plan used r n
+      → ComesAfter plan used s m → n ≡ m
   after_one r s n m h k (u, l, inl a) (v, i, inl b) = a.1 ∙ ap (λ z. ended (Ok z)) (one_end r s h k) ∙ sym b.1
   after_one r s n m h k (u, l, inl a) (v, i, inr b) = absurd (b.0 (sym (usable_one r s h k l i) ∙ a.0))
   after_one r s n m h k (u, l, inr a) (v, i, inl b) = absurd (a.0 (usable_one r s h k l i ∙ b.0))
@@ -126,7 +130,8 @@ module _ (limits : Limits) (plan : Plan) (used : List Item) where
       → IsBegunAnew limits plan used p n → B
   due_not_begun first p n e due b = closed_not_begun (closed_of first p e due) b
 
-  pub one_turn : (first : Option Passed) (t u : List Event) (n m : Next) → Turns limits plan used first t n → Turns limits plan used first u m
+  pub one_turn : (first : Option Passed) (t u : List Event) (n m : Next) → Turns limits plan used first t n
+      → Turns limits plan used first u m
       → (t ≡ u) × (n ≡ m)
   one_turn first t u n m (joins p e b i) (joins q f c j) =
       let same : p ≡ q = (let k = sym e ∙ f in cc) in

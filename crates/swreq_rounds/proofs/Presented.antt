@@ -56,7 +56,8 @@ module _ {E : Word → Word → Type 0} where
     linking_linked (more l c) = linked_on (one_link l) (linking_linked c)
 
 -- rules that present equations present those that link as much
-pub presents_to : (rules : List Rule) (E F : Word → Word → Type 0) → ((l r : Word) → E l r → F l r) → ((l r : Word) → F l r → E l r) → Presents rules E → Presents rules F
+pub presents_to : (rules : List Rule) (E F : Word → Word → Type 0) → ((l r : Word) → E l r → F l r) → ((l r : Word) → F l r → E l r)
+    → Presents rules E → Presents rules F
 presents_to rules E F a b p u v = ((λ l. linking_to a ((p u v).0 l)), (λ c. (p u v).1 (linking_to b c)))
 
 no_rule : {A : Type 0} (u v : Word) → Step [] u v → A
@@ -69,24 +70,29 @@ none_presents u v = (linked_linking (λ a b s. no_rule a b s), linking_linked []
 module _ (base : List Rule) (given : List (Word × Word)) (trace : List Rule) (E0 E : Word → Word → Type 0)
     (over : BeginsWith base trace) (reached : IsReached (length base) given trace) (before : Presents base E0)
     (old : (l r : Word) → E0 l r → E l r) (new : (l r : Word) → Contains given (l, r) → E l r) where
-  base_equation : (k : ℕ) (l r : Word) → slice_get {X = Word × Word} (map (λ (x : Rule). (x.left, x.right)) base) k ≡ Some (l, r) → Linked (Step base) l r
+  base_equation : (k : ℕ) (l r : Word) → slice_get {X = Word × Word} (map (λ (x : Rule). (x.left, x.right)) base) k ≡ Some (l, r)
+      → Linked (Step base) l r
   base_equation k l r e =
       let x = get_of_map (λ (x : Rule). (x.left, x.right)) base k (l, r) e in
       let a : x.0.left ≡ l = ap (λ p. p.0) x.2 in
       let b : x.0.right ≡ r = ap (λ p. p.1) x.2 in
       on_forth (subst₂ (Step base) a b (by_rule base k x.0 x.1)) here
 
-  each_equation : (l r : Word) (k : ℕ) → slice_get {X = Word × Word} (all_equations (length base) given trace) k ≡ Some (l, r) → Linking E l r
+  each_equation : (l r : Word) (k : ℕ)
+      → slice_get {X = Word × Word} (all_equations (length base) given trace) k ≡ Some (l, r) → Linking E l r
   each_equation l r k e =
-      elim (Contains-append_cases (map (λ (x : Rule). (x.left, x.right)) (take (length base) trace)) given (l, r) (get_contains {A = Word × Word} (all_equations (length base) given trace) k (l, r) e)) [
+      elim (Contains-append_cases (map (λ (x : Rule). (x.left, x.right)) (take (length base) trace)) given (l, r)
+      (get_contains {A = Word × Word} (all_equations (length base) given trace) k (l, r) e)) [
         | inl h ↦ (let g = contains_get {A = Word × Word} (map (λ (x : Rule). (x.left, x.right)) (take (length base) trace)) (l, r) h in
-            linking_to old ((before l r).0 (base_equation g.0 l r (subst (λ b. slice_get {X = Word × Word} (map (λ (x : Rule). (x.left, x.right)) b) g.0 ≡ Some (l, r)) over g.1))))
+            linking_to old ((before l r).0 (base_equation g.0 l r
+            (subst (λ b. slice_get {X = Word × Word} (map (λ (x : Rule). (x.left, x.right)) b) g.0 ≡ Some (l, r)) over g.1))))
         | inr h ↦ one_equation l r (new l r h)
       ]
 
   -- the rules of a reached trace are sound
   pub reached_linking : (u v : Word) → Linked (Step trace) u v → Linking E u v
-  reached_linking u v l = linked_linking (λ a b s. at_place s.at (each_equation s.left s.right s.number s.is_equation)) (sound (length base) given trace reached u v l)
+  reached_linking u v l = linked_linking (λ a b s. at_place s.at (each_equation s.left s.right s.number s.is_equation))
+      (sound (length base) given trace reached u v l)
 
 module _ (base : List Rule) (given : List (Word × Word)) (trace : List Rule) (E0 E : Word → Word → Type 0)
     (over : BeginsWith base trace) (ended : IsEnded (length base) given trace) (before : Presents base E0)
@@ -96,14 +102,16 @@ module _ (base : List Rule) (given : List (Word × Word)) (trace : List Rule) (E
   base_step a b s = on_forth (record {
     rule = s.rule;
     number = s.number;
-    is_rule = let (k, e, g) = s.is_rule in (k, e, in_whole trace (length base) k s.rule (subst (λ x. slice_get x k ≡ Some s.rule) (sym over) g));
+    is_rule =
+        let (k, e, g) = s.is_rule in (k, e, in_whole trace (length base) k s.rule (subst (λ x. slice_get x k ≡ Some s.rule) (sym over) g));
     at = s.at;
   }) here
 
   up : (u v : Word) → Linking E u v → Linked (Step trace) u v
   up u v = linking_linked trace (λ l r e. elim (all l r e) [
     | inl h ↦ linked_by (λ w. w) base_step ((before l r).1 (one_equation l r h))
-    | inr h ↦ (let g = contains_get {A = Word × Word} (all_equations (length base) given trace) (l, r) (Contains-append_right (map (λ (x : Rule). (x.left, x.right)) (take (length base) trace)) given (l, r) h) in
+    | inr h ↦ (let g = contains_get {A = Word × Word} (all_equations (length base) given trace) (l, r)
+        (Contains-append_right (map (λ (x : Rule). (x.left, x.right)) (take (length base) trace)) given (l, r) h) in
         complete (length base) given trace ended l r (on_forth (record {
           number = g.0;
           left = l;

@@ -63,11 +63,12 @@ module _ {limits : Limits} {plan : Plan} where
   ]
 
 -- The round ends with these rules, and was the last.
-pub record Lasts (limits : Limits) (plan : Plan) (used : List Item) (first : Option Passed) (told : List Event) (rules : List Rule) : Type 0 where
-  pub due : IsDue limits plan used first
-  pub ends : Ends limits plan used rules
-  pub repeats : LeavesUsable plan rules used
-  pub told_is : told ≡ events (length plan.base) rules
+pub record Lasts (limits : Limits) (plan : Plan) (used : List Item) (first : Option Passed) (told : List Event) (rules : List Rule) : Type 0
+  where
+    pub due : IsDue limits plan used first
+    pub ends : Ends limits plan used rules
+    pub repeats : LeavesUsable plan rules used
+    pub told_is : told ≡ events (length plan.base) rules
 
 module _ {limits : Limits} {plan : Plan} where
   pub lasts : {used : List Item} {first : Option Passed} {told : List Event} {rules : List Rule}
@@ -104,7 +105,8 @@ module _ {limits : Limits} {plan : Plan} where
   stops_here which trace (stops passed due s t c) = record { passed = passed; due = due; stops = s; told_is = t }
 
   -- the rounds come to the round at which they stop
-  pub stopped_comes : (which : Which) (trace : List Rule) (told : List Event) → IsStoppedRound limits plan which trace told → ComesTo limits plan told
+  pub stopped_comes : (which : Which) (trace : List Rule) (told : List Event) → IsStoppedRound limits plan which trace told
+      → ComesTo limits plan told
   stopped_comes which trace told h =
       let s = stops_here which trace h.turns in record {
         used = h.used;

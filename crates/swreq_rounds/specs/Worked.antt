@@ -48,7 +48,8 @@ trees = facts
 -- Member symbols go by name, and for one name the protocol that inherits more comes first.
 abbrev pub trees_symbols : Symbols
 trees_symbols = symbols (Tree ∷ Leaf ∷ [])
-    (member_of Leaf Color ∷ member_of Leaf Label ∷ member_of Tree Label ∷ member_of Leaf Next ∷ member_of Leaf Parent ∷ member_of Tree Parent ∷ [])
+    (member_of Leaf Color ∷ member_of Leaf Label ∷ member_of Tree Label ∷ member_of Leaf Next ∷ member_of Leaf Parent
+    ∷ member_of Tree Parent ∷ [])
     (0 ∷ 2 ∷ 3 ∷ 5 ∷ [])
 
 -- For each protocol as the text has them: it is doubled, and then its member names, by name, also those that it inherits.

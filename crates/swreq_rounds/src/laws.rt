@@ -27,10 +27,12 @@ pub fn parts_are_fronts()
 
 /// The last round of the protocols uses exactly the usable requirements, and its rules stand for their equations.
 pub fn last_round_of_protocols()
-    ensures used { (m : Symbols) (f : TermFacts) (limits : Limits) (used : List Item) (rules : List Rule) (told : List Event)
+    ensures used { (m : Symbols) (f : TermFacts) (limits : Limits) (used : List Item)
+        (rules : List Rule) (told : List Event)
         → AreSymbolsOf m f → AreOfText m f → IsLastRound limits (protocols_plan m f) used rules told
         → (p : ProtoId) (r : TermRequirement) → Contains used (of_self p r) ↔ UsableOf f p r }
-    ensures rules { (m : Symbols) (f : TermFacts) (limits : Limits) (used : List Item) (rules : List Rule) (told : List Event)
+    ensures rules { (m : Symbols) (f : TermFacts) (limits : Limits) (used : List Item)
+        (rules : List Rule) (told : List Event)
         → AreSymbolsOf m f → AreOfText m f → IsLastRound limits (protocols_plan m f) used rules told
         → AreProtocolRules m f rules }
 {}
@@ -38,12 +40,14 @@ pub fn last_round_of_protocols()
 /// Over the rules of the protocols, the last round of a list uses just its usable members, and its rules stand for the equations of
 /// these and of the usable requirements of the protocols.
 pub fn last_round_of_list()
-    ensures used { (m : Symbols) (f : TermFacts) (limits : Limits) (base : List Rule) (gs : List ParamId) (rs : List TermRequirement)
+    ensures used { (m : Symbols) (f : TermFacts) (limits : Limits) (base : List Rule)
+        (gs : List ParamId) (rs : List TermRequirement)
         (used : List Item) (rules : List Rule) (told : List Event)
         → AreSymbolsOf m f → AreOfText m f → IsInText m (Written gs rs) → AreProtocolRules m f base
         → IsLastRound limits (list_plan m f base gs rs) used rules told
         → (r : TermRequirement) → Contains used (of_list gs rs r) ↔ UsableIn f (Written gs rs) r }
-    ensures rules { (m : Symbols) (f : TermFacts) (limits : Limits) (base : List Rule) (gs : List ParamId) (rs : List TermRequirement)
+    ensures rules { (m : Symbols) (f : TermFacts) (limits : Limits) (base : List Rule)
+        (gs : List ParamId) (rs : List TermRequirement)
         (used : List Item) (rules : List Rule) (told : List Event)
         → AreSymbolsOf m f → AreOfText m f → IsInText m (Written gs rs) → AreProtocolRules m f base
         → IsLastRound limits (list_plan m f base gs rs) used rules told

@@ -25,10 +25,13 @@ pub fn order_of_equations()
         ≡ of_self Tree (IsAnyObject (self · Parent)) ∷ of_self Tree (Conforms (self · Label) Tree)
         ∷ of_self Leaf (Conforms self Tree) ∷ of_self Leaf (Equals (self · Next) (self · Label))
         ∷ of_self Leaf (Conforms (self · Color) Leaf) ∷ [] }
-    ensures all_used { given (protocols_plan trees_symbols trees) (protocols_plan trees_symbols trees).all
+    ensures all_used { given (protocols_plan trees_symbols trees)
+        (protocols_plan trees_symbols trees).all
         ≡ trees_basic ++ trees_required }
-    ensures some_used { given (protocols_plan trees_symbols trees) (of_self Leaf (Conforms self Tree) ∷ [])
+    ensures some_used { given (protocols_plan trees_symbols trees)
+        (of_self Leaf (Conforms self Tree) ∷ [])
         ≡ trees_basic ++ (Proto 0 ∷ Proto 1 ∷ [], Proto 0 ∷ []) ∷ [] }
-    ensures list { (base : List Rule) → given (list_plan trees_symbols trees base f_params f_requirements)
+    ensures list { (base : List Rule)
+        → given (list_plan trees_symbols trees base f_params f_requirements)
         (list_plan trees_symbols trees base f_params f_requirements).all ≡ f_equations }
 {}

@@ -19,7 +19,8 @@ containment_within l m at o =
     omega (arith, first, at_is)
 
 -- an overlap, from the rest of the first word
-pub overlapping : (l m rest : List Symbol) (at : ℕ) → 0 < at → at < length l → length l - at < length m → m ≡ drop at l ++ rest → Overlap l m at
+pub overlapping : (l m rest : List Symbol) (at : ℕ) → 0 < at → at < length l → length l - at < length m
+    → m ≡ drop at l ++ rest → Overlap l m at
 overlapping l m rest at a b c e = record {
   before = take at l;
   common = drop at l;

@@ -75,7 +75,8 @@ pub(crate) fn from_none(
     ensures table { sheet.new.table ≡ sheet.old.table }
     ensures says { OnOk result (Says sheet.new (statement_of sheet.old.table gives)) }
     ensures grows { Grows sheet.old sheet.new }
-    ensures derives { OnOk result ((b : Basis) → IsInstance b.facts b.params b.written rule [] (statement_of sheet.old.table gives)
+    ensures derives { OnOk result ((b : Basis)
+        → IsInstance b.facts b.params b.written rule [] (statement_of sheet.old.table gives)
         → Keeps b sheet.old sheet.new) }
 {
     if is_said(sheet, gives) {
@@ -100,7 +101,8 @@ pub(crate) fn from_one(
     ensures says { OnOk result (Says sheet.new (statement_of sheet.old.table gives)) }
     ensures grows { Grows sheet.old sheet.new }
     ensures derives { OnOk result ((b : Basis) → IsInstance b.facts b.params b.written rule
-        (statement_of sheet.old.table from ∷ []) (statement_of sheet.old.table gives) → Keeps b sheet.old sheet.new) }
+        (statement_of sheet.old.table from ∷ []) (statement_of sheet.old.table gives)
+        → Keeps b sheet.old sheet.new) }
 {
     if is_said(sheet, gives) {
         return Ok(());

@@ -13,7 +13,8 @@ pub fn member(sheet: &mut Sheet, t: TermId, step: Step) -> Result<TermId, AllocE
     requires sheet { IsSheet sheet.old }
     requires t { IsOf sheet.old.table t }
     ensures is_of { IfOk result (IsOf sheet.new.table) }
-    ensures stands { IfOk result (λ u. term_at sheet.new.table u ≡ Member (term_at sheet.old.table t) step) }
+    ensures stands { IfOk result
+        (λ u. term_at sheet.new.table u ≡ Member (term_at sheet.old.table t) step) }
     ensures said { OnOk result (said sheet.new ≡ said sheet.old) }
     ensures grows { Grows sheet.old sheet.new }
     ensures derives { OnOk result ((b : Basis) → Keeps b sheet.old sheet.new) }

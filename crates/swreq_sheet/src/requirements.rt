@@ -28,10 +28,13 @@ pub fn assoc_conf(
     requires v { IsOf sheet.old.table v }
     requires conforms { Says sheet.old (Requires (Conforms (term_at sheet.old.table t) of.0)) }
     ensures table { sheet.new.table ≡ sheet.old.table }
-    ensures conforms { OnOk result (Says sheet.new (Requires (Conforms (term_at sheet.old.table v) q))) }
+    ensures conforms { OnOk result
+        (Says sheet.new (Requires (Conforms (term_at sheet.old.table v) q))) }
     ensures grows { Grows sheet.old sheet.new }
-    ensures derives { OnOk result ((b : Basis) (u : Term) → HasNumber of.1 (b.facts.of_protocol of.0) (Conforms u q)
-        → term_at sheet.old.table v ≡ for_self (term_at sheet.old.table t) u → Keeps b sheet.old sheet.new) }
+    ensures derives { OnOk result
+        ((b : Basis) (u : Term) → HasNumber of.1 (b.facts.of_protocol of.0) (Conforms u q)
+        → term_at sheet.old.table v ≡ for_self (term_at sheet.old.table t) u
+        → Keeps b sheet.old sheet.new) }
 {
     let (p, n) = of;
     from_one(sheet, DerivRule::AssocConf { p, n }, conf(t, p), conf(v, q))?;
@@ -50,10 +53,13 @@ pub fn assoc_layout(
     requires v { IsOf sheet.old.table v }
     requires conforms { Says sheet.old (Requires (Conforms (term_at sheet.old.table t) of.0)) }
     ensures table { sheet.new.table ≡ sheet.old.table }
-    ensures object { OnOk result (Says sheet.new (Requires (IsAnyObject (term_at sheet.old.table v)))) }
+    ensures object { OnOk result
+        (Says sheet.new (Requires (IsAnyObject (term_at sheet.old.table v)))) }
     ensures grows { Grows sheet.old sheet.new }
-    ensures derives { OnOk result ((b : Basis) (u : Term) → HasNumber of.1 (b.facts.of_protocol of.0) (IsAnyObject u)
-        → term_at sheet.old.table v ≡ for_self (term_at sheet.old.table t) u → Keeps b sheet.old sheet.new) }
+    ensures derives { OnOk result
+        ((b : Basis) (u : Term) → HasNumber of.1 (b.facts.of_protocol of.0) (IsAnyObject u)
+        → term_at sheet.old.table v ≡ for_self (term_at sheet.old.table t) u
+        → Keeps b sheet.old sheet.new) }
 {
     let (p, n) = of;
     from_one(
@@ -79,11 +85,14 @@ pub fn assoc_same(
     requires right { IsOf sheet.old.table sides.1 }
     requires conforms { Says sheet.old (Requires (Conforms (term_at sheet.old.table t) of.0)) }
     ensures table { sheet.new.table ≡ sheet.old.table }
-    ensures equal { OnOk result (AreSaidEqual sheet.new (term_at sheet.old.table sides.0) (term_at sheet.old.table sides.1)) }
+    ensures equal { OnOk result (AreSaidEqual sheet.new (term_at sheet.old.table sides.0)
+        (term_at sheet.old.table sides.1)) }
     ensures grows { Grows sheet.old sheet.new }
-    ensures derives { OnOk result ((b : Basis) (u v : Term) → HasNumber of.1 (b.facts.of_protocol of.0) (Equals u v)
+    ensures derives { OnOk result
+        ((b : Basis) (u v : Term) → HasNumber of.1 (b.facts.of_protocol of.0) (Equals u v)
         → term_at sheet.old.table sides.0 ≡ for_self (term_at sheet.old.table t) u
-        → term_at sheet.old.table sides.1 ≡ for_self (term_at sheet.old.table t) v → Keeps b sheet.old sheet.new) }
+        → term_at sheet.old.table sides.1 ≡ for_self (term_at sheet.old.table t) v
+        → Keeps b sheet.old sheet.new) }
 {
     let (p, n) = of;
     from_one(
@@ -100,9 +109,11 @@ pub fn written_conf(sheet: &mut Sheet, n: u32, t: TermId, p: ProtoId) -> Result<
     requires sheet { IsSheet sheet.old }
     requires t { IsOf sheet.old.table t }
     ensures table { sheet.new.table ≡ sheet.old.table }
-    ensures conforms { OnOk result (Says sheet.new (Requires (Conforms (term_at sheet.old.table t) p))) }
+    ensures conforms { OnOk result
+        (Says sheet.new (Requires (Conforms (term_at sheet.old.table t) p))) }
     ensures grows { Grows sheet.old sheet.new }
-    ensures derives { OnOk result ((b : Basis) → HasNumber n b.written (Conforms (term_at sheet.old.table t) p)
+    ensures derives { OnOk result
+        ((b : Basis) → HasNumber n b.written (Conforms (term_at sheet.old.table t) p)
         → Keeps b sheet.old sheet.new) }
 {
     from_none(sheet, DerivRule::Conf { n }, conf(t, p))?;
@@ -114,9 +125,11 @@ pub fn written_layout(sheet: &mut Sheet, n: u32, t: TermId) -> Result<(), AllocE
     requires sheet { IsSheet sheet.old }
     requires t { IsOf sheet.old.table t }
     ensures table { sheet.new.table ≡ sheet.old.table }
-    ensures object { OnOk result (Says sheet.new (Requires (IsAnyObject (term_at sheet.old.table t)))) }
+    ensures object { OnOk result
+        (Says sheet.new (Requires (IsAnyObject (term_at sheet.old.table t)))) }
     ensures grows { Grows sheet.old sheet.new }
-    ensures derives { OnOk result ((b : Basis) → HasNumber n b.written (IsAnyObject (term_at sheet.old.table t))
+    ensures derives { OnOk result
+        ((b : Basis) → HasNumber n b.written (IsAnyObject (term_at sheet.old.table t))
         → Keeps b sheet.old sheet.new) }
 {
     from_none(sheet, DerivRule::Layout { n }, layout(t))?;
@@ -129,9 +142,11 @@ pub fn written_same(sheet: &mut Sheet, n: u32, t: TermId, u: TermId) -> Result<(
     requires t { IsOf sheet.old.table t }
     requires u { IsOf sheet.old.table u }
     ensures table { sheet.new.table ≡ sheet.old.table }
-    ensures equal { OnOk result (AreSaidEqual sheet.new (term_at sheet.old.table t) (term_at sheet.old.table u)) }
+    ensures equal { OnOk result
+        (AreSaidEqual sheet.new (term_at sheet.old.table t) (term_at sheet.old.table u)) }
     ensures grows { Grows sheet.old sheet.new }
-    ensures derives { OnOk result ((b : Basis) → HasNumber n b.written (Equals (term_at sheet.old.table t) (term_at sheet.old.table u))
+    ensures derives { OnOk result ((b : Basis)
+        → HasNumber n b.written (Equals (term_at sheet.old.table t) (term_at sheet.old.table u))
         → Keeps b sheet.old sheet.new) }
 {
     from_none(sheet, DerivRule::Same { n }, same(t, u))?;

@@ -36,7 +36,8 @@ module _ (terms : List Term) (w : IdWorld) (text : Bytes) where
 
   same_param : (f : FuncId) (name : Bytes) → param_of_signature (world_by terms w) f name ≡ param_of_signature w f name
   same_param f name =
-      ap (λ (h : SignatureOver PlacedRequirement). option_map (param_id h.own_depth) (param_of w.lexicon.resolved.declared h.signature name)) (signature_is w terms f)
+      ap (λ (h : SignatureOver PlacedRequirement).
+      option_map (param_id h.own_depth) (param_of w.lexicon.resolved.declared h.signature name)) (signature_is w terms f)
 
   named_by : (outer : Option Bytes) (name : Bytes) (f : FuncId) → IsNamedAt w outer name f → IsNamedAt (world_by terms w) outer name f
   named_by outer name f (within, called, around) =
@@ -44,7 +45,8 @@ module _ (terms : List Term) (w : IdWorld) (text : Bytes) where
       let count = length-map w.signatures (signature_by terms) in (
         omega (arith, within, count),
         ap (λ (h : SignatureOver PlacedRequirement). h.name) e ∙ called,
-        ap (λ (h : SignatureOver PlacedRequirement). outer_name (world_by terms w) h.outer) e ∙ outer_by terms w (signature_at w f).outer ∙ around,
+        ap (λ (h : SignatureOver PlacedRequirement). outer_name (world_by terms w) h.outer) e
+            ∙ outer_by terms w (signature_at w f).outer ∙ around,
       )
 
   -- ---- what is written
@@ -53,7 +55,8 @@ module _ (terms : List Term) (w : IdWorld) (text : Bytes) where
   argument_by f (Some u) t h = record { param = h.param; head = same_param f (word text t.head) ∙ h.head; steps = h.steps }
   argument_by f None t h = h
 
-  each_by : {A B : Type 0} (Is Was : A → B → Type 0) → ((x : A) (y : B) → Is x y → Was x y) → (xs : List A) (ys : List B) → OneByOne Is xs ys → OneByOne Was xs ys
+  each_by : {A B : Type 0} (Is Was : A → B → Type 0) → ((x : A) (y : B) → Is x y → Was x y) → (xs : List A) (ys : List B)
+      → OneByOne Is xs ys → OneByOne Was xs ys
   each_by Is Was to [] [] h = tt
   each_by Is Was to [] (y ∷ ys) h = absurd h
   each_by Is Was to (x ∷ xs) [] h = absurd h
@@ -74,7 +77,8 @@ module _ (terms : List Term) (w : IdWorld) (text : Bytes) where
   count_by : (o : Option FuncId) (c : CallDecl) → of_count (world_by terms w) text o c ≡ of_count w text o c
   count_by None c = refl
   count_by (Some g) c =
-      ap (λ (h : SignatureOver PlacedRequirement). when (not (nat_eq (length c.args) (param_count h.params))) WrongArity c.callee.start) (signature_is w terms g)
+      ap (λ (h : SignatureOver PlacedRequirement). when (not (nat_eq (length c.args) (param_count h.params))) WrongArity c.callee.start)
+      (signature_is w terms g)
 
   refusals_of : (c : CallDecl) → of_call (world_by terms w) text c ≡ of_call w text c
   refusals_of c =

@@ -50,7 +50,8 @@ module _ (text : Bytes) (s : Skeleton) (terms : List Term) (w : IdWorld) (is : I
   same_order = sym (map-map signature_of (signature_by terms) w.signatures) ∙ ap (map signature_of) is.signatures ∙ themselves (in_order s)
 
   pub referred : (outer : Option Bytes) (name : Bytes) (g : Signature) (f : FuncId)
-      → signature_named w.lexicon.resolved.declared outer name ≡ Some g → func_named w outer name ≡ Some f → (signature_at w f).signature ≡ g
+      → signature_named w.lexicon.resolved.declared outer name ≡ Some g → func_named w outer name ≡ Some f
+      → (signature_at w f).signature ≡ g
   referred outer name g f so at =
       let named = found words is.lexicon.resolved.declared outer name g so in
       let place : func_id (in_order s) g ≡ f
@@ -61,7 +62,8 @@ module _ (text : Bytes) (s : Skeleton) (terms : List Term) (w : IdWorld) (is : I
       = subst (λ (k : FuncId). signature_at (world_by terms w) k ≡ signature_in words (in_order s) g) place here in
       sym (ap signature_of (signature_is w terms f)) ∙ ap signature_of there
 
-  pub associated : HasNames text s → (p a : Bytes) (i : ℕ) → protocol_of w.lexicon.resolved.declared p ≡ Some i → declares w.lexicon.resolved.declared i a ≡ true
+  pub associated : HasNames text s → (p a : Bytes) (i : ℕ) → protocol_of w.lexicon.resolved.declared p ≡ Some i
+      → declares w.lexicon.resolved.declared i a ≡ true
       → HasAssociated w.lexicon p a
   associated names p a i means declares_it =
       let x = w.lexicon in
@@ -69,6 +71,7 @@ module _ (text : Bytes) (s : Skeleton) (terms : List Term) (w : IdWorld) (is : I
       let (r, m, there, c, same) = declared_member text s x is.lexicon i a declares_it in
       record {
         protocol = subst (λ n. slice_get x.protocols (rank x.protocols n) ≡ Some n) called (protocol_says text s x is.lexicon i q at);
-        name = subst (λ n. slice_get x.names (rank x.names n) ≡ Some n) same ((names_say text s x is.lexicon names r (get_contains s.protocols i r there)).members m c);
+        name = subst (λ n. slice_get x.names (rank x.names n) ≡ Some n) same
+            ((names_say text s x is.lexicon names r (get_contains s.protocols i r there)).members m c);
         associated = associated_stands text s x is.lexicon p a i means declares_it;
       }

@@ -18,8 +18,10 @@ use Rattle.swreq_subst.specs.Failing.{AreFailing}
 use Rattle.swreq_subst.specs.Lines.{AreValid, HasInvalid, IsInvalid}
 
 -- one more of which the fact holds
-pub all_next : {A : Type 0} (P : A → Type 0) (xs : List A) (k : ℕ) (d : A) → k < length xs → All P (take k xs) → P (get_or xs k d) → All P (take (k + 1) xs)
-all_next P xs k d l h p = subst (All P) (sym (take_more xs k d l)) (All-append P (take k xs) (get_or xs k d ∷ []) h (All-cons P (get_or xs k d) [] p (All-nil P)))
+pub all_next : {A : Type 0} (P : A → Type 0) (xs : List A) (k : ℕ) (d : A) → k < length xs → All P (take k xs) → P (get_or xs k d)
+    → All P (take (k + 1) xs)
+all_next P xs k d l h p =
+    subst (All P) (sym (take_more xs k d l)) (All-append P (take k xs) (get_or xs k d ∷ []) h (All-cons P (get_or xs k d) [] p (All-nil P)))
 
 pub member_at : {A : Type 0} (xs : List A) (k : ℕ) (d : A) → k < length xs → Contains xs (get_or xs k d)
 member_at xs k d l = (k, l, get_or_default xs k (get_or xs k d) d l)
@@ -42,9 +44,14 @@ module _ (w : TextWorld) (c : TermCall) (terms : List Term) where
   wrong_one None h = tt
   wrong_one (Some t) h = h
 
-  pub one_invalid : (args : List (Option TermId)) → c.args ≡ map (option_map (term_at terms)) args → IsOneInvalid Holds terms args → HasInvalid w c
-  one_invalid args e (a, at, wrong) =
-      (option_map (term_at terms) a, subst (λ (us : List (Option Term)). Contains us (option_map (term_at terms) a)) (sym e) (contains_map (option_map (term_at terms)) args a at), wrong_one a wrong)
+  pub one_invalid : (args : List (Option TermId)) → c.args ≡ map (option_map (term_at terms)) args
+      → IsOneInvalid Holds terms args → HasInvalid w c
+  one_invalid args e (a, at, wrong) = (
+    option_map (term_at terms) a,
+    subst (λ (us : List (Option Term)). Contains us (option_map (term_at terms) a)) (sym e)
+        (contains_map (option_map (term_at terms)) args a at),
+    wrong_one a wrong,
+  )
 
   right_one : (a : Option TermId) (t : Term) → IsValidThere Holds terms a → Some t ≡ option_map (term_at terms) a → Holds (IsValid t)
   right_one None t h e = absurd h
@@ -57,7 +64,8 @@ module _ (w : TextWorld) (c : TermCall) (terms : List Term) where
       let (a, in_args, same) = contains_of_map (option_map (term_at terms)) args (Some t) there in
       right_one a t (All-contains (IsValidThere Holds terms) args a h in_args) same
 
-pub numbers_within : (f : TermFacts) (from : Source) (params : Params) (args : List Term) (rs : List TermRequirement) (count : ℕ) (ns : List ℕ) → length rs ≡ count
+pub numbers_within : (f : TermFacts) (from : Source) (params : Params) (args : List Term) (rs : List TermRequirement) (count : ℕ)
+    (ns : List ℕ) → length rs ≡ count
     → AreFailing f from params args rs ns → All (λ n. (0 < n) × (n ≤ count)) ns
 numbers_within f from params args rs count ns e h k d l =
     let one = h.fail (get_or ns k d) (k, l, get_or_default ns k (get_or ns k d) d l) in

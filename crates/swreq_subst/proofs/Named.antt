@@ -35,7 +35,8 @@ module _ {A B : Type 0} (Is : A → B → Type 0) where
   one_more (z ∷ xs) [] x y h k = absurd h
   one_more (a ∷ xs) (b ∷ ys) x y h k = (h.0, one_more xs ys x y h.1 k)
 
-  pub next_one : (xs : List A) (ys : List B) (k : ℕ) (x : A) (y : B) → k < length ys → y ≡ get_or ys k y → OneByOne Is xs (take k ys) → Is x y
+  pub next_one : (xs : List A) (ys : List B) (k : ℕ) (x : A) (y : B) → k < length ys → y ≡ get_or ys k y
+      → OneByOne Is xs (take k ys) → Is x y
       → OneByOne Is (xs ++ x ∷ []) (take (k + 1) ys)
   next_one xs ys k x y l at h i =
       subst (OneByOne Is (xs ++ x ∷ [])) (sym (take_more ys k y l)) (one_more xs (take k ys) x (get_or ys k y) h (subst (Is x) at i))
@@ -47,7 +48,8 @@ module _ {A B : Type 0} (Is : A → B → Type 0) where
   as_many (x ∷ xs) (y ∷ ys) h = ap suc (as_many xs ys h.1)
 
 -- One more in a list whose items mean others.
-pub meant_next : {A B : Type 0} (old new : A → B) (xs more : List A) (x : A) → map new xs ≡ map old xs → more ≡ xs ++ x ∷ [] → map new more ≡ map old xs ++ new x ∷ []
+pub meant_next : {A B : Type 0} (old new : A → B) (xs more : List A) (x : A) → map new xs ≡ map old xs → more ≡ xs ++ x ∷ []
+    → map new more ≡ map old xs ++ new x ∷ []
 meant_next old new xs more x same e = ap (map new) e ∙ map-append new xs (x ∷ []) ∙ ap (λ z. z ++ new x ∷ []) same
 
 pub known_next : {A : Type 0} (P : A → Type 0) (xs more : List A) (x : A) → All P xs → P x → more ≡ xs ++ x ∷ [] → All P more
@@ -56,18 +58,21 @@ known_next P xs more x h k e = subst (All P) (sym e) (All-append P xs (x ∷ [])
 -- ---- names that are not refused
 
 module _ (w : IdWorld) (text : Bytes) where
-  asked_there : (outer : Option Span) (name : Span) (o : Option Signature) → of_asked text (declared w) (query_on outer name) o ≡ [] → (g : Signature) × (o ≡ Some g)
+  asked_there : (outer : Option Span) (name : Span) (o : Option Signature) → of_asked text (declared w) (query_on outer name) o ≡ []
+      → (g : Signature) × (o ≡ Some g)
   asked_there outer name None e = absurd cc
   asked_there outer name (Some g) e = (g, refl)
 
-  nested_there : (s name : Span) (o : Option ℕ) → struct_of (declared w) (word text s) ≡ o → of_nested_query text (declared w) (query_on (Some s) name) s o ≡ []
+  nested_there : (s name : Span) (o : Option ℕ) → struct_of (declared w) (word text s) ≡ o
+      → of_nested_query text (declared w) (query_on (Some s) name) s o ≡ []
       → (g : Signature) × (signature_called w text (Some s) name ≡ Some g)
   nested_there s name None at e = absurd cc
   nested_there s name (Some i) at e =
       let (g, h) = asked_there (Some s) name (nested_in (declared w) i (word text name)) e in
       (g, ap (λ o. elim o as (λ _. Option Signature) [ None ↦ None | Some i ↦ nested_in (declared w) i (word text name) ]) at ∙ h)
 
-  pub signature_there : (outer : Option Span) (name : Span) → of_name w text outer name ≡ [] → (g : Signature) × (signature_called w text outer name ≡ Some g)
+  pub signature_there : (outer : Option Span) (name : Span) → of_name w text outer name ≡ []
+      → (g : Signature) × (signature_called w text outer name ≡ Some g)
   signature_there None name e = asked_there None name (signature_of (declared w) (word text name)) e
   signature_there (Some s) name e = nested_there s name (struct_of (declared w) (word text s)) refl e
 
@@ -77,7 +82,8 @@ module _ (w : IdWorld) (text : Bytes) where
       let there : func_called w text outer name ≡ Some (func_id (order_of w) g) = ap (option_map (func_id (order_of w))) h in
       let no = sym there ∙ none in absurd cc
 
-  count_there : (o : Option FuncId) (g : FuncId) (c : CallDecl) → o ≡ Some g → of_count w text o c ≡ [] → length c.args ≡ param_count (signature_at w g).params
+  count_there : (o : Option FuncId) (g : FuncId) (c : CallDecl) → o ≡ Some g → of_count w text o c ≡ []
+      → length c.args ≡ param_count (signature_at w g).params
   count_there None g c at e = absurd cc
   count_there (Some h) g c at e =
       let same : h ≡ g = cc in
@@ -90,10 +96,12 @@ module _ (w : IdWorld) (text : Bytes) where
   begins_there (Some p) n e none = absurd cc
 
   -- the first word of a type of which no name is refused
-  head_there : (ids : HaveIds w) (f : FuncId) (g : Signature) (t : TypeDecl) → (signature_at w f).signature ≡ g → of_type_on (declared w) g text t ≡ []
+  head_there : (ids : HaveIds w) (f : FuncId) (g : Signature) (t : TypeDecl) → (signature_at w f).signature ≡ g
+      → of_type_on (declared w) g text t ≡ []
       → param_of_signature w f (word text t.head) ≢ None
   head_there ids f g t same e =
-      let begins = passes (begins_in_signature (declared w) g (word text t.head)) ConcreteType t.head.start (first_nothing _ (flat_map (of_step text (declared w)) t.steps) e) in
+      let begins = passes (begins_in_signature (declared w) g (word text t.head)) ConcreteType t.head.start
+      (first_nothing _ (flat_map (of_step text (declared w)) t.steps) e) in
       begins_there (param_of (declared w) (signature_at w f).signature (word text t.head)) (signature_at w f).own_depth
       (subst (λ (h : Signature). is_some (param_of (declared w) h (word text t.head)) ≡ true) (sym same) begins)
 
@@ -103,17 +111,21 @@ module _ (w : IdWorld) (text : Bytes) where
     pub caller_named : of_name w text c.caller_outer c.caller ≡ []
     caller_named = first_nothing (of_name w text c.caller_outer c.caller) _ resolves
 
-    but_caller : of_name w text c.callee_outer c.callee ++ (of_count w text (func_called w text c.callee_outer c.callee) c ++ of_types w text (signature_called w text c.caller_outer c.caller) c.args) ≡ []
+    but_caller : of_name w text c.callee_outer c.callee ++ (of_count w text (func_called w text c.callee_outer c.callee) c
+        ++ of_types w text (signature_called w text c.caller_outer c.caller) c.args) ≡ []
     but_caller = second_nothing (of_name w text c.caller_outer c.caller) _ resolves
 
     pub callee_named : of_name w text c.callee_outer c.callee ≡ []
     callee_named = first_nothing (of_name w text c.callee_outer c.callee) _ but_caller
 
-    but_names : of_count w text (func_called w text c.callee_outer c.callee) c ++ of_types w text (signature_called w text c.caller_outer c.caller) c.args ≡ []
+    but_names : of_count w text (func_called w text c.callee_outer c.callee) c
+        ++ of_types w text (signature_called w text c.caller_outer c.caller) c.args ≡ []
     but_names = second_nothing (of_name w text c.callee_outer c.callee) _ but_caller
 
-    pub count_is : (g : FuncId) → func_called w text c.callee_outer c.callee ≡ Some g → length c.args ≡ param_count (signature_at w g).params
-    count_is g at = count_there (func_called w text c.callee_outer c.callee) g c at (first_nothing (of_count w text (func_called w text c.callee_outer c.callee) c) _ but_names)
+    pub count_is : (g : FuncId) → func_called w text c.callee_outer c.callee ≡ Some g
+        → length c.args ≡ param_count (signature_at w g).params
+    count_is g at = count_there (func_called w text c.callee_outer c.callee) g c at
+        (first_nothing (of_count w text (func_called w text c.callee_outer c.callee) c) _ but_names)
 
     -- the types, on the caller
     module _ (f : FuncId) (called : func_called w text c.caller_outer c.caller ≡ Some f) where
@@ -126,11 +138,14 @@ module _ (w : IdWorld) (text : Bytes) where
       types_named : flat_map (of_type_on (declared w) caller.0 text) c.args ≡ []
       types_named =
           subst (λ o. of_types w text o c.args ≡ []) caller.1
-          (second_nothing (of_count w text (func_called w text c.callee_outer c.callee) c) (of_types w text (signature_called w text c.caller_outer c.caller) c.args) but_names)
+          (second_nothing (of_count w text (func_called w text c.callee_outer c.callee) c)
+          (of_types w text (signature_called w text c.caller_outer c.caller) c.args) but_names)
 
       pub heads_named : All (λ (t : TypeDecl). param_of_signature w f (word text t.head) ≢ None) c.args
       heads_named k d l =
-          head_there ids f caller.0 (get_or c.args k d) same_caller (nothing_of_each (of_type_on (declared w) caller.0 text) c.args k d types_named l)
+          head_there ids f caller.0 (get_or c.args k d) same_caller
+          (nothing_of_each (of_type_on (declared w) caller.0 text) c.args k d types_named l)
 
       pub steps_named : All (λ (t : TypeDecl). flat_map (of_step text (declared w)) t.steps ≡ []) c.args
-      steps_named k d l = second_nothing _ (flat_map (of_step text (declared w)) (get_or c.args k d).steps) (nothing_of_each (of_type_on (declared w) caller.0 text) c.args k d types_named l)
+      steps_named k d l = second_nothing _ (flat_map (of_step text (declared w)) (get_or c.args k d).steps)
+          (nothing_of_each (of_type_on (declared w) caller.0 text) c.args k d types_named l)

@@ -43,12 +43,14 @@ module _ (f : TermFacts) (from : Source) (params : Params) (args : List Term) (r
   next_fails count ns r h there fails = record {
     fail = λ n k. elim (Contains-append_cases ns (suc count ∷ []) n k) [
       | inl old ↦ (let e = h.fail n old in ((let l = e.0 in omega arith), e.1))
-      | inr new ↦ (let e = only_member (suc count) n new in ((omega arith), subst (FailsAt f from params args rs) (sym e) (r, there, fails)))
+      | inr new ↦
+          (let e = only_member (suc count) n new in ((omega arith), subst (FailsAt f from params args rs) (sym e) (r, there, fails)))
     ];
     others = λ n q l k. elim (cases_lt count n) [
       | inl more ↦
           let e : n ≡ suc count = omega arith in
-          inl (subst (Contains (ns ++ suc count ∷ [])) (sym e) (Contains-append_right ns (suc count ∷ []) (suc count) (first_member (suc count) [])))
+          inl (subst (Contains (ns ++ suc count ∷ [])) (sym e)
+          (Contains-append_right ns (suc count ∷ []) (suc count) (first_member (suc count) [])))
       | inr less ↦ elim (h.others n q less k) [ inl c ↦ inl (Contains-append_left ns (suc count ∷ []) n c) | inr d ↦ inr d ]
     ];
     ascending = λ k l. rises k l;
@@ -57,35 +59,43 @@ module _ (f : TermFacts) (from : Source) (params : Params) (args : List Term) (r
       bounded : (k : ℕ) → k < length ns → get_or ns k 0 < suc count
       bounded k l = let e = (h.fail (get_or ns k 0) (k, l, get_or_default ns k (get_or ns k 0) 0 l)).0 in omega arith
 
-      rises : (k : ℕ) → k + 1 < length (ns ++ suc count ∷ []) → slice_index (ns ++ suc count ∷ []) k < slice_index (ns ++ suc count ∷ []) (k + 1)
+      rises : (k : ℕ) → k + 1 < length (ns ++ suc count ∷ [])
+          → slice_index (ns ++ suc count ∷ []) k < slice_index (ns ++ suc count ∷ []) (k + 1)
       rises k l =
           let size = length-append ns (suc count ∷ []) in
           let within : k < length ns = omega arith in
           let first : get_or (ns ++ suc count ∷ []) k 0 ≡ get_or ns k 0 = get_or_append_left ns (suc count ∷ []) 0 k within in
           elim (cases_lt (k + 1) (length ns)) [
             | inl inside ↦
-                let second : get_or (ns ++ suc count ∷ []) (k + 1) 0 ≡ get_or ns (k + 1) 0 = get_or_append_left ns (suc count ∷ []) 0 (k + 1) inside in
+                let second : get_or (ns ++ suc count ∷ []) (k + 1) 0 ≡ get_or ns (k + 1) 0 =
+                get_or_append_left ns (suc count ∷ []) 0 (k + 1) inside in
                 let up = h.ascending k inside in
                 subst (λ z. z < get_or (ns ++ suc count ∷ []) (k + 1) 0) (sym first) (subst (λ z. get_or ns k 0 < z) (sym second) up)
             | inr last ↦
                 let place : k + 1 ≡ length ns = omega arith in
                 let second : get_or (ns ++ suc count ∷ []) (k + 1) 0 ≡ suc count
                 = ap (λ z. get_or (ns ++ suc count ∷ []) z 0) place ∙ get_or-append_seam ns (suc count) [] 0 in
-                subst (λ z. z < get_or (ns ++ suc count ∷ []) (k + 1) 0) (sym first) (subst (λ z. get_or ns k 0 < z) (sym second) (bounded k within))
+                subst (λ z. z < get_or (ns ++ suc count ∷ []) (k + 1) 0) (sym first)
+                (subst (λ z. get_or ns k 0 < z) (sym second) (bounded k within))
           ]
 
   -- the next one, by whether it holds
-  pub noted : (k number : ℕ) (ns more : List ℕ) (r : TermRequirement) (holds : Bool) → AreFailingUpTo f from params args rs k ns → HasNumber (suc k) rs r
-      → number ≡ suc k → IsTrue holds ↔ Holds f from params args r → more ≡ cond holds ns (ns ++ number ∷ []) → AreFailingUpTo f from params args rs (suc k) more
-  noted k number ns more r true h there same is e = subst (AreFailingUpTo f from params args rs (suc k)) (sym e) (next_holds k ns r h there (is.0 refl))
+  pub noted : (k number : ℕ) (ns more : List ℕ) (r : TermRequirement) (holds : Bool) → AreFailingUpTo f from params args rs k ns
+      → HasNumber (suc k) rs r
+      → number ≡ suc k → IsTrue holds ↔ Holds f from params args r → more ≡ cond holds ns (ns ++ number ∷ [])
+      → AreFailingUpTo f from params args rs (suc k) more
+  noted k number ns more r true h there same is e =
+      subst (AreFailingUpTo f from params args rs (suc k)) (sym e) (next_holds k ns r h there (is.0 refl))
   noted k number ns more r false h there same is e =
       subst (AreFailingUpTo f from params args rs (suc k)) (sym (e ∙ ap (λ z. ns ++ z ∷ []) same))
       (next_fails k ns r h there (λ d. let z = is.1 d in cc))
 
 -- Requirements that fail have the same numbers, where parameters, types and requirements are equal.
-pub same_failing : (f : TermFacts) (written : List TermRequirement) {ps qs params others : Params} {args types : List Term} {rs list : List TermRequirement}
+pub same_failing : (f : TermFacts) (written : List TermRequirement) {ps qs params others : Params} {args types : List Term}
+    {rs list : List TermRequirement}
     → ps ≡ qs → params ≡ others → args ≡ types → rs ≡ list → (ns : List ℕ)
-    → AreFailing f (Written (generic_params ps) written) params args rs ns → AreFailing f (Written (generic_params qs) written) others types list ns
+    → AreFailing f (Written (generic_params ps) written) params args rs ns
+    → AreFailing f (Written (generic_params qs) written) others types list ns
 same_failing f written {qs = qs} {params = params} {others = others} {args = args} {types = types} {rs = rs} {list = list} a b c d ns h =
     subst (λ (z : List TermRequirement). AreFailing f (Written (generic_params qs) written) others types z ns) d
     (subst (λ (z : List Term). AreFailing f (Written (generic_params qs) written) others z rs ns) c

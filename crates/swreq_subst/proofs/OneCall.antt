@@ -68,7 +68,8 @@ module _ (text : Bytes) (x : LexiconView) (apart : TellsApart x) where
 
 -- ---- calls
 
-one_by_one : {A B : Type 0} (Is : A → B → Type 0) → ((x z : A) (y : B) → Is x y → Is z y → x ≡ z) → (xs zs : List A) (ys : List B) → OneByOne Is xs ys → OneByOne Is zs ys → xs ≡ zs
+one_by_one : {A B : Type 0} (Is : A → B → Type 0) → ((x z : A) (y : B) → Is x y → Is z y → x ≡ z) → (xs zs : List A) (ys : List B)
+    → OneByOne Is xs ys → OneByOne Is zs ys → xs ≡ zs
 one_by_one Is one [] [] [] h k = refl
 one_by_one Is one [] (z ∷ zs) [] h k = absurd k
 one_by_one Is one [] zs (y ∷ ys) h k = absurd h

@@ -26,7 +26,8 @@ precedes_once : (r b : Refusal) → precedes r b ≡ true → precedes b r ≡ f
 precedes_once r b h =
     (least_is_first (b ∷ r ∷ []) r (ap (λ t. cond t (Some r) (Some b)) h)).first b (first_member b (r ∷ []))
 
-first_of_two : (a b : Refusal) (r : Refusal) → Contains (a ∷ b ∷ []) r → precedes a r ≡ false → precedes b r ≡ false → IsFirst (a ∷ b ∷ []) r
+first_of_two : (a b : Refusal) (r : Refusal) → Contains (a ∷ b ∷ []) r → precedes a r ≡ false → precedes b r ≡ false
+    → IsFirst (a ∷ b ∷ []) r
 first_of_two a b r c h k = record {
   is = c;
   first = λ q d. elim (member_cases a q (b ∷ []) d) [
@@ -85,7 +86,8 @@ first_after (Some b) rs r is = by (precedes r b) refl
 
 -- ---- one part after another
 
-pub more_parts : {A : Type 0} (f : A → List Refusal) (xs : List A) (i : ℕ) (x : A) (b c start : Option Refusal) → i < length xs → x ≡ get_or xs i x
+pub more_parts : {A : Type 0} (f : A → List Refusal) (xs : List A) (i : ℕ) (x : A) (b c start : Option Refusal)
+    → i < length xs → x ≡ get_or xs i x
     → c ≡ least b (f x) → least b (flat_map f (drop i xs)) ≡ start → least c (flat_map f (drop (i + 1) xs)) ≡ start
 more_parts f xs i x b c start h e k inv =
     (λ j. least (k j) (flat_map f (drop (i + 1) xs)))
@@ -94,5 +96,6 @@ more_parts f xs i x b c start h e k inv =
     ∙ sym (at_drop_more (λ ys. least b (flat_map f ys)) xs i x h)
     ∙ inv
 
-pub all_parts : {A : Type 0} (f : A → List Refusal) (xs : List A) (i : ℕ) (b start : Option Refusal) → length xs ≤ i → least b (flat_map f (drop i xs)) ≡ start → b ≡ start
+pub all_parts : {A : Type 0} (f : A → List Refusal) (xs : List A) (i : ℕ) (b start : Option Refusal) → length xs ≤ i
+    → least b (flat_map f (drop i xs)) ≡ start → b ≡ start
 all_parts f xs i b start h inv = sym (at_drop_all (λ ys. least b (flat_map f ys)) xs i h) ∙ inv

@@ -25,12 +25,14 @@ use Rattle.swreq_subst.specs.Arguments.{argument_of, param_count, place_of, requ
 -- ---- steps
 
 -- the type parameters for generic parameters go under the steps
-pub substitute_steps : (of : ParamId → Term) (u : Term) (steps : List Step) → substitute of (with_steps u steps) ≡ with_steps (substitute of u) steps
+pub substitute_steps : (of : ParamId → Term) (u : Term) (steps : List Step)
+    → substitute of (with_steps u steps) ≡ with_steps (substitute of u) steps
 substitute_steps of u [] = refl
 substitute_steps of u (x ∷ xs) = substitute_steps of (Member u x) xs
 
 -- one step more
-pub one_step : (t : Term) (xs : List Step) (k : ℕ) (d : Step) → k < length xs → with_steps t (take (k + 1) xs) ≡ Member (with_steps t (take k xs)) (get_or xs k d)
+pub one_step : (t : Term) (xs : List Step) (k : ℕ) (d : Step) → k < length xs
+    → with_steps t (take (k + 1) xs) ≡ Member (with_steps t (take k xs)) (get_or xs k d)
 one_step t xs k d h = ap (with_steps t) (take_more xs k d h) ∙ with_more t (take k xs) (get_or xs k d)
 
 -- ---- places
@@ -42,11 +44,14 @@ place_within p g h = elim ((two_depths p g).0 h) [
   | inr k ↦ subst (λ d. cond (d == 0) g.index (p.outer + g.index) < p.outer + p.inner) (sym k.0) (let i = k.1 in omega arith)
 ]
 
-pub over_places : (p : Params) (n : ℕ) → n ≡ param_count p → (r : TermRequirement) → IsOver (IsParamOf p) r → IsOver (λ g. place_of p g < n) r
+pub over_places : (p : Params) (n : ℕ) → n ≡ param_count p → (r : TermRequirement) → IsOver (IsParamOf p) r
+    → IsOver (λ g. place_of p g < n) r
 over_places p n e (Conforms t q) h = subst (λ z. place_of p (head t) < z) (sym e) (place_within p (head t) h)
 over_places p n e (IsAnyObject t) h = subst (λ z. place_of p (head t) < z) (sym e) (place_within p (head t) h)
-over_places p n e (Equals t u) h =
-    (subst (λ z. place_of p (head t) < z) (sym e) (place_within p (head t) h.0), subst (λ z. place_of p (head u) < z) (sym e) (place_within p (head u) h.1))
+over_places p n e (Equals t u) h = (
+  subst (λ z. place_of p (head t) < z) (sym e) (place_within p (head t) h.0),
+  subst (λ z. place_of p (head u) < z) (sym e) (place_within p (head u) h.1),
+)
 
 -- ---- what is put in is of the text
 
@@ -67,10 +72,12 @@ module _ (x : LexiconView) where
     ]
 
     replaced_of_text : (params : Params) (u : Term) → IsTermOf x u → IsTermOf x (with_arguments params (map (term_at terms) args) u)
-    replaced_of_text params u h = substituted_of (argument_of params (map (term_at terms) args)) (λ g. argument_of_text (place_of params g)) u h
+    replaced_of_text params u h =
+        substituted_of (argument_of params (map (term_at terms) args)) (λ g. argument_of_text (place_of params g)) u h
 
     -- a requirement with types of the text is of the text
-    pub requirement_of_text : (params : Params) (r : TermRequirement) → IsRequirementOf x r → IsRequirementOf x (requirement_with params (map (term_at terms) args) r)
+    pub requirement_of_text : (params : Params) (r : TermRequirement) → IsRequirementOf x r
+        → IsRequirementOf x (requirement_with params (map (term_at terms) args) r)
     requirement_of_text params (Conforms t p) h = (replaced_of_text params t h.0, h.1)
     requirement_of_text params (IsAnyObject t) h = replaced_of_text params t h
     requirement_of_text params (Equals t u) h = (replaced_of_text params t h.0, replaced_of_text params u h.1)

@@ -53,9 +53,11 @@ module _ (old new : List Term) (more : Extends old new) where
     argument_stays None h = refl
     argument_stays (Some t) h = ap (λ (u : Term). Some u) (more.stands t h.0)
 
-    pub arguments_stay : (args : List (Option TermId)) → All (IsArgumentIn old x) args → map (option_map (term_at new)) args ≡ map (option_map (term_at old)) args
+    pub arguments_stay : (args : List (Option TermId)) → All (IsArgumentIn old x) args
+        → map (option_map (term_at new)) args ≡ map (option_map (term_at old)) args
     arguments_stay [] h = refl
-    arguments_stay (a ∷ args) h = ap₂ ◌∷◌ (argument_stays a (h 0 a (omega arith))) (arguments_stay args (λ k d l. h (suc k) d (omega arith)))
+    arguments_stay (a ∷ args) h =
+        ap₂ ◌∷◌ (argument_stays a (h 0 a (omega arith))) (arguments_stay args (λ k d l. h (suc k) d (omega arith)))
 
   pub call_in_stays : (w : IdWorld) (c : Call) → IsCallIn old w c → IsCallIn new w c
   call_in_stays w c h = record { caller = h.caller; callee = h.callee; count = h.count; args = arguments_in_stay w.lexicon c.args h.args }

@@ -32,7 +32,8 @@ first_nothing xs ys e = (nothing_twice xs ys e).0
 pub second_nothing : {A : Type 0} (xs ys : List A) → xs ++ ys ≡ [] → ys ≡ []
 second_nothing xs ys e = (nothing_twice xs ys e).1
 
-pub nothing_of_each : {A B : Type 0} (f : A → List B) (xs : List A) (k : ℕ) (d : A) → flat_map f xs ≡ [] → k < length xs → f (get_or xs k d) ≡ []
+pub nothing_of_each : {A B : Type 0} (f : A → List B) (xs : List A) (k : ℕ) (d : A) → flat_map f xs ≡ [] → k < length xs
+    → f (get_or xs k d) ≡ []
 nothing_of_each f [] k d e l = absurd (omega arith)
 nothing_of_each f (x ∷ xs) zero d e l = first_nothing (f x) (flat_map f xs) e
 nothing_of_each f (x ∷ xs) (suc k) d e l = nothing_of_each f xs k d (second_nothing (f x) (flat_map f xs) e) (omega arith)
@@ -52,7 +53,8 @@ declared_there text d p a (Some i) e = (i, refl, passes (declares d i (word text
 -- ---- steps
 
 module _ (text : Bytes) (x : LexiconView) where
-  says_more : (ys : List Step) (ds : List StepDecl) (y : Step) (d : StepDecl) → SaySteps text x ys ds → SaysStep text x y d → SaySteps text x (ys ++ y ∷ []) (ds ++ d ∷ [])
+  says_more : (ys : List Step) (ds : List StepDecl) (y : Step) (d : StepDecl) → SaySteps text x ys ds → SaysStep text x y d
+      → SaySteps text x (ys ++ y ∷ []) (ds ++ d ∷ [])
   says_more [] [] y d h k = (k, tt)
   says_more [] (e ∷ ds) y d h k = absurd h
   says_more (z ∷ ys) [] y d h k = absurd h

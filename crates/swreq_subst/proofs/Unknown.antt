@@ -44,7 +44,8 @@ module _ {R Q : Type 0} (w : WorldOver R Q) (text : Bytes) where
 -- ---- what is derivable is of the world
 
 module _ (w : TextWorld) (closed : IsClosed w) where
-  declared_there : (p : ProtoId) (a : NameId) (d : AssocId) → Declares (facts_of w) p a d → slice_get w.lexicon.associated d.rank ≡ Some (pair p a)
+  declared_there : (p : ProtoId) (a : NameId) (d : AssocId) → Declares (facts_of w) p a d
+      → slice_get w.lexicon.associated d.rank ≡ Some (pair p a)
   declared_there p a d h = (ranked w.lexicon.associated (record { proto = p; name = a; assoc = d })).0 h
 
   step_of_world : (s : Source) (t : Term) (x : Step) → Derivable (facts_of w) s (IsValid (Member t x)) → IsStepOf w.lexicon x

@@ -34,7 +34,8 @@ module _ (f : TermFacts) (from : Source) (params : Params) (args : List Term) (r
       let here : k ≡ suc k - 1 = omega arith in
       (suc k, (omega arith), ((omega arith), subst (λ z. slice_get rs z ≡ Some r) here at))
 
-  pub none_fails : (ns : List ℕ) → AreFailing f from params args rs ns → (ns ≡ []) ↔ ((r : TermRequirement) → Contains rs r → Holds f from params args r)
+  pub none_fails : (ns : List ℕ) → AreFailing f from params args rs ns
+      → (ns ≡ []) ↔ ((r : TermRequirement) → Contains rs r → Holds f from params args r)
   none_fails ns h = (onward, back ns h)
     where
       onward : ns ≡ [] → (r : TermRequirement) → Contains rs r → Holds f from params args r
@@ -42,17 +43,21 @@ module _ (f : TermFacts) (from : Source) (params : Params) (args : List Term) (r
           let (n, l, at) = numbered r c in
           elim (h.others n r l at) [ inl d ↦ no_member n (subst (λ z. Contains z n) e d) | inr d ↦ d ]
 
-      back : (ms : List ℕ) → AreFailing f from params args rs ms → ((r : TermRequirement) → Contains rs r → Holds f from params args r) → ms ≡ []
+      back : (ms : List ℕ) → AreFailing f from params args rs ms
+          → ((r : TermRequirement) → Contains rs r → Holds f from params args r) → ms ≡ []
       back [] k all = refl
       back (n ∷ ms) k all =
           let (r, at, fails) = (k.fail n (first_member n ms)).1 in
           absurd (fails (all r (get_contains rs (n - 1) r at.1)))
 
-  pub carried : AreFailing f from params args rs [] → length args ≡ param_count params → ((t : Term) → Contains args t → Derivable f from (IsValid t))
-      → (st : TermStatement) → Derivable f (Written (generic_params params) rs) st → Derivable f from (substitute_into (argument_of params args) st)
+  pub carried : AreFailing f from params args rs [] → length args ≡ param_count params
+      → ((t : Term) → Contains args t → Derivable f from (IsValid t))
+      → (st : TermStatement) → Derivable f (Written (generic_params params) rs) st
+      → Derivable f from (substitute_into (argument_of params args) st)
   carried h count valid st d =
       derives_with d from (argument_of params args)
-      (λ g c. let l = place_within params g c in valid (argument_of params args g) (Contains-get_or args (place_of params g) self (omega (arith, l, count))))
+      (λ g c. let l = place_within params g c in
+      valid (argument_of params args g) (Contains-get_or args (place_of params g) self (omega (arith, l, count))))
       (λ r c v w. (none_fails [] h).0 refl r c)
 
 -- ---- one list of numbers
@@ -71,7 +76,8 @@ first_is_least n ns h m c =
     read (x ∷ xs) zero e = same_Some x m e
     read (x ∷ xs) (suc k) e = read xs k e
 
-same_members : (ns ms : List ℕ) → AllPairs (λ x y. x < y) ns → AllPairs (λ x y. x < y) ms → ((n : ℕ) → Contains ns n → Contains ms n) → ((n : ℕ) → Contains ms n → Contains ns n) → ns ≡ ms
+same_members : (ns ms : List ℕ) → AllPairs (λ x y. x < y) ns → AllPairs (λ x y. x < y) ms → ((n : ℕ) → Contains ns n → Contains ms n)
+    → ((n : ℕ) → Contains ms n → Contains ns n) → ns ≡ ms
 same_members [] [] h k to from = refl
 same_members [] (m ∷ ms) h k to from = no_member m (from m (first_member m ms))
 same_members (n ∷ ns) [] h k to from = no_member n (to n (first_member n ns))
@@ -99,14 +105,16 @@ same_members (n ∷ ns) (m ∷ ms) h k to from = ap₂ ◌∷◌ first (same_mem
     ]
 
 module _ (f : TermFacts) (from : Source) (params : Params) (args : List Term) (rs : List TermRequirement) where
-  among : (ns ms : List ℕ) → AreFailing f from params args rs ns → AreFailing f from params args rs ms → (n : ℕ) → Contains ns n → Contains ms n
+  among : (ns ms : List ℕ) → AreFailing f from params args rs ns → AreFailing f from params args rs ms → (n : ℕ)
+      → Contains ns n → Contains ms n
   among ns ms h k n c =
       let (l, (r, at, fails)) = h.fail n c in
       elim (k.others n r l at) [ inl d ↦ d | inr d ↦ absurd (fails d) ]
 
   one_list : (ns ms : List ℕ) → AreFailing f from params args rs ns → AreFailing f from params args rs ms → ns ≡ ms
   one_list ns ms h k =
-      same_members ns ms (AllPairs-from_increasing ns h.ascending) (AllPairs-from_increasing ms k.ascending) (among ns ms h k) (among ms ns k h)
+      same_members ns ms (AllPairs-from_increasing ns h.ascending) (AllPairs-from_increasing ms k.ascending)
+      (among ns ms h k) (among ms ns k h)
 
 -- ---- one line
 
@@ -127,6 +135,8 @@ one_line w c l m (inl a) (inr (ts, ns, (are, failing), valid, e)) = absurd (not_
 one_line w c l m (inr (ts, ns, (are, failing), valid, e)) (inl b) = absurd (not_both w c ts b.0 are valid)
 one_line w c l m (inr (ts, ns, (are, failing), valid, e)) (inr (us, ms, (also, others), right, k)) =
     let same : ts ≡ us = some_same ts us (sym are ∙ also) in
-    let judged : List Term → List ℕ → Type 0 = λ vs ks. AreFailing (facts_of w) (source_of (signature_at w c.f)) (signature_at w c.g).params vs (written_list (signature_at w c.g)) ks in
-    let one = one_list (facts_of w) (source_of (signature_at w c.f)) (signature_at w c.g).params us (written_list (signature_at w c.g)) ns ms (subst (λ vs. judged vs ns) same failing) others in
+    let judged : List Term → List ℕ → Type 0 = λ vs ks.
+    AreFailing (facts_of w) (source_of (signature_at w c.f)) (signature_at w c.g).params vs (written_list (signature_at w c.g)) ks in
+    let one = one_list (facts_of w) (source_of (signature_at w c.f)) (signature_at w c.g).params us
+    (written_list (signature_at w c.g)) ns ms (subst (λ vs. judged vs ns) same failing) others in
     e ∙ ap (verdict_text w.lexicon (written_list (signature_at w c.g))) one ∙ sym k

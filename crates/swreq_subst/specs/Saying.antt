@@ -37,9 +37,11 @@ pub record HaveIds {R Q : Type 0} (w : WorldOver R Q) : Type 0 where
   pub signatures : FindSignatures w
   -- What is found by name is the signature to which the name refers.
   pub referred : (outer : Option Bytes) (name : Bytes) (g : Signature) (f : FuncId)
-      → signature_named w.lexicon.resolved.declared outer name ≡ Some g → func_named w outer name ≡ Some f → (signature_at w f).signature ≡ g
+      → signature_named w.lexicon.resolved.declared outer name ≡ Some g → func_named w outer name ≡ Some f
+      → (signature_at w f).signature ≡ g
   -- A name that a protocol declares is that of an associated type of it.
-  pub associated : (p a : Bytes) (i : ℕ) → protocol_of w.lexicon.resolved.declared p ≡ Some i → declares w.lexicon.resolved.declared i a ≡ true
+  pub associated : (p a : Bytes) (i : ℕ) → protocol_of w.lexicon.resolved.declared p ≡ Some i
+      → declares w.lexicon.resolved.declared i a ≡ true
       → HasAssociated w.lexicon p a
 
 -- ---- what is written

@@ -19,7 +19,8 @@ pub(crate) fn followed(
 ) -> Result<TermId, AllocError>
     requires { IsOf table.old t }
     ensures id { IfOk result (λ id. IsOf table.new id) }
-    ensures stands { IfOk result (λ id. term_at table.new id ≡ with_steps (term_at table.old t) steps.now) }
+    ensures stands { IfOk result
+        (λ id. term_at table.new id ≡ with_steps (term_at table.old t) steps.now) }
     ensures extends { Extends table.old table.new }
 {
     let mut at = t;

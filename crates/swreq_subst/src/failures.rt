@@ -42,10 +42,13 @@ fn holds(by: &Judging<'_>, table: &mut ParamTable, r: Requirement) -> Result<boo
     requires text { IsTextOver table.old by.now.world.now }
     requires args { All (IsTypeIn table.old by.now.world.now.lexicon) by.now.args.now }
     requires r { IsRequirementIn table.old by.now.world.now.lexicon r }
-    requires over { IsOver (λ g. place_of by.now.params g < length by.now.args.now) (requirement_of table.old r) }
-    ensures holds { IfOk result (λ b. (list : List TermRequirement) → IsMachineOf (world_by table.old by.now.world.now) list by.now.machine.now
+    requires over { IsOver (λ g. place_of by.now.params g < length by.now.args.now)
+        (requirement_of table.old r) }
+    ensures holds { IfOk result (λ b. (list : List TermRequirement)
+        → IsMachineOf (world_by table.old by.now.world.now) list by.now.machine.now
         → IsTrue b ↔ IsDerivable (world_by table.old by.now.world.now) by.now.machine.now list
-        (Requires (requirement_with by.now.params (map (term_at table.old) by.now.args.now) (requirement_of table.old r)))) }
+        (Requires (requirement_with by.now.params (map (term_at table.old) by.now.args.now)
+        (requirement_of table.old r)))) }
     ensures extends { Extends table.old table.new }
 {
     let requirement = requirement_with(by.alloc, table, by.params, by.args, r)?;
@@ -73,7 +76,8 @@ fn types_of(alloc: Global, args: &[Option<TermId>]) -> Result<Vec<TermId>, Alloc
 
 /// Puts the number of a requirement that does not hold at the end.
 fn note(numbers: &mut Vec<u32>, number: u32, holds: bool) -> Result<(), AllocError>
-    ensures { OnOk result (numbers.new.items ≡ (if holds then numbers.old.items else numbers.old.items ++ number ∷ [])) }
+    ensures { OnOk result (numbers.new.items
+        ≡ (if holds then numbers.old.items else numbers.old.items ++ number ∷ [])) }
 {
     if holds {
         return Ok(());
@@ -91,12 +95,15 @@ fn numbers_of(
     requires text { IsTextOver table.old by.now.world.now }
     requires args { All (IsTypeIn table.old by.now.world.now.lexicon) by.now.args.now }
     requires list { All (IsRequirementIn table.old by.now.world.now.lexicon) list.now }
-    requires over { All (λ r. IsOver (λ g. place_of by.now.params g < length by.now.args.now) (requirement_of table.old r)) list.now }
+    requires over { All (λ r. IsOver (λ g. place_of by.now.params g < length by.now.args.now)
+        (requirement_of table.old r)) list.now }
     requires few { length list.now < 2 ^ 32 }
     ensures failing { IfOk result (λ numbers. (given : List TermRequirement)
         → IsMachineOf (world_by table.old by.now.world.now) given by.now.machine.now
-        → AreFailing (facts_of (world_by table.old by.now.world.now)) (Written (generic_params by.now.machine.now.params) given)
-        by.now.params (map (term_at table.old) by.now.args.now) (listed table.old list.now) numbers.items) }
+        → AreFailing (facts_of (world_by table.old by.now.world.now))
+        (Written (generic_params by.now.machine.now.params) given)
+        by.now.params (map (term_at table.old) by.now.args.now)
+        (listed table.old list.now) numbers.items) }
     ensures extends { Extends table.old table.new }
 {
     let mut numbers = Vec::new(by.alloc);
@@ -124,7 +131,8 @@ pub fn failing(
     requires call { IsCallIn table.old world.now c.now }
     requires there { AreThere c.now.args }
     requires machine { IsMachineOn (world_by table.old world.now) c.now.f machine.now }
-    ensures failing { IfOk result (λ numbers. AreFailingIn (world_by table.old world.now) (call_by table.old c.now) numbers.items) }
+    ensures failing { IfOk result (λ numbers.
+        AreFailingIn (world_by table.old world.now) (call_by table.old c.now) numbers.items) }
     ensures extends { Extends table.old table.new }
 {
     let types = types_of(alloc, c.args.items())?;

@@ -35,7 +35,8 @@ use swreq_world::laws::signatures_are_found_by_name;
 
 /// Where the names of a text resolve, what names refer to has ids in its world.
 pub fn names_have_ids(text: &[u8])
-    ensures { (terms : List Term) (s : Skeleton) (w : IdWorld) → StandsFor text.now s → IsWorldOf text.now s (world_by terms w)
+    ensures { (terms : List Term) (s : Skeleton) (w : IdWorld) → StandsFor text.now s
+        → IsWorldOf text.now s (world_by terms w)
         → Resolve text.now s → HaveIds w }
 {
     signatures_are_found_by_name(text);
@@ -45,18 +46,21 @@ pub fn names_have_ids(text: &[u8])
 /// what names refer to has ids.
 pub fn refusals_are_the_refused()
     ensures { (w : IdWorld) (text : Bytes) → HaveIds w → (calls : List CallDecl) (r : Refusal)
-        → Contains (refusals w text calls) r ↔ ((c : CallDecl) × Contains calls c × IsRefused w text c r) }
+        → Contains (refusals w text calls) r
+        ↔ ((c : CallDecl) × Contains calls c × IsRefused w text c r) }
 {}
 
 /// At most one list of calls is written, where names tell ids apart.
 pub fn one_list_of_calls()
-    ensures { (w : IdWorld) (text : Bytes) → HaveIds w → TellsApart w.lexicon → (cs es : List TermCall) (ds : List CallDecl)
+    ensures { (w : IdWorld) (text : Bytes) → HaveIds w → TellsApart w.lexicon
+        → (cs es : List TermCall) (ds : List CallDecl)
         → SayCalls w text cs ds → SayCalls w text es ds → cs ≡ es }
 {}
 
 /// What is written and what is refused is the same over the ids of a table and over its type parameters.
 pub fn calls_by_table()
-    ensures say { (terms : List Term) (w : IdWorld) (text : Bytes) (cs : List TermCall) (ds : List CallDecl)
+    ensures say { (terms : List Term) (w : IdWorld) (text : Bytes)
+        (cs : List TermCall) (ds : List CallDecl)
         → SayCalls w text cs ds → SayCalls (world_by terms w) text cs ds }
     ensures refusals { (terms : List Term) (w : IdWorld) (text : Bytes) (ds : List CallDecl)
         → refusals (world_by terms w) text ds ≡ refusals w text ds }
@@ -65,7 +69,8 @@ pub fn calls_by_table()
 /// A type with a name that the world lacks is no type parameter of it, and each type parameter that is derivable from the list of a
 /// signature is one of the world.
 pub fn unknown_names_are_not_derivable()
-    ensures no_type { (w : IdWorld) (text : Bytes) (f : FuncId) (u : Term) (t : TypeDecl) → SaysType w text f u t
+    ensures no_type { (w : IdWorld) (text : Bytes) (f : FuncId) (u : Term) (t : TypeDecl)
+        → SaysType w text f u t
         → ¬ (HasUnknown w text t.steps) }
     ensures derivable { (w : TextWorld) (f : FuncId) (u : Term) → IsClosed w
         → Derivable (facts_of w) (source_of (signature_at w f)) (IsValid u) → IsTermOf w.lexicon u }
@@ -80,14 +85,17 @@ pub fn arguments_stand_in_order()
 
 /// None fails if and only if each requirement of the callee, with the types put in, is derivable from the caller's list.
 pub fn none_fails_where_all_hold()
-    ensures { (f : TermFacts) (from : Source) (params : Params) (args : List Term) (rs : List TermRequirement) (ns : List ℕ)
-        → AreFailing f from params args rs ns → (ns ≡ []) ↔ ((r : TermRequirement) → Contains rs r → Holds f from params args r) }
+    ensures { (f : TermFacts) (from : Source) (params : Params) (args : List Term)
+        (rs : List TermRequirement) (ns : List ℕ)
+        → AreFailing f from params args rs ns
+        → (ns ≡ []) ↔ ((r : TermRequirement) → Contains rs r → Holds f from params args r) }
 {}
 
 /// Where none fails and the types are derivable, all that is derivable from the callee's list is derivable from the caller's, with the
 /// types put in.
 pub fn callees_stand_on_callers()
-    ensures { (f : TermFacts) (from : Source) (params : Params) (args : List Term) (rs : List TermRequirement)
+    ensures { (f : TermFacts) (from : Source) (params : Params) (args : List Term)
+        (rs : List TermRequirement)
         → AreFailing f from params args rs [] → length args ≡ param_count params
         → ((t : Term) → Contains args t → Derivable f from (IsValid t))
         → (st : TermStatement) → Derivable f (Written (generic_params params) rs) st
@@ -96,5 +104,6 @@ pub fn callees_stand_on_callers()
 
 /// A call has at most one line.
 pub fn one_line()
-    ensures { (w : TextWorld) (c : TermCall) (a b : Text) → IsLineOf w c a → IsLineOf w c b → a ≡ b }
+    ensures { (w : TextWorld) (c : TermCall) (a b : Text) → IsLineOf w c a
+        → IsLineOf w c b → a ≡ b }
 {}

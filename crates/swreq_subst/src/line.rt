@@ -34,8 +34,10 @@ fn is_valid(
 ) -> Result<bool, AllocError>
     requires text { IsTextOver table.now world.now }
     requires t { IsTypeIn table.now world.now.lexicon t }
-    ensures { IfOk result (λ b. (list : List TermRequirement) → IsMachineOf (world_by table.now world.now) list machine.now
-        → IsTrue b ↔ IsDerivable (world_by table.now world.now) machine.now list (IsValid (term_at table.now t))) }
+    ensures { IfOk result (λ b.
+        (list : List TermRequirement) → IsMachineOf (world_by table.now world.now) list machine.now
+        → IsTrue b ↔ IsDerivable (world_by table.now world.now) machine.now list
+        (IsValid (term_at table.now t))) }
 {
     let mut room = Scratch::for_type(alloc, table, t)?;
     let valid = machine.is_valid(world, table, t, &mut room);
@@ -52,8 +54,10 @@ fn is_valid_there(
 ) -> Result<bool, AllocError>
     requires text { IsTextOver table.now world.now }
     requires argument { IsArgumentIn table.now world.now.lexicon argument }
-    ensures { IfOk result (λ b. (list : List TermRequirement) → IsMachineOf (world_by table.now world.now) list machine.now
-        → IsTrue b ↔ IsValidThere (IsDerivable (world_by table.now world.now) machine.now list) table.now argument) }
+    ensures { IfOk result (λ b.
+        (list : List TermRequirement) → IsMachineOf (world_by table.now world.now) list machine.now
+        → IsTrue b ↔ IsValidThere (IsDerivable (world_by table.now world.now) machine.now list)
+        table.now argument) }
 {
     match argument {
         Some(t) => is_valid(alloc, world, table, machine, t),
@@ -71,9 +75,12 @@ fn are_valid(
 ) -> Result<bool, AllocError>
     requires text { IsTextOver table.now world.now }
     requires args { All (IsArgumentIn table.now world.now.lexicon) args.now }
-    ensures { IfOk result (λ b. (list : List TermRequirement) → IsMachineOf (world_by table.now world.now) list machine.now
-        → MatchBool b (AreAllValid (IsDerivable (world_by table.now world.now) machine.now list) table.now args.now)
-        (IsOneInvalid (IsDerivable (world_by table.now world.now) machine.now list) table.now args.now)) }
+    ensures { IfOk result (λ b.
+        (list : List TermRequirement) → IsMachineOf (world_by table.now world.now) list machine.now
+        → MatchBool b (AreAllValid (IsDerivable (world_by table.now world.now) machine.now list)
+        table.now args.now)
+        (IsOneInvalid (IsDerivable (world_by table.now world.now) machine.now list) table.now
+        args.now)) }
 {
     for k in 0..args.len() {
         let argument = args[k];
@@ -116,7 +123,8 @@ fn put_verdict(
 ) -> Result<(), AllocError>
     requires ids { All (HasIdsOf table.now) list.now }
     requires numbers { All (λ n. (0 < n) × (n ≤ length list.now)) numbers.now }
-    ensures { OnOk result (out.new.items ≡ out.old.items ++ verdict_text names.now (map (requirement_of table.now) list.now) numbers.now) }
+    ensures { OnOk result (out.new.items ≡ out.old.items
+        ++ verdict_text names.now (map (requirement_of table.now) list.now) numbers.now) }
 {
     match numbers {
         [] => append_bytes(out, b"yes\n"),
@@ -154,7 +162,8 @@ pub fn call_text(
     requires short { IsShort world.now }
     requires call { IsCallIn table.old world.now c.now }
     requires machine { IsMachineOn (world_by table.old world.now) c.now.f machine.now }
-    ensures line { OnOk result (AppendsLine (world_by table.old world.now) (call_by table.old c.now) out.old.items out.new.items) }
+    ensures line { OnOk result (AppendsLine (world_by table.old world.now)
+        (call_by table.old c.now) out.old.items out.new.items) }
     ensures err { OnErr result (out.new.items ≡ out.old.items) }
     ensures extends { Extends table.old table.new }
 {

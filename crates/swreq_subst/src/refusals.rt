@@ -45,7 +45,8 @@ fn check_nested(
     name: Span,
     best: Option<Refusal>,
 ) -> Option<Refusal>
-    ensures { result ≡ least best (of_nested_query text.now d.now (query_on (Some outer) name) outer (struct_of d.now (word text.now outer))) }
+    ensures { result ≡ least best (of_nested_query text.now d.now (query_on (Some outer) name) outer
+        (struct_of d.now (word text.now outer))) }
 {
     match d.struct_of(word(text, outer)) {
         Some(place) => match d.nested_in(place, word(text, name)) {
@@ -117,7 +118,8 @@ fn param_count(params: Params) -> usize
 /// Refuses a callee whose generic parameters are not as many as the types of the call.
 fn check_count(world: &World, text: &[u8], c: &CallDecl, best: Option<Refusal>) -> Option<Refusal>
     requires { HaveIds world.now }
-    ensures { result ≡ least best (of_count world.now text.now (func_called world.now text.now c.now.callee_outer c.now.callee) c.now) }
+    ensures { result ≡ least best (of_count world.now text.now
+        (func_called world.now text.now c.now.callee_outer c.now.callee) c.now) }
 {
     match func_called(world, text, c.callee_outer, c.callee) {
         Some(g) => {

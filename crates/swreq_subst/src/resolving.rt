@@ -46,11 +46,14 @@ fn types_of(
 ) -> Result<Vec<Option<TermId>>, AllocError>
     requires ids { HaveIds world.now }
     requires signature { f.place < length world.now.signatures }
-    requires heads { All (λ t. param_of_signature world.now f (word text.now t.head) ≢ None) types.now }
-    requires resolve { All (λ t. flat_map (of_step text.now (declared world.now)) t.steps ≡ []) types.now }
+    requires heads { All (λ t. param_of_signature world.now f (word text.now t.head) ≢ None)
+        types.now }
+    requires resolve { All (λ t. flat_map (of_step text.now (declared world.now)) t.steps ≡ [])
+        types.now }
     ensures say { IfOk result (λ found. OneByOne (SaysArgument world.now text.now f)
         (map (option_map (term_at table.new)) found.items) types.now) }
-    ensures known { IfOk result (λ found. All (IsArgumentIn table.new world.now.lexicon) found.items) }
+    ensures known { IfOk result
+        (λ found. All (IsArgumentIn table.new world.now.lexicon) found.items) }
     ensures extends { Extends table.old table.new }
 {
     let mut found = Vec::new(alloc);
@@ -72,7 +75,8 @@ fn call_of(
 ) -> Result<Call, AllocError>
     requires ids { HaveIds world.now }
     requires resolves { of_call world.now text.now c.now ≡ [] }
-    ensures says { IfOk result (λ call. SaysCall world.now text.now (call_by table.new call) c.now) }
+    ensures says { IfOk result
+        (λ call. SaysCall world.now text.now (call_by table.new call) c.now) }
     ensures known { IfOk result (IsCallIn table.new world.now) }
     ensures extends { Extends table.old table.new }
 {
@@ -96,7 +100,8 @@ fn calls_of(
 ) -> Result<Vec<Call>, AllocError>
     requires ids { HaveIds world.now }
     requires resolve { refusals world.now text.now calls.now ≡ [] }
-    ensures say { IfOk result (λ found. SayCalls world.now text.now (map (call_by table.new) found.items) calls.now) }
+    ensures say { IfOk result
+        (λ found. SayCalls world.now text.now (map (call_by table.new) found.items) calls.now) }
     ensures known { IfOk result (λ found. All (IsCallIn table.new world.now) found.items) }
     ensures extends { Extends table.old table.new }
 {
@@ -124,13 +129,17 @@ pub fn resolve_calls(
     calls: &[CallDecl],
 ) -> Result<Vec<Call>, NameErr>
     requires ids { HaveIds world.now }
-    ensures calls { IfOk result (λ found. SayCalls world.now text.now (map (call_by table.new) found.items) calls.now) }
+    ensures calls { IfOk result
+        (λ found. SayCalls world.now text.now (map (call_by table.new) found.items) calls.now) }
     ensures known { IfOk result (λ found. All (IsCallIn table.new world.now) found.items) }
     ensures extends { Extends table.old table.new }
     ensures ok { IsOk result → refusals world.now text.now calls.now ≡ [] }
-    ensures resolves { refusals world.now text.now calls.now ≡ [] → IsOk result ⊎ (result ≡ Err Memory) }
-    ensures refused { IfErr result (λ e. RefusesCalls world.now text.now calls.now e ⊎ (e ≡ Memory)) }
-    ensures refuses { (e : NameErr) → RefusesCalls world.now text.now calls.now e → (result ≡ Err e) ⊎ (result ≡ Err Memory) }
+    ensures resolves { refusals world.now text.now calls.now ≡ []
+        → IsOk result ⊎ (result ≡ Err Memory) }
+    ensures refused { IfErr result
+        (λ e. RefusesCalls world.now text.now calls.now e ⊎ (e ≡ Memory)) }
+    ensures refuses { (e : NameErr) → RefusesCalls world.now text.now calls.now e
+        → (result ≡ Err e) ⊎ (result ≡ Err Memory) }
 {
     match first_refusal(world, text, calls) {
         Some(r) => Err(error_of(r)),

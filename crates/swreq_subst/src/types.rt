@@ -37,7 +37,8 @@ fn bound_step(world: &World, text: &[u8], proto: Span, name: Span) -> Step
 fn step_of(world: &World, text: &[u8], s: &StepDecl) -> Option<Step>
     requires ids { HaveIds world.now }
     requires resolves { of_step text.now (declared world.now) s.now ≡ [] }
-    ensures { MatchOption result (IsUnknown world.now text.now s.now) (λ step. SaysStep text.now world.now.lexicon step s.now) }
+    ensures { MatchOption result (IsUnknown world.now text.now s.now)
+        (λ step. SaysStep text.now world.now.lexicon step s.now) }
 {
     match s {
         StepDecl::Plain { name } => match world.find_name(word(text, *name)) {
@@ -84,7 +85,8 @@ pub(crate) fn type_of(
     requires signature { f.place < length world.now.signatures }
     requires head { param_of_signature world.now f (word text.now t.now.head) ≢ None }
     requires resolve { flat_map (of_step text.now (declared world.now)) t.now.steps ≡ [] }
-    ensures says { IfOk result (λ a. SaysArgument world.now text.now f (option_map (term_at table.new) a) t.now) }
+    ensures says { IfOk result
+        (λ a. SaysArgument world.now text.now f (option_map (term_at table.new) a) t.now) }
     ensures known { IfOk result (IsArgumentIn table.new world.now.lexicon) }
     ensures extends { Extends table.old table.new }
 {

@@ -20,7 +20,8 @@ use Rattle.swreq_symbols.specs.Vanishing.{DeclaresType}
 module _ (x : LexiconView) where
   pub member_is : (k : ℕ) (d : ProtocolName) → slice_get x.symbols k ≡ Some d → member_at (symbols_of x) k ≡ member_name d
   member_is k d e =
-      get_or-map member_name x.symbols k d (record { proto = record { rank = 0 }; name = record { rank = 0 } }) (slice_get_within x.symbols k d e)
+      get_or-map member_name x.symbols k d (record { proto = record { rank = 0 }; name = record { rank = 0 } })
+      (slice_get_within x.symbols k d e)
       ∙ ap member_name (get_or_from_slice_get x.symbols k d d e)
 
   pub is_rank : (k : ℕ) (d : ProtocolName) → slice_get x.symbols k ≡ Some d → k < length (map member_name x.symbols)

@@ -18,7 +18,8 @@ use Rattle.swreq_symbols.specs.Vanishing.{HasStep, DeclaresType, IsFirstBehind, 
 use Rattle.swreq_symbols.proofs.Declared.{at_rank, from_rank}
 
 module _ (x : LexiconView) (rules : List Rule) (w : Word) (a : NameId) where
-  declared_as : (d : AssocId) (e : ProtocolName) → slice_get x.associated d.rank ≡ Some e → (p : ProtoId) → DeclaresType x p a d → pair p a ≡ e
+  declared_as : (d : AssocId) (e : ProtocolName) → slice_get x.associated d.rank ≡ Some e → (p : ProtoId)
+      → DeclaresType x p a d → pair p a ≡ e
   declared_as d e at p c = same_Some (pair p a) e (sym (at_rank x p a d c) ∙ at)
 
   pub given_answer : (d : AssocId) (e : ProtocolName) (r : Bool) → slice_get x.associated d.rank ≡ Some e → e.name.rank ≡ a.rank
@@ -29,7 +30,8 @@ module _ (x : LexiconView) (rules : List Rule) (w : Word) (a : NameId) where
         λ g. k.1 (subst (λ (z : ProtocolName). Vanishes rules w (Proto z.proto.rank)) (declared_as d e at g.0 g.1) g.2),
       )
 
-  pub not_given : (d : AssocId) (e : ProtocolName) → slice_get x.associated d.rank ≡ Some e → (e.name.rank ≡ a.rank → ⊥) → IsGivenBehind x rules w a d → ⊥
+  pub not_given : (d : AssocId) (e : ProtocolName) → slice_get x.associated d.rank ≡ Some e → (e.name.rank ≡ a.rank → ⊥)
+      → IsGivenBehind x rules w a d → ⊥
   not_given d e at other g = other (sym (ap (λ (z : ProtocolName). z.name.rank) (declared_as d e at g.0 g.1)))
 
   -- none of lesser rank is given
@@ -42,7 +44,8 @@ module _ (x : LexiconView) (rules : List Rule) (w : Word) (a : NameId) where
     | inr e ↦ none d (omega (arith, l, e)) g
   ]
 
-  pub first_given : (k : ℕ) → IsGivenBehind x rules w a (record { rank = k }) → NoneGiven k → IsFirstBehind x rules w a (record { rank = k })
+  pub first_given : (k : ℕ) → IsGivenBehind x rules w a (record { rank = k }) → NoneGiven k
+      → IsFirstBehind x rules w a (record { rank = k })
   first_given k g none = record { given = g; first = λ e h. elim (cases_lt e.rank k) [ inl l ↦ absurd (none e l h) | inr l ↦ l ] }
 
   pub none_at_all : (k : ℕ) → length x.associated ≤ k → NoneGiven k → (d : AssocId) → IsGivenBehind x rules w a d → ⊥
@@ -51,8 +54,11 @@ module _ (x : LexiconView) (rules : List Rule) (w : Word) (a : NameId) where
       none d (omega (arith, l, o)) g
 
 -- the protocol of an associated type gives it
-pub assoc_answer : (x : LexiconView) (rules : List Rule) (w : Word) (d : AssocId) (e : ProtocolName) (r : Bool) → slice_get x.associated d.rank ≡ Some e
+pub assoc_answer : (x : LexiconView) (rules : List Rule) (w : Word) (d : AssocId) (e : ProtocolName) (r : Bool)
+    → slice_get x.associated d.rank ≡ Some e
     → Decides r (Vanishes rules w (Proto e.proto.rank)) → Decides r (HasStep x rules w (Bound d))
 assoc_answer x rules w d e r at k =
-    let one = given_answer x rules w e.name d e r at refl k in
-    ((λ h. (e.name, one.0 h)), λ h. k.1 (subst (λ (z : ProtocolName). Vanishes rules w (Proto z.proto.rank)) (declared_as x rules w h.0 d e at h.1.0 h.1.1) h.1.2))
+    let one = given_answer x rules w e.name d e r at refl k in (
+      (λ h. (e.name, one.0 h)),
+      λ h. k.1 (subst (λ (z : ProtocolName). Vanishes rules w (Proto z.proto.rank)) (declared_as x rules w h.0 d e at h.1.0 h.1.1) h.1.2),
+    )

@@ -27,7 +27,9 @@ module _ (old new : List Term) (more : Extends old new) where
         let gs : map (signature_by new) w.signatures ≡ map (signature_by old) w.signatures
         = same_maps (signature_by new) (signature_by old) (λ (g : SignatureOver Written). AreOf old g.requirements)
         (λ g h. let e = placed_stay old new g.requirements more h in
-        λ i. record { signature = g.signature; name = g.name; outer = g.outer; own_depth = g.own_depth; params = g.params; requirements = e i }) w.signatures over.signatures in
+        λ i.
+        record { signature = g.signature; name = g.name; outer = g.outer; own_depth = g.own_depth; params = g.params; requirements = e i })
+        w.signatures over.signatures in
         let qs : map (query_by new) w.queries ≡ map (query_by old) w.queries
         = same_maps (query_by new) (query_by old) (HasQueryIdsOf old) (λ q h. query_stays old new q more h) w.queries over.queries in
         λ i. record { lexicon = w.lexicon; requirements = rs i; signatures = gs i; queries = qs i }

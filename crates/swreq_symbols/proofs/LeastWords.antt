@@ -22,7 +22,8 @@ prefix_least rules front rest least v l = elim (trichotomy v front) [
 ]
 
 -- there is one first associated type
-pub one_first : (x : LexiconView) (rules : List Rule) (w : Word) (a : NameId) (d e : AssocId) → IsFirstBehind x rules w a d → IsFirstBehind x rules w a e → d ≡ e
+pub one_first : (x : LexiconView) (rules : List Rule) (w : Word) (a : NameId) (d e : AssocId) → IsFirstBehind x rules w a d
+    → IsFirstBehind x rules w a e → d ≡ e
 one_first x rules w a d e h k =
     let l = h.first e k.given in
     let r = k.first d h.given in

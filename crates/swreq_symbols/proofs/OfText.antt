@@ -1,4 +1,5 @@
--- A world over ids, and the table that has them: what it says over type parameters, and that its requirements are of the table and of the text.
+-- A world over ids, and the table that has them: what it says over type parameters, and that its requirements are of the table and of the
+-- text.
 use Rattle.std.proofs.Common.{◌≡◌, ◌∙◌, ℕ, All, sym, ap, subst, ◌<◌, arith, List, [], get_or, length, map, Contains, inl, inr}
 use Rattle.std.proofs.Math.ListN.{get_or-map}
 use Rattle.std.proofs.lemmas.Bool.{cases_lt}
@@ -28,7 +29,8 @@ use Rattle.swreq_symbols.specs.Known.{IsRequirementIn, IsTextOver}
 
 -- the requirements without their places, over ids and over type parameters
 pub requirements_placed : (terms : List Term) (rs : List Written)
-    → map (requirement_of terms) (map (λ (r : Written). r.requirement) rs) ≡ map (λ (r : PlacedRequirement). r.requirement) (placed terms rs)
+    → map (requirement_of terms) (map (λ (r : Written). r.requirement) rs)
+    ≡ map (λ (r : PlacedRequirement). r.requirement) (placed terms rs)
 requirements_placed terms rs =
     map-map (requirement_of terms) (λ (r : Written). r.requirement) rs
     ∙ sym (map-map (λ (r : PlacedRequirement). r.requirement) (placed_by terms) rs)
@@ -44,7 +46,8 @@ module _ (w : IdWorld) (terms : List Term) where
   -- ---- the facts
 
   pub own_requirements : (p : ProtoId)
-      → (facts_of (world_by terms w)).of_protocol p ≡ map (requirement_of terms) (map (λ (r : Written). r.requirement) (requirements_of w p))
+      → (facts_of (world_by terms w)).of_protocol p
+      ≡ map (requirement_of terms) (map (λ (r : Written). r.requirement) (requirements_of w p))
   own_requirements p =
       ap (map (λ (r : PlacedRequirement). r.requirement)) (requirements_by p) ∙ sym (requirements_placed terms (requirements_of w p))
 
@@ -64,9 +67,11 @@ module _ (w : IdWorld) (terms : List Term) where
     pub protocol_written : (p : ProtoId) (r : Written) → Contains (requirements_of w p) r → IsRequirementIn terms w.lexicon r.requirement
     protocol_written p r c = elim (cases_lt p.rank (length w.requirements)) [
       | inl l ↦ (
-        All-contains (λ (q : Written). HasIdsOf terms q.requirement) (requirements_of w p) r (All-get_or (AreOf terms) w.requirements p.rank [] l text.table.requirements) c,
+        All-contains (λ (q : Written). HasIdsOf terms q.requirement) (requirements_of w p) r
+            (All-get_or (AreOf terms) w.requirements p.rank [] l text.table.requirements) c,
         (let within : p.rank < length (map (placed terms) w.requirements) = omega (arith, length-map w.requirements (placed terms), l) in
-            let all = All-get_or (All (IsOfProtocol w.lexicon)) (map (placed terms) w.requirements) p.rank [] within text.closed.requirements in
+            let all =
+            All-get_or (All (IsOfProtocol w.lexicon)) (map (placed terms) w.requirements) p.rank [] within text.closed.requirements in
             (All-contains (IsOfProtocol w.lexicon) (placed terms (requirements_of w p)) (placed_by terms r)
             (subst (All (IsOfProtocol w.lexicon)) (requirements_by p) all) (contains_map (placed_by terms) (requirements_of w p) r c)).0),
       )
@@ -77,11 +82,13 @@ module _ (w : IdWorld) (terms : List Term) where
         → IsRequirementIn terms w.lexicon r.requirement
     signature_written f l r c =
         let g : SignatureOver Written = signature_at w f in
-        let within : f.place < length (map (signature_by terms) w.signatures) = omega (arith, length-map w.signatures (signature_by terms), l) in
+        let within : f.place < length (map (signature_by terms) w.signatures) =
+        omega (arith, length-map w.signatures (signature_by terms), l) in
         let own : HasOwn w.lexicon (signature_by terms g) = subst (HasOwn w.lexicon) (signature_is f)
         (All-get_or (HasOwn w.lexicon) (map (signature_by terms) w.signatures) f.place no_signature within text.closed.signatures) in (
           All-contains (λ (q : Written). HasIdsOf terms q.requirement) g.requirements r
-              (All-get_or (λ (h : SignatureOver Written). AreOf terms h.requirements) w.signatures f.place no_signature l text.table.signatures) c,
+              (All-get_or (λ (h : SignatureOver Written). AreOf terms h.requirements) w.signatures f.place no_signature l
+              text.table.signatures) c,
           (All-contains (IsOfSignature w.lexicon g.params) (placed terms g.requirements) (placed_by terms r) own
               (contains_map (placed_by terms) g.requirements r c)).0,
         )

@@ -38,11 +38,17 @@ record IsWritten (w : TextWorld) (p : ProtoId) (r : TermRequirement) : Type 0 wh
 
 written : (w : TextWorld) → IsClosed w → (p : ProtoId) (r : TermRequirement) → Contains ((facts_of w).of_protocol p) r → IsWritten w p r
 written w closed p r c = elim (cases_lt p.rank (length w.requirements)) [
-  | inl l ↦ record { proto = subst (λ n. p.rank < n) closed.protocols l; requirement = among (requirements_of w p) (All-get_or (λ z. All (IsOfProtocol w.lexicon) z) w.requirements p.rank [] l closed.requirements) c }
-  | inr l ↦ no_member r (subst (λ z. Contains (map (λ (q : PlacedRequirement). q.requirement) z) r) (get_or_past w.requirements p.rank [] l) c)
+  | inl l ↦ record {
+    proto = subst (λ n. p.rank < n) closed.protocols l;
+    requirement =
+        among (requirements_of w p) (All-get_or (λ z. All (IsOfProtocol w.lexicon) z) w.requirements p.rank [] l closed.requirements) c;
+  }
+  | inr l ↦
+      no_member r (subst (λ z. Contains (map (λ (q : PlacedRequirement). q.requirement) z) r) (get_or_past w.requirements p.rank [] l) c)
 ]
   where
-    among : (rs : List PlacedRequirement) → All (IsOfProtocol w.lexicon) rs → Contains (map (λ (q : PlacedRequirement). q.requirement) rs) r → IsRequirementOf w.lexicon r
+    among : (rs : List PlacedRequirement) → All (IsOfProtocol w.lexicon) rs → Contains (map (λ (q : PlacedRequirement). q.requirement) rs) r
+        → IsRequirementOf w.lexicon r
     among rs all k =
         let each = All-weaker (IsOfProtocol w.lexicon) (λ q. IsRequirementOf w.lexicon q.requirement) (λ q h. h.0) rs all in
         All-contains (IsRequirementOf w.lexicon) (map (λ (q : PlacedRequirement). q.requirement) rs) r
@@ -54,7 +60,8 @@ text_law w closed = record {
   members = λ k l.
       let (d, e) = of_rank w.lexicon k l in
       let is = (closed.ids.symbols d.proto d.name).0 (get_contains w.lexicon.symbols k d e) in
-      subst (λ z. Contains w.lexicon.written_order z) (sym (ap (λ z. z.proto) (member_is w.lexicon k d e))) ((closed.ids.written_order d.proto).1 is.0);
+      subst (λ z. Contains w.lexicon.written_order z) (sym (ap (λ z. z.proto) (member_is w.lexicon k d e)))
+      ((closed.ids.written_order d.proto).1 is.0);
   protocols = λ p t q c. (closed.ids.written_order q).1 (written w closed p (Conforms t q) c).requirement.1;
 }
 
@@ -62,9 +69,11 @@ text_law w closed = record {
 
 pub ranks_law : (w : TextWorld) → IsClosed w → AreRanked (symbols_of w.lexicon) (facts_of w)
 ranks_law w closed = record {
-  one_name = λ p a q b d c k. ap (λ (z : ProtocolName). z.name) (same_Some (pair p a) (pair q b) (sym (at_rank w.lexicon p a d c) ∙ at_rank w.lexicon q b d k));
+  one_name = λ p a q b d c k.
+      ap (λ (z : ProtocolName). z.name) (same_Some (pair p a) (pair q b) (sym (at_rank w.lexicon p a d c) ∙ at_rank w.lexicon q b d k));
   assocs = λ p a d q b e c k l. elim (cases_lt b.rank a.rank) [
-    | inl h ↦ (let o = closed.ids.associated_by_name e.rank d.rank (pair q b) (pair p a) (at_rank w.lexicon q b e k) (at_rank w.lexicon p a d c) h in absurd (omega (arith, o, l)))
+    | inl h ↦ (let o = closed.ids.associated_by_name e.rank d.rank (pair q b) (pair p a) (at_rank w.lexicon q b e k)
+        (at_rank w.lexicon p a d c) h in absurd (omega (arith, o, l)))
     | inr h ↦ h
   ];
   symbols = λ k j l is.

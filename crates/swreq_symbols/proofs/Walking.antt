@@ -69,9 +69,11 @@ module _ (w : TextWorld) (s : Source) (rules : List Rule) where
       → HasStep w.lexicon rules v x → Valid t
   goes_on t u x v e k l h =
       let of_base : Links rules (word_of m s u) v = subst (λ z. Links rules (word_of m s (without 1 z)) v) e l in
-      subst Valid (sym e) (member_valid u x (subst (λ z. Valid (without 1 z)) e k) (step_same w.lexicon rules v (word_of m s u) x (linked_back of_base) h))
+      subst Valid (sym e)
+      (member_valid u x (subst (λ z. Valid (without 1 z)) e k) (step_same w.lexicon rules v (word_of m s u) x (linked_back of_base) h))
 
-  pub stops : (t u : Term) (x : Step) (v : Word) → t ≡ Member u x → Links rules (word_of m s (without 1 t)) v → (HasStep w.lexicon rules v x → ⊥)
+  pub stops : (t u : Term) (x : Step) (v : Word) → t ≡ Member u x → Links rules (word_of m s (without 1 t)) v
+      → (HasStep w.lexicon rules v x → ⊥)
       → Valid t → ⊥
   stops t u x v e l n h =
       let of_base : Links rules (word_of m s u) v = subst (λ z. Links rules (word_of m s (without 1 z)) v) e l in

@@ -10,6 +10,7 @@ use Rattle.swreq_symbols.specs.Vanishing.{IsLeastBy, Links}
 
 -- The rules show the type parameter valid, and the word is the least one of its class.
 pub record IsReadAs (r : Reading) (t : Term) (word : Word) : Type 0 where
-  pub valid : ShowsValid (symbols_of r.world.now.lexicon) (facts_of (world_by r.table.now r.world.now)) (source_over r.over) (Links r.rules.now) t
+  pub valid : ShowsValid (symbols_of r.world.now.lexicon) (facts_of (world_by r.table.now r.world.now))
+      (source_over r.over) (Links r.rules.now) t
   pub linked : Links r.rules.now (word_of (symbols_of r.world.now.lexicon) (source_over r.over) t) word
   pub least : IsLeastBy r.rules.now word

@@ -10,7 +10,8 @@ use swreq_world::World;
 pub fn name_at(world: &World, rank: u64) -> Option<NameId>
     ensures { MatchOption result
         (IsRank (symbols_of world.now.lexicon) rank → ⊥)
-        (λ a. IsRank (symbols_of world.now.lexicon) rank × (name_of (symbols_of world.now.lexicon) rank ≡ a)) }
+        (λ a. IsRank (symbols_of world.now.lexicon) rank
+        × (name_of (symbols_of world.now.lexicon) rank ≡ a)) }
 {
     if rank < world.members() {
         let symbol = world.member_at(rank);

@@ -137,11 +137,16 @@ fn add_member(
     requires text { IsTextOver reading.now.table.now reading.now.world.now }
     requires t { IsTypeIn reading.now.table.now reading.now.world.now.lexicon t }
     requires member { 0 < member_count (term_at reading.now.table.now t) }
-    requires base { IsReadAs reading.now (without 1 (term_at reading.now.table.now t)) word.old.items }
-    requires fits { (vec_len word.old + 1 ≤ vec_capacity word.old) × (vec_len word.old + 1 ≤ vec_capacity test.old) }
-    ensures valid { IsTrue result ↔ ShowsValid (symbols_of reading.now.world.now.lexicon) (facts_of (world_by reading.now.table.now reading.now.world.now))
-        (source_over reading.now.over) (Links reading.now.rules.now) (term_at reading.now.table.now t) }
-    ensures read { OnTrue result (IsReadAs reading.now (term_at reading.now.table.now t) word.new.items) }
+    requires base { IsReadAs reading.now
+        (without 1 (term_at reading.now.table.now t)) word.old.items }
+    requires fits { (vec_len word.old + 1 ≤ vec_capacity word.old)
+        × (vec_len word.old + 1 ≤ vec_capacity test.old) }
+    ensures valid { IsTrue result ↔ ShowsValid (symbols_of reading.now.world.now.lexicon)
+        (facts_of (world_by reading.now.table.now reading.now.world.now))
+        (source_over reading.now.over) (Links reading.now.rules.now)
+        (term_at reading.now.table.now t) }
+    ensures read { OnTrue result
+        (IsReadAs reading.now (term_at reading.now.table.now t) word.new.items) }
     ensures short { OnTrue result (vec_len word.new ≤ vec_len word.old + 1) }
     ensures room { vec_capacity word.old ≤ vec_capacity word.new }
     ensures room_test { vec_capacity test.old ≤ vec_capacity test.new }
@@ -173,11 +178,16 @@ fn add_members(
     requires text { IsTextOver reading.now.table.now reading.now.world.now }
     requires t { IsTypeIn reading.now.table.now reading.now.world.now.lexicon t }
     requires count { count ≤ member_count (term_at reading.now.table.now t) }
-    requires base { IsReadAs reading.now (without count (term_at reading.now.table.now t)) word.old.items }
-    requires fits { (vec_len word.old + count ≤ vec_capacity word.old) × (vec_len word.old + count ≤ vec_capacity test.old) }
-    ensures valid { IsTrue result ↔ ShowsValid (symbols_of reading.now.world.now.lexicon) (facts_of (world_by reading.now.table.now reading.now.world.now))
-        (source_over reading.now.over) (Links reading.now.rules.now) (term_at reading.now.table.now t) }
-    ensures read { OnTrue result (IsReadAs reading.now (term_at reading.now.table.now t) word.new.items) }
+    requires base { IsReadAs reading.now
+        (without count (term_at reading.now.table.now t)) word.old.items }
+    requires fits { (vec_len word.old + count ≤ vec_capacity word.old)
+        × (vec_len word.old + count ≤ vec_capacity test.old) }
+    ensures valid { IsTrue result ↔ ShowsValid (symbols_of reading.now.world.now.lexicon)
+        (facts_of (world_by reading.now.table.now reading.now.world.now))
+        (source_over reading.now.over) (Links reading.now.rules.now)
+        (term_at reading.now.table.now t) }
+    ensures read { OnTrue result
+        (IsReadAs reading.now (term_at reading.now.table.now t) word.new.items) }
     ensures short { OnTrue result (vec_len word.new ≤ vec_len word.old + count) }
     ensures room { vec_capacity word.old ≤ vec_capacity word.new }
     ensures room_test { vec_capacity test.old ≤ vec_capacity test.new }
@@ -207,11 +217,16 @@ pub fn least_word(
     requires text { IsTextOver reading.now.table.now reading.now.world.now }
     requires t { IsTypeIn reading.now.table.now reading.now.world.now.lexicon t }
     requires fits { member_count (term_at reading.now.table.now t) + 2 ≤ vec_capacity word.old }
-    requires fits_test { member_count (term_at reading.now.table.now t) + 2 ≤ vec_capacity test.old }
-    ensures valid { IsTrue result ↔ ShowsValid (symbols_of reading.now.world.now.lexicon) (facts_of (world_by reading.now.table.now reading.now.world.now))
-        (source_over reading.now.over) (Links reading.now.rules.now) (term_at reading.now.table.now t) }
-    ensures read { OnTrue result (IsReadAs reading.now (term_at reading.now.table.now t) word.new.items) }
-    ensures short { OnTrue result (vec_len word.new ≤ member_count (term_at reading.now.table.now t) + 1) }
+    requires fits_test { member_count (term_at reading.now.table.now t) + 2
+        ≤ vec_capacity test.old }
+    ensures valid { IsTrue result ↔ ShowsValid (symbols_of reading.now.world.now.lexicon)
+        (facts_of (world_by reading.now.table.now reading.now.world.now))
+        (source_over reading.now.over) (Links reading.now.rules.now)
+        (term_at reading.now.table.now t) }
+    ensures read { OnTrue result
+        (IsReadAs reading.now (term_at reading.now.table.now t) word.new.items) }
+    ensures short { OnTrue result
+        (vec_len word.new ≤ member_count (term_at reading.now.table.now t) + 1) }
     ensures room { vec_capacity word.old ≤ vec_capacity word.new }
     ensures room_test { vec_capacity test.old ≤ vec_capacity test.new }
 {

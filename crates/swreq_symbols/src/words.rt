@@ -75,7 +75,8 @@ fn spelled(
 ) -> Result<Word, AllocError>
     requires ids { AreIds world.now.lexicon }
     requires t { IsTypeIn table.now world.now.lexicon t }
-    ensures { IfOk result (λ w. w ≡ spell (symbols_of world.now.lexicon) (source_by owner) (term_at table.now t) (ending end)) }
+    ensures { IfOk result (λ w. w ≡ spell (symbols_of world.now.lexicon) (source_by owner)
+        (term_at table.now t) (ending end)) }
 {
     let mut symbols = ended(alloc, end)?;
     let mut at = t;
@@ -99,8 +100,10 @@ pub fn equation(
 ) -> Result<(Word, Word), AllocError>
     requires text { IsTextOver table.now world.now }
     requires r { IsRequirementIn table.now world.now.lexicon r.now }
-    ensures left { IfOk result (λ e. e.0 ≡ left_side (symbols_of world.now.lexicon) (source_by owner) (requirement_of table.now r.now)) }
-    ensures right { IfOk result (λ e. e.1 ≡ right_side (symbols_of world.now.lexicon) (source_by owner) (requirement_of table.now r.now)) }
+    ensures left { IfOk result (λ e. e.0 ≡ left_side (symbols_of world.now.lexicon)
+        (source_by owner) (requirement_of table.now r.now)) }
+    ensures right { IfOk result (λ e. e.1 ≡ right_side (symbols_of world.now.lexicon)
+        (source_by owner) (requirement_of table.now r.now)) }
 {
     match *r {
         Requirement::Conf { subject, proto } => {

@@ -42,7 +42,8 @@ pub first_part : (old new all piece more : List ℕ) → all ≡ piece ++ more �
 first_part old new all piece more e part = subst (λ (l : List ℕ). GrewByPart old l new) (sym e) (grew_first old new piece more part)
 
 -- the text begins with a piece, which came whole, and of the rest a part came
-pub rest_part : (old mid new all piece more : List ℕ) → all ≡ piece ++ more → mid ≡ old ++ piece → GrewByPart mid more new → GrewByPart old all new
+pub rest_part : (old mid new all piece more : List ℕ) → all ≡ piece ++ more → mid ≡ old ++ piece → GrewByPart mid more new
+    → GrewByPart old all new
 rest_part old mid new all piece more e whole part =
     subst (λ (l : List ℕ). GrewByPart old l new) (sym e) (grew_next old mid new piece more whole part)
 
@@ -68,7 +69,8 @@ on_err (Err e) p = p
 -- ---- texts with a separator
 
 -- the texts of what is left are the next, after its separator, and the others
-pub followed_at : {T : Type 0} (text : T → List ℕ) (separator : List ℕ) (items : List T) (k : ℕ) (x : T) → k < length items → x ≡ get_or items k x
+pub followed_at : {T : Type 0} (text : T → List ℕ) (separator : List ℕ) (items : List T) (k : ℕ) (x : T)
+    → k < length items → x ≡ get_or items k x
     → followed separator (map text (drop k items)) ≡ (separator ++ text x) ++ followed separator (map text (drop (k + 1) items))
 followed_at text separator [] k x within is = absurd (omega (arith, within))
 followed_at text separator (y ∷ items) zero x within is =

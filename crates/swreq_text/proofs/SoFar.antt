@@ -15,5 +15,6 @@ HasGiven-length (Some left) (Some rest) bytes n came given = omega (arith, ap le
 pub Appends-more : (old mid new : Option (List ℕ)) (bytes piece : List ℕ) (at n : ℕ) → piece ≡ drop at bytes
     → Appends old mid (take at bytes) → Appends mid new (take n piece) → Appends old new (take (at + n) bytes)
 Appends-more old mid new bytes piece at n is so_far more =
-    let joined : take at bytes ++ take n piece ≡ take (at + n) bytes = ap (λ (l : List ℕ). take at bytes ++ take n l) is ∙ sym (take-add at n bytes) in
+    let joined : take at bytes ++ take n piece ≡ take (at + n) bytes =
+    ap (λ (l : List ℕ). take at bytes ++ take n l) is ∙ sym (take-add at n bytes) in
     subst (Appends old new) joined (Appends-trans old mid new (take at bytes) (take n piece) so_far more)

@@ -19,7 +19,8 @@ pub trait Print<T> {
     fn put(&self, out: &mut Vec<u8>, item: &T) -> Result<(), AllocError>
         requires { fits self.now item.now }
         ensures ok { OnOk result (out.new.items ≡ out.old.items ++ text self.now item.now) }
-        ensures err { OnErr result (GrewByPart out.old.items (text self.now item.now) out.new.items) };
+        ensures err { OnErr result
+            (GrewByPart out.old.items (text self.now item.now) out.new.items) };
 }
 
 /// Writes the texts of the items, with the separator between each two. If memory runs out, the first bytes of that may stand at
@@ -31,9 +32,11 @@ pub fn put_joined<T, P: Print<T>>(
     items: &[T],
 ) -> Result<(), AllocError>
     requires { All (P.fits printer.now) items.now }
-    ensures ok { OnOk result (out.new.items ≡ out.old.items ++ joined separator.now (map (P.text printer.now) items.now)) }
+    ensures ok { OnOk result (out.new.items
+        ≡ out.old.items ++ joined separator.now (map (P.text printer.now) items.now)) }
     ensures err { OnErr result
-        (GrewByPart out.old.items (joined separator.now (map (P.text printer.now) items.now)) out.new.items) }
+        (GrewByPart out.old.items
+        (joined separator.now (map (P.text printer.now) items.now)) out.new.items) }
 {
     match items {
         [] => Ok(()),
@@ -52,9 +55,11 @@ fn put_followed<T, P: Print<T>>(
     items: &[T],
 ) -> Result<(), AllocError>
     requires { All (P.fits printer.now) items.now }
-    ensures ok { OnOk result (out.new.items ≡ out.old.items ++ followed separator.now (map (P.text printer.now) items.now)) }
+    ensures ok { OnOk result (out.new.items
+        ≡ out.old.items ++ followed separator.now (map (P.text printer.now) items.now)) }
     ensures err { OnErr result
-        (GrewByPart out.old.items (followed separator.now (map (P.text printer.now) items.now)) out.new.items) }
+        (GrewByPart out.old.items
+        (followed separator.now (map (P.text printer.now) items.now)) out.new.items) }
 {
     for item in items {
         put_after(out, printer, separator, item)?;
@@ -71,7 +76,8 @@ fn put_after<T, P: Print<T>>(
     item: &T,
 ) -> Result<(), AllocError>
     requires { P.fits printer.now item.now }
-    ensures ok { OnOk result (out.new.items ≡ out.old.items ++ (separator.now ++ P.text printer.now item.now)) }
+    ensures ok { OnOk result
+        (out.new.items ≡ out.old.items ++ (separator.now ++ P.text printer.now item.now)) }
     ensures err { OnErr result
         (GrewByPart out.old.items (separator.now ++ P.text printer.now item.now) out.new.items) }
 {

@@ -44,7 +44,8 @@ impl<R: Read> Source for StdSource<R> {
         ensures next { IfOk result (λ n.
             Consumes (R.remaining self.old.inner) (R.remaining self.new.inner) (take n buf.new)) }
         ensures end { result ≡ Ok 0 → 0 < length buf.new → IsAtEnd (R.remaining self.new.inner) }
-        ensures kept { OnErr result (Keeps (R.remaining self.old.inner) (R.remaining self.new.inner)) }
+        ensures kept { OnErr result
+            (Keeps (R.remaining self.old.inner) (R.remaining self.new.inner)) }
         ensures counted { self.new.faults ≡
             (if is_ok result then self.old.faults else one_more self.old.faults) }
         ensures steady { self.old.faults ≤ self.new.faults }

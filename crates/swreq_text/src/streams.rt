@@ -20,7 +20,8 @@ pub trait Source {
     /// 0 for a buffer that is not empty means that nothing is left.
     fn read(&mut self, buf: &mut [u8]) -> Result<usize, IoFailed>
         ensures count { IfOk result (λ n. n ≤ length buf.new) }
-        ensures next { IfOk result (λ n. Consumes (left self.old) (left self.new) (take n buf.new)) }
+        ensures next { IfOk result
+            (λ n. Consumes (left self.old) (left self.new) (take n buf.new)) }
         ensures end { result ≡ Ok 0 → 0 < length buf.new → IsAtEnd (left self.new) }
         ensures kept { OnErr result (Keeps (left self.old) (left self.new)) }
         ensures uncounted { OnOk result (faults self.new ≡ faults self.old) }
@@ -40,7 +41,8 @@ pub trait Sink {
     fn write(&mut self, piece: &[u8]) -> Result<usize, IoFailed>
         ensures count { IfOk result (λ n. n ≤ length piece.now) }
         ensures some { result ≡ Ok 0 → length piece.now ≡ 0 }
-        ensures appended { IfOk result (λ n. Appends (taken self.old) (taken self.new) (take n piece.now)) }
+        ensures appended { IfOk result
+            (λ n. Appends (taken self.old) (taken self.new) (take n piece.now)) }
         ensures kept { OnErr result (Keeps (taken self.old) (taken self.new)) }
         ensures uncounted { OnOk result (faults self.new ≡ faults self.old) }
         ensures cause { OnErr result (HasRisen (faults self.old) (faults self.new)) }

@@ -127,7 +127,8 @@ never_passes limits (rule ∷ trace) which passes = of_birth rule.birth (passes.
 
 module _ (w : TextWorld) (limits : Limits) where
   -- no round has equations
-  never_stopped : {told : List Event} (which : Which) (trace : List Rule) → IsStoppedRound limits (protocols_of (emptied w)) which trace told → ⊥
+  never_stopped : {told : List Event} (which : Which) (trace : List Rule)
+      → IsStoppedRound limits (protocols_of (emptied w)) which trace told → ⊥
   never_stopped which trace h =
       let s = stops_here which trace h.turns in
       never_passes limits s.passed.trace s.passed.which

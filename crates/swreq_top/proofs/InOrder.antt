@@ -87,7 +87,8 @@ module _ (line : CommandLine) (w : TextWorld)
 
   never_stopped : {told : List Event} (which : Which) (trace : List Rule) → IsChecked (limits_of line) w (Some (Limit which trace)) told → ⊥
   never_stopped {told} which trace (protocols_refused refused real stops) = within which trace told (of_protocols stops)
-  never_stopped which trace (protocols_built {first = first} rules come rest e) = signatures_pass rules first come which trace (λ g c. c) rest
+  never_stopped which trace (protocols_built {first = first} rules come rest e) =
+      signatures_pass rules first come which trace (λ g c. c) rest
 
 module _ (line : CommandLine) (w : TextWorld) (p : Parts) (order : IsInOrder line p w) (checks : ChecksMachines line.command) where
   passes : {told : List Event} (cause : Refused) → IsChecked (limits_of line) w (Some cause) told → ⊥
@@ -103,7 +104,8 @@ module _ (line : CommandLine) (w : TextWorld) (p : Parts) (order : IsInOrder lin
 
 -- ---- the verdict
 
-module _ (line : CommandLine) (input : List ℕ) (p : Parts) (s : Skeleton) (are : AreParts line.command input p) (stands : StandsFor p.source s)
+module _ (line : CommandLine) (input : List ℕ) (p : Parts) (s : Skeleton) (are : AreParts line.command input p)
+    (stands : StandsFor p.source s)
     (resolve : Resolve p.source s) (each : (w : TextWorld) → IsWorldOf p.source s w → IsInOrder line p w) where
   same_parts : (q : Parts) → AreParts line.command input q → q ≡ p
   same_parts q also = one_split line.command input q p also are
@@ -111,7 +113,8 @@ module _ (line : CommandLine) (input : List ℕ) (p : Parts) (s : Skeleton) (are
   in_order : (w : TextWorld) → HasWorld line input w → IsInOrder line p w
   in_order w has =
       let text : IsWorldOfText p.source w = subst (λ (q : Parts). IsWorldOfText q.source w) (same_parts has.parts has.are) has.of_text in
-      each w (subst (λ (t : Skeleton). IsWorldOf p.source t w) (only_skeleton p.source s stands resolve text.skeleton text.stands) text.world)
+      each w
+      (subst (λ (t : Skeleton). IsWorldOf p.source t w) (only_skeleton p.source s stands resolve text.skeleton text.stands) text.world)
 
   second : (w : TextWorld) → HasWorld line input w → (c : Content) → content_of line.command ≡ c → IsSecondFor c w p
   second w has c is = subst (λ (k : Content). IsSecondFor k w p) is (in_order w has).second
@@ -123,7 +126,8 @@ module _ (line : CommandLine) (input : List ℕ) (p : Parts) (s : Skeleton) (are
       never_without_world p.source s stands resolve refusal (subst (λ (z : Parts). HasNoWorld z.source refusal) (same_parts q also) has)
   never_refused_in_order o told (inl (unchecked w cause checks has checked is)) = passes line w p (in_order w has) checks cause checked
   never_refused_in_order o told (inl (misfit w n judges has first is untold)) =
-      no_sections w.lexicon (length w.queries) (lines p.second) n (rw (same_parts has.parts has.are) at first) (second w has Judgements judges)
+      no_sections w.lexicon (length w.queries) (lines p.second) n (rw (same_parts has.parts has.are) at first)
+      (second w has Judgements judges)
   never_refused_in_order o told (inl (past_a_limit_of_families which trace c asked stops is)) =
       (in_order c.world c.has_world).within c.checks which trace c.more (of_families asked stops)
   never_refused_in_order o told (inl (bad_calls refusal c asked refuses untold is)) =

@@ -53,5 +53,6 @@ IsSecondFor c w p = Unit {0}
 -- parameter, and no rounds that are run for it pass a limit; and the second part is one for the command.
 pub record IsInOrder (line : CommandLine) (p : Parts) (w : TextWorld) : Type 0 where
   pub formed : ChecksMachines line.command → IsWellFormed (facts_of w) (map source_of w.signatures)
-  pub within : ChecksMachines line.command → (which : Which) (trace : List Rule) (told : List Event) → PassesALimit line w which trace told → ⊥
+  pub within : ChecksMachines line.command → (which : Which) (trace : List Rule) (told : List Event)
+      → PassesALimit line w which trace told → ⊥
   pub second : IsSecondFor (content_of line.command) w p

@@ -53,8 +53,8 @@ abbrev pub known_text : Command → Option Text → Option Text
 known_text (command.Gen n) left = Some (generated n)
 known_text _ left = left
 
--- What is left of the text that the source had, once it has a verdict: nothing, or of one that is too long all but the first 1,048,577 bytes,
--- one more than the limit.
+-- What is left of the text that the source had, once it has a verdict: nothing, or of one that is too long all but the first 1,048,577
+-- bytes, one more than the limit.
 abbrev pub IsRead : Option Text → Option Text → Type 0
 IsRead left rest =
     IfSome left (λ text. ((length text ≤ 1048576) × IsAtEnd rest) ⊎ ((1048576 < length text) × GivesCount left rest 1048577))
@@ -112,7 +112,8 @@ module _ (r : Run) where
   -- What a run has to print, and with which status, by its cause.
   pub data HasToPrint : (status : ℕ) → Text → Type 0 where
     -- 0, 1, 3: the words say a command, and the text has a verdict.
-    verdict : {status : ℕ} {bytes : Text} (line : CommandLine) → Says r.words line → HasVerdict line (record { status = status; output = bytes })
+    verdict : {status : ℕ} {bytes : Text} (line : CommandLine) → Says r.words line
+        → HasVerdict line (record { status = status; output = bytes })
         → NoReadFailed → HasToPrint status bytes
     -- 2: the words are wrong. Nothing is told.
     wrong_words : AreWrong r.words → Tells [] → NoReadFailed → HasToPrint 2 (refusal_line refusals.Usage)

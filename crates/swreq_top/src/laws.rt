@@ -37,15 +37,18 @@ pub fn empty_text_is_answerable()
 /// answerable. In order is one whose sides are type parameters, for which no rounds pass a limit, and which has the second part that is read.
 pub fn texts_in_order_are_answerable()
     ensures { (r : Run) (line : CommandLine) (text : Text) (p : Parts) (s : Skeleton)
-        → Says r.words line → known_text line.command r.before.left ≡ Some text → AreParts line.command text p
-        → StandsFor p.source s → Resolve p.source s → ((w : TextWorld) → IsWorldOf p.source s w → IsInOrder line p w)
+        → Says r.words line → known_text line.command r.before.left ≡ Some text
+        → AreParts line.command text p
+        → StandsFor p.source s → Resolve p.source s
+        → ((w : TextWorld) → IsWorldOf p.source s w → IsInOrder line p w)
         → IsAnswerable r }
 {}
 
 /// A text whose check refuses nothing is well formed: each side of each requirement is a type parameter. And no check refuses a side of a text
 /// that is well formed.
 pub fn checked_texts_are_well_formed()
-    ensures formed { (text : Text) (w : TextWorld) (limits : Limits) (rules : List Rule) (told : List Event)
+    ensures formed { (text : Text) (w : TextWorld) (limits : Limits)
+        (rules : List Rule) (told : List Event)
         → IsWorldOfText text w → IsBuiltOver limits w rules told
         → IsWellFormed (facts_of w) (map source_of w.signatures) }
     ensures unrefused { (w : TextWorld) (limits : Limits) (at : ℕ) (told : List Event)

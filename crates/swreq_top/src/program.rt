@@ -119,7 +119,8 @@ fn answer<S: Source, W: Watch>(
 ) -> Result<Outcome, ReadErr>
     requires limits { AreInRange (limits_of line.now) }
     requires count { HasCount line.now.command }
-    ensures answer { Answers line.now (S.left src.old) (S.left src.new) (W.told watch.old) (W.told watch.new) result }
+    ensures answer { Answers line.now (S.left src.old) (S.left src.new) (W.told watch.old)
+        (W.told watch.new) result }
     ensures unread { IsGen line.now.command → src.new ≡ src.old }
     ensures reads { (n : ℕ) × (n ≤ 1048577) × GivesCount (S.left src.old) (S.left src.new) n }
     ensures fault { result ≡ Err Fault → HasRisen (S.faults src.old) (S.faults src.new) }
@@ -143,7 +144,8 @@ fn replied<W: Watch>(
 ) -> Result<Outcome, ReadErr>
     requires limits { AreInRange (limits_of line.now) }
     requires count { HasCount line.now.command }
-    ensures { AnswersText line.now (answered_text line.now.command text.now) (W.told watch.old) (W.told watch.new) result }
+    ensures { AnswersText line.now (answered_text line.now.command text.now) (W.told watch.old)
+        (W.told watch.new) result }
 {
     let outcome = reply(alloc, line, text, watch)?;
     Ok(outcome)
@@ -151,7 +153,8 @@ fn replied<W: Watch>(
 
 /// Writes the bytes, and gives the status, which is 5 where a write failed.
 fn finish<K: Sink>(out: &mut K, status: u8, bytes: &[u8]) -> u8
-    ensures { IsFinished (K.taken out.old) (K.taken out.new) (K.faults out.old) (K.faults out.new) bytes.now status result }
+    ensures { IsFinished (K.taken out.old) (K.taken out.new) (K.faults out.old)
+        (K.faults out.new) bytes.now status result }
 {
     match write_all(out, bytes) {
         Ok(()) => status,

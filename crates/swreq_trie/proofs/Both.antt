@@ -61,12 +61,16 @@ module _ (below own : List Entry) (left : List Symbol) (number : ℕ) where
 
   of_either : (place : Place) → IsPlace (below ++ own) left number place → IsPlace below left number place ⊎ IsPlace own left number place
   of_either place (inl o) = elim (get_either below own o.0 o.2.entry o.2.is_entry) [
-    | inl h ↦ inl (inl (o.0, o.1, record { entry = o.2.entry; is_entry = h; below = o.2.below; meets = o.2.meets; place_is = o.2.place_is }))
-    | inr h ↦ inr (inl (h.0, o.1, record { entry = o.2.entry; is_entry = h.2; below = o.2.below; meets = o.2.meets; place_is = o.2.place_is }))
+    | inl h ↦
+        inl (inl (o.0, o.1, record { entry = o.2.entry; is_entry = h; below = o.2.below; meets = o.2.meets; place_is = o.2.place_is }))
+    | inr h ↦
+        inr (inl (h.0, o.1, record { entry = o.2.entry; is_entry = h.2; below = o.2.below; meets = o.2.meets; place_is = o.2.place_is }))
   ]
   of_either place (inr (inl o)) = elim (get_either below own o.0 o.2.entry o.2.is_entry) [
-    | inl h ↦ inl (inr (inl (o.0, o.1, record { entry = o.2.entry; is_entry = h; below = o.2.below; meets = o.2.meets; place_is = o.2.place_is })))
-    | inr h ↦ inr (inr (inl (h.0, o.1, record { entry = o.2.entry; is_entry = h.2; below = o.2.below; meets = o.2.meets; place_is = o.2.place_is })))
+    | inl h ↦ inl
+        (inr (inl (o.0, o.1, record { entry = o.2.entry; is_entry = h; below = o.2.below; meets = o.2.meets; place_is = o.2.place_is })))
+    | inr h ↦ inr
+        (inr (inl (h.0, o.1, record { entry = o.2.entry; is_entry = h.2; below = o.2.below; meets = o.2.meets; place_is = o.2.place_is })))
   ]
   of_either place (inr (inr o)) = inl (inr (inr o))
 

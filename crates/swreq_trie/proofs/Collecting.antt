@@ -34,11 +34,13 @@ gains_like Gained Other old new there back g = record {
 
 -- some were, and then others
 pub gains_on : (Gained Other Both : ℕ × ℕ × ℕ → Type 0) (a b c : List (ℕ × ℕ × ℕ)) → ((key : ℕ × ℕ × ℕ) → Gained key → Both key)
-    → ((key : ℕ × ℕ × ℕ) → Other key → Both key) → ((key : ℕ × ℕ × ℕ) → Both key → Gained key ⊎ Other key) → Gains Gained a b → Gains Other b c
+    → ((key : ℕ × ℕ × ℕ) → Other key → Both key) → ((key : ℕ × ℕ × ℕ) → Both key → Gained key ⊎ Other key)
+    → Gains Gained a b → Gains Other b c
     → Gains Both a c
 gains_on Gained Other Both a b c first second which f g = record {
   kept = λ key h. g.kept key (f.kept key h);
-  only = λ key h. elim (g.only key h) [ inl i ↦ elim (f.only key i) [ inl j ↦ inl j | inr j ↦ inr (first key j) ] | inr i ↦ inr (second key i) ];
+  only = λ key h.
+      elim (g.only key h) [ inl i ↦ elim (f.only key i) [ inl j ↦ inl j | inr j ↦ inr (first key j) ] | inr i ↦ inr (second key i) ];
   all = λ key w. elim (which key w) [ inl i ↦ g.kept key (f.all key i) | inr i ↦ g.all key i ];
 }
 
@@ -50,7 +52,8 @@ module _ {A : Type 0} (xs : List A) (Gained : A → ℕ × ℕ × ℕ → Type 0
   pub gains_start : (keys : List (ℕ × ℕ × ℕ)) → Gains (GainedBelow 0) keys keys
   gains_start keys = gains_none (GainedBelow 0) keys (λ key w. (let l = w.2 in omega (arith, l)))
 
-  pub gains_more : (i : ℕ) (d : A) → i < length xs → (a b c : List (ℕ × ℕ × ℕ)) → Gains (GainedBelow i) a b → Gains (Gained (get_or xs i d)) b c
+  pub gains_more : (i : ℕ) (d : A) → i < length xs → (a b c : List (ℕ × ℕ × ℕ)) → Gains (GainedBelow i) a b
+      → Gains (Gained (get_or xs i d)) b c
       → Gains (GainedBelow (i + 1)) a c
   gains_more i d lt a b c = gains_on (GainedBelow i) (Gained (get_or xs i d)) (GainedBelow (i + 1)) a b c
       (λ key w. (w.0, w.1, (let l = w.2 in omega (arith, l)), w.3, w.4))
@@ -61,7 +64,8 @@ module _ {A : Type 0} (xs : List A) (Gained : A → ℕ × ℕ × ℕ → Type 0
         | inr e ↦ inl (w.0, w.1, (let l = w.2 in omega (arith, l, e)), w.3, w.4)
       ])
 
-  pub gains_all : (i : ℕ) → length xs ≤ i → (a b : List (ℕ × ℕ × ℕ)) → Gains (GainedBelow i) a b → Gains (λ key. (x : A) × Holds xs x × Gained x key) a b
+  pub gains_all : (i : ℕ) → length xs ≤ i → (a b : List (ℕ × ℕ × ℕ)) → Gains (GainedBelow i) a b
+      → Gains (λ key. (x : A) × Holds xs x × Gained x key) a b
   gains_all i le a b = gains_like (GainedBelow i) (λ key. (x : A) × Holds xs x × Gained x key) a b
       (λ key w. (w.1, (w.0, w.3), w.4))
       (λ key w. (w.1.0, w.0, (let l = slice_get_within xs w.1.0 w.0 w.1.1 in omega (arith, l, le)), w.1.1, w.2))
@@ -74,7 +78,8 @@ module _ (Gained : ℕ → ℕ × ℕ × ℕ → Type 0) where
   pub gains_at_start : (keys : List (ℕ × ℕ × ℕ)) → Gains (GainedAtBelow 0) keys keys
   gains_at_start keys = gains_none (GainedAtBelow 0) keys (λ key w. (let l = w.1 in omega (arith, l)))
 
-  pub gains_at_more : (i : ℕ) (a b c : List (ℕ × ℕ × ℕ)) → Gains (GainedAtBelow i) a b → Gains (Gained i) b c → Gains (GainedAtBelow (i + 1)) a c
+  pub gains_at_more : (i : ℕ) (a b c : List (ℕ × ℕ × ℕ)) → Gains (GainedAtBelow i) a b → Gains (Gained i) b c
+      → Gains (GainedAtBelow (i + 1)) a c
   gains_at_more i a b c = gains_on (GainedAtBelow i) (Gained i) (GainedAtBelow (i + 1)) a b c
       (λ key w. (w.0, (let l = w.1 in omega (arith, l)), w.2))
       (λ key w. (i, omega arith, w))
@@ -125,5 +130,6 @@ module _ (stored : List Entry) (left : List Symbol) (number : ℕ)
           | inr o ↦ inr (o.0, own_within o.0 key (own_key key o.0 o.1), own_key key o.0 o.1)
         ])
       ])
-      (gains_on Begins Insides Onto old a b (λ key o. (o.0, 0, o.1)) (λ key o. (o.0, o.1, o.3)) (λ key o. begins_or_insides key o.0 o.1 o.2) f g)
+      (gains_on Begins Insides Onto old a b (λ key o. (o.0, 0, o.1)) (λ key o. (o.0, o.1, o.3))
+      (λ key o. begins_or_insides key o.0 o.1 o.2) f g)
       (gains_on From Own (λ key. From key ⊎ Own key) b c d (λ key o. inl o) (λ key o. inr o) (λ key w. w) h i)

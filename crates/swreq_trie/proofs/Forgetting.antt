@@ -55,7 +55,8 @@ set_elsewhere (y ∷ xs) zero x (suc n) l = refl
 set_elsewhere (y ∷ xs) (suc k) x (suc n) l = set_elsewhere xs k x n (omega (arith, l))
 
 -- one list more
-pub forgotten_more : (old lists new : List (Vec Spot Global)) (side n : ℕ) → ForgetsBelow old lists side n → (before after : Vec Spot Global)
+pub forgotten_more : (old lists new : List (Vec Spot Global)) (side n : ℕ) → ForgetsBelow old lists side n
+    → (before after : Vec Spot Global)
     → slice_get lists n ≡ Some before → new ≡ set lists n after → Retains before.items after.items side → ForgetsBelow old new side (n + 1)
 forgotten_more old lists new side n f before after b e r = rw e (record {
   as_many = length_set lists n after ∙ f.as_many;

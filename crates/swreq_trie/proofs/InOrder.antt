@@ -23,7 +23,8 @@ use Rattle.swreq_orders.proofs.Elements.{get_cases}
 use Rattle.swreq_trie.proofs.Marks.{holds_last, holds_more}
 
 key_total : IsTotalOrder key_cmp
-key_total = then_total (then_total (on_total (λ (t : ℕ × ℕ × ℕ). t.0) nat_cmp_total) (on_total (λ (t : ℕ × ℕ × ℕ). t.1) nat_cmp_total)) (on_total (λ (t : ℕ × ℕ × ℕ). t.2) nat_cmp_total)
+key_total = then_total (then_total (on_total (λ (t : ℕ × ℕ × ℕ). t.0) nat_cmp_total) (on_total (λ (t : ℕ × ℕ × ℕ). t.1) nat_cmp_total))
+    (on_total (λ (t : ℕ × ℕ × ℕ). t.2) nat_cmp_total)
 
 key_exact : (a b : ℕ × ℕ × ℕ) → key_cmp a b ≡ Equal → a ≡ b
 key_exact a b h =
@@ -41,7 +42,8 @@ not_below a b h = go (key_cmp a b) refl
     go Equal e = inr (key_exact a b e)
     go Greater e = absurd (let k = key_total.antisymm b a in let l : key_cmp b a ≡ Less = cc in true≢false (sym (ap is_lt l) ∙ h))
 
-next_key : (keys : List (ℕ × ℕ × ℕ)) → IsSorted key_cmp keys → (n : ℕ) (a b : ℕ × ℕ × ℕ) → slice_get keys n ≡ Some a → slice_get keys (suc n) ≡ Some b
+next_key : (keys : List (ℕ × ℕ × ℕ)) → IsSorted key_cmp keys → (n : ℕ) (a b : ℕ × ℕ × ℕ) → slice_get keys n ≡ Some a
+    → slice_get keys (suc n) ≡ Some b
     → (key_cmp a b ≡ Less) ⊎ (a ≡ b)
 next_key keys sorted n a b e f =
     let l = slice_get_within keys (suc n) b f in
@@ -60,7 +62,8 @@ no_places keys = record {
 
 module _ (keys : List (ℕ × ℕ × ℕ)) (n : ℕ) (places : List Place) (p : ArePlacesBelow keys n places) where
   -- a key that is the same as the one before it
-  pub place_kept : (m : ℕ) (key : ℕ × ℕ × ℕ) → suc m ≡ n → slice_get keys m ≡ Some key → slice_get keys n ≡ Some key → ArePlacesBelow keys (n + 1) places
+  pub place_kept : (m : ℕ) (key : ℕ × ℕ × ℕ) → suc m ≡ n → slice_get keys m ≡ Some key → slice_get keys n ≡ Some key
+      → ArePlacesBelow keys (n + 1) places
   place_kept m key next e f = record {
     each = p.each;
     all = λ k other l g. elim (cases_eq k n) [
@@ -149,7 +152,8 @@ pub collected : (stored : List Entry) (left : List Symbol) (number : ℕ) (keys 
 collected stored left number keys sorted places added moved of = record {
   each = is_place;
   all = λ p h. of.all (key_of p) (holds_along keys sorted (key_of p) moved (added.all (key_of p) h));
-  ordered = λ j k p q l e f. place_less p q (greater_is stored left number p (is_place j p e) ∙ sym (greater_is stored left number q (is_place k q f)))
+  ordered = λ j k p q l e f.
+      place_less p q (greater_is stored left number p (is_place j p e) ∙ sym (greater_is stored left number q (is_place k q f)))
       (of.ordered j k p q l e f);
 }
   where

@@ -24,36 +24,48 @@ pub has_spot_kept : (edges edges' : List Edge) (inside inside' : List (Vec Spot 
     → (spot : Spot) (symbol : Symbol) → HasSpot edges inside spot symbol → HasSpot edges' inside' spot symbol
 has_spot_kept edges edges' inside inside' g q spot symbol s = (s.0, child_kept edges edges' g 0 symbol s.0 s.1, q s.0 spot s.2)
 
-pub passing_kept : (edges edges' : List Edge) (passing passing' : List (Vec Spot Global)) → IsGrown edges edges' → KeepsListed passing passing'
+pub passing_kept : (edges edges' : List Edge) (passing passing' : List (Vec Spot Global)) → IsGrown edges edges'
+    → KeepsListed passing passing'
     → (begin : Spot) (left : List Symbol) (n : ℕ) → IsPassingUpTo edges passing begin left n → IsPassingUpTo edges' passing' begin left n
 passing_kept edges edges' passing passing' g q begin left n h front rest e some short =
     let r = h front rest e some short in (r.0, leads_kept edges edges' g front 0 r.0 r.1, q r.0 begin r.2)
 
-pub way_kept : (edges edges' : List Edge) → IsGrown edges edges' → (left : List Symbol) (node : ℕ) → IsOnWay edges left node → IsOnWay edges' left node
+pub way_kept : (edges edges' : List Edge) → IsGrown edges edges' → (left : List Symbol) (node : ℕ) → IsOnWay edges left node
+    → IsOnWay edges' left node
 way_kept edges edges' g left node w = (w.0, w.1, w.2, leads_kept edges edges' g w.0 0 node w.3)
 
-pub within_kept : (edges edges' : List Edge) → IsGrown edges edges' → (left : List Symbol) (at node : ℕ) → IsWithin edges left at node → IsWithin edges' left at node
+pub within_kept : (edges edges' : List Edge) → IsGrown edges edges' → (left : List Symbol) (at node : ℕ) → IsWithin edges left at node
+    → IsWithin edges' left at node
 within_kept edges edges' g left at node w = (w.0, w.1, w.2, child_kept edges edges' g 0 w.0 node w.3)
 
-passes_kept : (edges edges' : List Edge) → IsGrown edges edges' → (stored : List Entry) (node : ℕ) (spot : Spot) → PassesRight edges stored node spot
+passes_kept : (edges edges' : List Edge) → IsGrown edges edges' → (stored : List Entry) (node : ℕ) (spot : Spot)
+    → PassesRight edges stored node spot
     → PassesRight edges' stored node spot
 passes_kept edges edges' g stored node spot r =
     record { entry = r.entry; is_entry = r.is_entry; spot_is = r.spot_is; on_way = way_kept edges edges' g r.entry.left node r.on_way }
 
-stands_kept : (edges edges' : List Edge) → IsGrown edges edges' → (stored : List Entry) (node : ℕ) (spot : Spot) → StandsRight edges stored node spot
+stands_kept : (edges edges' : List Edge) → IsGrown edges edges' → (stored : List Entry) (node : ℕ) (spot : Spot)
+    → StandsRight edges stored node spot
     → StandsRight edges' stored node spot
 stands_kept edges edges' g stored node spot r =
-    record { entry = r.entry; is_entry = r.is_entry; spot_is = r.spot_is; within = within_kept edges edges' g r.entry.left spot.at node r.within }
+    record {
+      entry = r.entry;
+      is_entry = r.is_entry;
+      spot_is = r.spot_is;
+      within = within_kept edges edges' g r.entry.left spot.at node r.within;
+    }
 
 -- nothing is listed yet
-pub none_passing : (edges : List Edge) (passing : List (Vec Spot Global)) (begin : Spot) (left : List Symbol) → IsPassingUpTo edges passing begin left 0
+pub none_passing : (edges : List Edge) (passing : List (Vec Spot Global)) (begin : Spot) (left : List Symbol)
+    → IsPassingUpTo edges passing begin left 0
 none_passing edges passing begin left front rest e some short = absurd (omega (arith, some, short))
 
 pub none_inside : (edges : List Edge) (inside : List (Vec Spot Global)) (k : ℕ) (entry : Entry) → IsInsideBelow edges inside k entry 1
 none_inside edges inside k entry at symbol l m e = absurd (omega (arith, l, m))
 
 -- a symbol more on the way
-pub passing_on : (edges : List Edge) (passing : List (Vec Spot Global)) (begin : Spot) (left : List Symbol) (n node : ℕ) → IsPassingUpTo edges passing begin left n
+pub passing_on : (edges : List Edge) (passing : List (Vec Spot Global)) (begin : Spot) (left : List Symbol) (n node : ℕ)
+    → IsPassingUpTo edges passing begin left n
     → Leads edges 0 (take (n + 1) left) node → IsListed passing node begin → IsPassingUpTo edges passing begin left (n + 1)
 passing_on edges passing begin left n node below leads listed front rest e some short = elim (cases_lt n (length front)) [
   | inr l ↦ below front rest e some l
@@ -89,9 +101,11 @@ index_of_none lengths = record {
   inside_right = λ node spot h. (let e = h.1 in cc);
 }
 
-module _ (edges edges' : List Edge) (ends ends' : List (Option ℕ)) (passing passing' inside inside' : List (Vec Spot Global)) (lengths : Lengths)
+module _ (edges edges' : List Edge) (ends ends' : List (Option ℕ))
+    (passing passing' inside inside' : List (Vec Spot Global)) (lengths : Lengths)
     (stored : List Entry) (index : IsIndex edges ends passing inside lengths stored) (grown : IsGrown edges edges') (fork : IsForked edges')
-    (same : SameEnds ends ends') (begun : KeepsListed passing passing') (within : KeepsListed inside inside') (begun_only : KeepsListed passing' passing)
+    (same : SameEnds ends ends') (begun : KeepsListed passing passing') (within : KeepsListed inside inside')
+    (begun_only : KeepsListed passing' passing)
     (within_only : KeepsListed inside' inside) where
   -- where more edges and room come in, it stays an index of the same sides
   pub index_grown : IsIndex edges' ends' passing' inside' lengths stored
@@ -111,7 +125,8 @@ module _ (edges edges' : List Edge) (ends ends' : List (Option ℕ)) (passing pa
         });
     has_end = λ k entry e. (let h = index.has_end k entry e in
         (h.0, h.1, leads_kept edges edges' grown entry.left 0 h.0 h.2, (same h.0 h.1).0 h.3));
-    is_passing = λ k entry e. passing_kept edges edges' passing passing' grown begun (begin_of k entry) entry.left (length entry.left) (index.is_passing k entry e);
+    is_passing = λ k entry e. passing_kept edges edges' passing passing' grown begun (begin_of k entry) entry.left (length entry.left)
+        (index.is_passing k entry e);
     is_inside = λ k entry e at symbol some l g. has_spot_kept edges edges' inside inside' grown within (spot_of k entry at) symbol
         (index.is_inside k entry e at symbol some l g);
     passing_right = λ node spot h. passes_kept edges edges' grown stored node spot (index.passing_right node spot (begun_only node spot h));
@@ -119,28 +134,36 @@ module _ (edges edges' : List Edge) (ends ends' : List (Option ℕ)) (passing pa
   }
 
 -- a copy of all that it has
-pub index_copied : (edges edges' : List Edge) (ends ends' : List (Option ℕ)) (passing passing' inside inside' : List (Vec Spot Global)) (lengths : Lengths)
-    (stored stored' : List Entry) → IsIndex edges ends passing inside lengths stored → edges' ≡ edges → ends' ≡ ends → AreCopies passing passing'
+pub index_copied : (edges edges' : List Edge) (ends ends' : List (Option ℕ))
+    (passing passing' inside inside' : List (Vec Spot Global)) (lengths : Lengths)
+    (stored stored' : List Entry) → IsIndex edges ends passing inside lengths stored → edges' ≡ edges → ends' ≡ ends
+    → AreCopies passing passing'
     → AreCopies inside inside' → stored' ≡ stored → IsIndex edges' ends' passing' inside' lengths stored'
 index_copied edges edges' ends ends' passing passing' inside inside' lengths stored stored' index e f begun within g =
     rw (e, f, g) (index_grown edges edges ends ends passing passing' inside inside' lengths stored index (grown_itself edges) index.forked
-    (λ node number. ((λ h. h), (λ h. h))) (copies_keep passing passing' begun) (copies_keep inside inside' within) (copies_keep_back passing passing' begun)
+    (λ node number. ((λ h. h), (λ h. h))) (copies_keep passing passing' begun) (copies_keep inside inside' within)
+    (copies_keep_back passing passing' begun)
     (copies_keep_back inside inside' within))
 
 -- the way of a side was made, which is not stored yet
-module _ (edges edges' : List Edge) (ends ends' : List (Option ℕ)) (passing passing' inside inside' : List (Vec Spot Global)) (lengths : Lengths)
-    (stored : List Entry) (index : IsIndex edges ends passing inside lengths stored) (entry : Entry) (grown : IsGrown edges edges') (fork : IsForked edges')
+module _ (edges edges' : List Edge) (ends ends' : List (Option ℕ))
+    (passing passing' inside inside' : List (Vec Spot Global)) (lengths : Lengths)
+    (stored : List Entry) (index : IsIndex edges ends passing inside lengths stored) (entry : Entry) (grown : IsGrown edges edges')
+    (fork : IsForked edges')
     (same : SameEnds ends ends') (begun : KeepsListed passing passing') (within : KeepsListed inside inside')
     (passes : ListsOnly passing passing' (λ n s. (s ≡ begin_of (length stored) entry) × IsOnWay edges' entry.left n))
     (stands : ListsOnly inside inside' (λ n s. (at : ℕ) × (s ≡ spot_of (length stored) entry at) × IsWithin edges' entry.left at n)) where
   -- if memory runs out, its spots are forgotten
-  module _ (passing'' inside'' : List (Vec Spot Global)) (side : ℕ) (is_side : side ≡ length stored) (forgot : Forgets passing' passing'' side)
+  module _ (passing'' inside'' : List (Vec Spot Global)) (side : ℕ) (is_side : side ≡ length stored)
+      (forgot : Forgets passing' passing'' side)
       (forgot_inside : Forgets inside' inside'' side) where
     below_passing : (node : ℕ) (spot : Spot) → IsListed passing node spot → spot.side < side
-    below_passing node spot h = let r = index.passing_right node spot h in let l = slice_get_within stored spot.side r.entry r.is_entry in omega (arith, l, is_side)
+    below_passing node spot h =
+        let r = index.passing_right node spot h in let l = slice_get_within stored spot.side r.entry r.is_entry in omega (arith, l, is_side)
 
     below_inside : (node : ℕ) (spot : Spot) → IsListed inside node spot → spot.side < side
-    below_inside node spot h = let r = index.inside_right node spot h in let l = slice_get_within stored spot.side r.entry r.is_entry in omega (arith, l, is_side)
+    below_inside node spot h =
+        let r = index.inside_right node spot h in let l = slice_get_within stored spot.side r.entry r.is_entry in omega (arith, l, is_side)
 
     pub index_forgot : IsIndex edges' ends' passing'' inside'' lengths stored
     index_forgot = index_grown edges edges' ends ends' passing passing'' inside inside'' lengths stored index grown fork same
@@ -157,7 +180,8 @@ module _ (edges edges' : List Edge) (ends ends' : List (Option ℕ)) (passing pa
 
   -- a side more
   module _ (ends'' : List (Option ℕ)) (node : ℕ) (leads : Leads edges' 0 entry.left node) (marked : Marked ends' ends'' node entry.number)
-      (listed : IsPassing edges' passing' (begin_of (length stored) entry) entry.left) (spots : IsInside edges' inside' (length stored) entry)
+      (listed : IsPassing edges' passing' (begin_of (length stored) entry) entry.left)
+      (spots : IsInside edges' inside' (length stored) entry)
       (long : 0 < length entry.left) where
     abbrev more : List Entry
     more = stored ++ entry ∷ []
@@ -211,13 +235,18 @@ module _ (edges edges' : List Edge) (ends ends' : List (Option ℕ)) (passing pa
       within = within_kept edges edges' grown r.entry.left spot.at n r.within;
     }
 
-    passes_new : (n : ℕ) (spot : Spot) → spot ≡ begin_of (length stored) entry → IsOnWay edges' entry.left n → PassesRight edges' more n spot
-    passes_new n spot e way = subst (PassesRight edges' more n) (sym e) (record { entry = entry; is_entry = get_last stored entry; spot_is = refl; on_way = way })
+    passes_new : (n : ℕ) (spot : Spot) → spot ≡ begin_of (length stored) entry → IsOnWay edges' entry.left n
+        → PassesRight edges' more n spot
+    passes_new n spot e way =
+        subst (PassesRight edges' more n) (sym e) (record { entry = entry; is_entry = get_last stored entry; spot_is = refl; on_way = way })
 
-    stands_new : (n : ℕ) (spot : Spot) (at : ℕ) → spot ≡ spot_of (length stored) entry at → IsWithin edges' entry.left at n → StandsRight edges' more n spot
-    stands_new n spot at e w = subst (StandsRight edges' more n) (sym e) (record { entry = entry; is_entry = get_last stored entry; spot_is = refl; within = w })
+    stands_new : (n : ℕ) (spot : Spot) (at : ℕ) → spot ≡ spot_of (length stored) entry at → IsWithin edges' entry.left at n
+        → StandsRight edges' more n spot
+    stands_new n spot at e w =
+        subst (StandsRight edges' more n) (sym e) (record { entry = entry; is_entry = get_last stored entry; spot_is = refl; within = w })
 
-    pub index_more : (new : List Entry) (lengths' : Lengths) → new ≡ stored ++ entry ∷ [] → lengths'.shortest ≡ min lengths.shortest (length entry.left)
+    pub index_more : (new : List Entry) (lengths' : Lengths) → new ≡ stored ++ entry ∷ []
+        → lengths'.shortest ≡ min lengths.shortest (length entry.left)
         → lengths'.longest ≡ max lengths.longest (length entry.left) → IsIndex edges' ends'' passing' inside' lengths' new
     index_more new lengths' is least most = rw is (record {
       forked = fork;
@@ -244,11 +273,14 @@ module _ (edges edges' : List Edge) (ends ends' : List (Option ℕ)) (passing pa
         | inr h ↦ rw (h.0, h.1) listed
       ];
       is_inside = λ k e g. elim (get_cases stored entry k e g) [
-        | inl h ↦ (λ at symbol some l f. has_spot_kept edges edges' inside inside' grown within (spot_of k e at) symbol (index.is_inside k e h at symbol some l f))
+        | inl h ↦ (λ at symbol some l f.
+            has_spot_kept edges edges' inside inside' grown within (spot_of k e at) symbol (index.is_inside k e h at symbol some l f))
         | inr h ↦ rw (h.0, h.1) spots
       ];
-      passing_right = λ m spot g. elim (passes m spot g) [ inl h ↦ passes_still m spot (index.passing_right m spot h) | inr h ↦ passes_new m spot h.0 h.1 ];
-      inside_right = λ m spot g. elim (stands m spot g) [ inl h ↦ stands_still m spot (index.inside_right m spot h) | inr h ↦ stands_new m spot h.0 h.1 h.2 ];
+      passing_right = λ m spot g.
+          elim (passes m spot g) [ inl h ↦ passes_still m spot (index.passing_right m spot h) | inr h ↦ passes_new m spot h.0 h.1 ];
+      inside_right = λ m spot g.
+          elim (stands m spot g) [ inl h ↦ stands_still m spot (index.inside_right m spot h) | inr h ↦ stands_new m spot h.0 h.1 h.2 ];
     })
 
 -- what the way of a word says of the stored sides
@@ -285,4 +317,5 @@ module _ (edges : List Edge) (ends : List (Option ℕ)) (passing inside : List (
 
   -- none begins a word that is shorter than all of them
   pub none_so_short : length w < lengths.shortest → NoneBegins stored w
-  none_so_short short k entry e b = let size = simp length-append at (ap length b.1) in let l = index.none_shorter k entry e in absurd (omega (arith, size, short, l))
+  none_so_short short k entry e b =
+      let size = simp length-append at (ap length b.1) in let l = index.none_shorter k entry e in absurd (omega (arith, size, short, l))

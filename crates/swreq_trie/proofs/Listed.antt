@@ -33,7 +33,8 @@ stands_at : (u before q : List Symbol) (x : Symbol) (at : ℕ) → u ≡ before 
 stands_at u before q x at e l =
     subst (λ w. slice_get w at ≡ Some x) (sym e) (subst (λ n. slice_get (before ++ (x ∷ q)) n ≡ Some x) l (get_after before x q))
 
-pub meeting_symbol : (u v : List Symbol) (at : ℕ) → 0 < length v → Meets u v at → (x : Symbol) × (slice_get u at ≡ Some x) × (slice_get v 0 ≡ Some x)
+pub meeting_symbol : (u v : List Symbol) (at : ℕ) → 0 < length v → Meets u v at
+    → (x : Symbol) × (slice_get u at ≡ Some x) × (slice_get v 0 ≡ Some x)
 meeting_symbol u v at some (inl o) =
     let c = first_symbol o.common o.common_some in (
       c.0,
@@ -54,7 +55,8 @@ last_rest (y ∷ []) zero x e l = (let h : y ≡ x = cc in ap (λ z. z ∷ []) h
 last_rest (y ∷ (z ∷ u)) zero x e l = absurd (omega (arith, l))
 last_rest (y ∷ u) (suc at) x e l = last_rest u at x e (omega (arith, l))
 
-pub meets_last : (u v : List Symbol) (at : ℕ) (x : Symbol) → 0 < at → slice_get u at ≡ Some x → slice_get v 0 ≡ Some x → length u - at ≡ 1 → Meets u v at
+pub meets_last : (u v : List Symbol) (at : ℕ) (x : Symbol) → 0 < at → slice_get u at ≡ Some x → slice_get v 0 ≡ Some x
+    → length u - at ≡ 1 → Meets u v at
 meets_last u [] at x some e f l = cc
 meets_last u (y ∷ []) at x some e f l =
     let h : x ≡ y = cc in
@@ -72,7 +74,8 @@ module _ (edges : List Edge) (ends : List (Option ℕ)) (passing inside : List (
     (index : IsIndex edges ends passing inside lengths stored) (left : List Symbol) (number : ℕ) where
   -- a stored side in which the new one stands at its start
   module _ (some : 0 < length left) where
-    begin_way : (k : ℕ) (p : Place) → (o : IsOnto stored left number k 0 p) → (node : ℕ) × Leads edges 0 left node × IsListed passing node (begin_of k o.entry)
+    begin_way : (k : ℕ) (p : Place) → (o : IsOnto stored left number k 0 p)
+        → (node : ℕ) × Leads edges 0 left node × IsListed passing node (begin_of k o.entry)
     begin_way k p o = elim o.meets [
       | inl v ↦ absurd (let w = (overlap_within o.entry.left left 0 v).0 in omega (arith, w))
       | inr v ↦ (let e : o.entry.left ≡ left ++ v.after = containing_rest o.entry.left left 0 v in
@@ -80,17 +83,20 @@ module _ (edges : List Edge) (ends : List (Option ℕ)) (passing inside : List (
           index.is_passing k o.entry o.is_entry left v.after e some (omega (arith, size)))
     ]
 
-    pub no_begins : ((node : ℕ) → Leads edges 0 left node → ⊥) → (key : ℕ × ℕ × ℕ) → (k : ℕ) × IsOnto stored left number k 0 (place_of key) → ⊥
+    pub no_begins : ((node : ℕ) → Leads edges 0 left node → ⊥) → (key : ℕ × ℕ × ℕ)
+        → (k : ℕ) × IsOnto stored left number k 0 (place_of key) → ⊥
     no_begins none key o = let r = begin_way o.0 (place_of key) o.1 in none r.0 r.1
 
     module _ (node : ℕ) (leads : Leads edges 0 left node) (key : ℕ × ℕ × ℕ) where
-      pub begin_listed : (k : ℕ) × IsOnto stored left number k 0 (place_of key) → (spot : Spot) × IsListed passing node spot × IsBeginKey number spot key
+      pub begin_listed : (k : ℕ) × IsOnto stored left number k 0 (place_of key)
+          → (spot : Spot) × IsListed passing node spot × IsBeginKey number spot key
       begin_listed o =
           let r = begin_way o.0 (place_of key) o.1 in
           let same : r.0 ≡ node = one_end edges index.forked left 0 r.0 node r.1 leads in
           (begin_of o.0 o.1.entry, subst (λ n. IsListed passing n (begin_of o.0 o.1.entry)) same r.2, (o.1.below, ap key_of o.1.place_is))
 
-      pub listed_begin : (spot : Spot) × IsListed passing node spot × IsBeginKey number spot key → (k : ℕ) × IsOnto stored left number k 0 (place_of key)
+      pub listed_begin : (spot : Spot) × IsListed passing node spot × IsBeginKey number spot key
+          → (k : ℕ) × IsOnto stored left number k 0 (place_of key)
       listed_begin w =
           let spot = w.0 in
           let r = index.passing_right node spot w.1 in
@@ -109,7 +115,8 @@ module _ (edges : List Edge) (ends : List (Option ℕ)) (passing inside : List (
 
   -- one within which it stands, or which it overlaps
   module _ (some : 0 < length left) (d : Symbol) (key : ℕ × ℕ × ℕ) where
-    inside_way : (k at : ℕ) → 0 < at → (o : IsOnto stored left number k at (place_of key)) → (node : ℕ) × IsChild edges 0 (get_or left 0 d) node
+    inside_way : (k at : ℕ) → 0 < at → (o : IsOnto stored left number k at (place_of key))
+        → (node : ℕ) × IsChild edges 0 (get_or left 0 d) node
         × IsListed inside node (spot_of k o.entry at)
     inside_way k at l o =
         let m = meeting_symbol o.entry.left left at some o.meets in
@@ -149,7 +156,8 @@ module _ (edges : List Edge) (ends : List (Option ℕ)) (passing inside : List (
               below = subst (λ m. m < number) n w.2.0;
               meets = elim w.2.2 [
                 | inl one ↦ meets_last r.entry.left left spot.at r.within.0 r.within.1 r.within.2 first (sym rest ∙ one)
-                | inr m ↦ (let e = m.1 in let f = r.is_entry in let same : m.0 ≡ r.entry = cc in subst (λ (x : Entry). Meets x.left left spot.at) same m.2)
+                | inr m ↦ (let e = m.1 in let f = r.is_entry in let same : m.0 ≡ r.entry = cc in
+                    subst (λ (x : Entry). Meets x.left left spot.at) same m.2)
               ];
               place_is = ap place_of w.2.1 ∙ ap (λ m. record { i = m; j = number; at = spot.at }) n;
             },
@@ -183,7 +191,11 @@ module _ (edges : List Edge) (ends : List (Option ℕ)) (passing inside : List (
               let same : h.0 ≡ r.0 = one_end edges index.forked o.entry.left 0 h.0 r.0 h.2 r.1 in (
                 record { node = h.0; depth = length o.entry.left },
                 met.ended o.entry.left v.after h.0 h.1 e some h.2 h.3,
-                (begin_of k o.entry, subst (λ n. IsListed passing n (begin_of k o.entry)) (sym same) r.2, (o.below, ap key_of o.place_is, inl refl)),
+                (
+                  begin_of k o.entry,
+                  subst (λ n. IsListed passing n (begin_of k o.entry)) (sym same) r.2,
+                  (o.below, ap key_of o.place_is, inl refl),
+                ),
               ))
         ]
       where
@@ -206,20 +218,23 @@ module _ (edges : List Edge) (ends : List (Option ℕ)) (passing inside : List (
             below = subst (λ x. x < number) n w.2.2.0;
             meets = elim w.2.2.2 [
               | inl even ↦ inr (contained r.entry.left m.front r.on_way.1 m.rest e (sym (ap length e) ∙ sym rest ∙ even ∙ m.depth_is) m.cut)
-              | inr end ↦ ended r.entry.left m.front r.on_way.1 m.rest e m.cut end.0 (let f = m.depth_is in let g = end.1 in omega (arith, f, g))
+              | inr end ↦
+                  ended r.entry.left m.front r.on_way.1 m.rest e m.cut end.0 (let f = m.depth_is in let g = end.1 in omega (arith, f, g))
             ];
             place_is = ap place_of w.2.2.1 ∙ ap (λ x. record { i = number; j = x; at = at }) n;
           },
         )
       where
-        contained : (side front more rest : List Symbol) → side ≡ front ++ more → length (front ++ more) ≡ length front → drop at left ≡ front ++ rest
+        contained : (side front more rest : List Symbol) → side ≡ front ++ more → length (front ++ more) ≡ length front
+            → drop at left ≡ front ++ rest
             → Containment left side at
         contained side front more rest e even cut =
             let none : more ≡ [] = nothing_after front more even in
             let same : side ≡ front = e ∙ ap (λ x. front ++ x) none ∙ append-nil front in
             containing left side rest at (omega (arith, within)) (cut ∙ ap (λ x. x ++ rest) (sym same))
 
-        ended : (side front more rest : List Symbol) → side ≡ front ++ more → drop at left ≡ front ++ rest → 0 < at → at + length front ≡ length left
+        ended : (side front more rest : List Symbol) → side ≡ front ++ more → drop at left ≡ front ++ rest → 0 < at
+            → at + length front ≡ length left
             → Meets left side at
         ended side front [] rest e cut some long = inr (contained side front [] rest e (ap length (append-nil front)) cut)
         ended side front (x ∷ more) rest e cut some long =
@@ -230,7 +245,8 @@ module _ (edges : List Edge) (ends : List (Option ℕ)) (passing inside : List (
             inl (overlapping left side (x ∷ more) at some within (omega (arith, sides, long)) (e ∙ ap (λ y. y ++ (x ∷ more)) (sym whole)))
 
 -- a place in the new side stands within it
-pub from_is_within : (stored : List Entry) (left : List Symbol) (number : ℕ) → ((k : ℕ) (entry : Entry) → slice_get stored k ≡ Some entry → 0 < length entry.left)
+pub from_is_within : (stored : List Entry) (left : List Symbol) (number : ℕ)
+    → ((k : ℕ) (entry : Entry) → slice_get stored k ≡ Some entry → 0 < length entry.left)
     → (k at : ℕ) (p : Place) → IsFrom stored left number k at p → at < length left
 from_is_within stored left number some k at p o =
     let m = meeting_symbol left o.entry.left at (some k o.entry o.is_entry) o.meets in slice_get_within left at m.0 m.1

@@ -13,10 +13,12 @@ use Rattle.swreq_orders.proofs.Elements.{get_left, get_last, get_cases, there_is
 pub room_made : (old ends new : List (Option ℕ)) → SameEnds old ends → new ≡ ends ++ None ∷ [] → SameEnds old new
 room_made old ends new s e node place = (
   (λ h. rw e (get_left ends (None ∷ []) node (Some place) ((s node place).0 h))),
-  (λ h. elim (get_cases ends None node (Some place) (subst (λ x. slice_get x node ≡ Some (Some place)) e h)) [ inl g ↦ (s node place).1 g | inr g ↦ cc (g.1) ]),
+  (λ h. elim (get_cases ends None node (Some place)
+      (subst (λ x. slice_get x node ≡ Some (Some place)) e h)) [ inl g ↦ (s node place).1 g | inr g ↦ cc (g.1) ]),
 )
 
-pub marked_first : (ends new : List (Option ℕ)) (node number : ℕ) → node < length ends → slice_get ends node ≡ Some None → new ≡ set ends node (Some number)
+pub marked_first : (ends new : List (Option ℕ)) (node number : ℕ) → node < length ends → slice_get ends node ≡ Some None
+    → new ≡ set ends node (Some number)
     → Marked ends new node number
 marked_first ends new node number l none e = rw e (record {
   here = (number, set_here ends node (Some number) l);
@@ -33,7 +35,8 @@ marked_first ends new node number l none e = rw e (record {
 pub keeps_itself : (lists : List (Vec Spot Global)) → KeepsListed lists lists
 keeps_itself lists node spot h = h
 
-pub keeps_more : (old lists new : List (Vec Spot Global)) (list : Vec Spot Global) → KeepsListed old lists → new ≡ lists ++ list ∷ [] → KeepsListed old new
+pub keeps_more : (old lists new : List (Vec Spot Global)) (list : Vec Spot Global) → KeepsListed old lists
+    → new ≡ lists ++ list ∷ [] → KeepsListed old new
 keeps_more old lists new list k e node spot h =
     let g = k node spot h in (g.0, rw e (get_left lists (list ∷ []) node g.0 g.1), g.2)
 
@@ -65,24 +68,28 @@ holds_one_more xs ys y e x h = let g = subst (λ zs. Holds zs x) e h in
     elim (get_cases xs y g.0 x g.1) [ inl i ↦ inl (g.0, i) | inr i ↦ inr i.1 ]
 
 -- an empty list more
-pub keeps_less : (old lists new : List (Vec Spot Global)) (list : Vec Spot Global) → KeepsListed lists old → new ≡ lists ++ list ∷ [] → list.items ≡ []
+pub keeps_less : (old lists new : List (Vec Spot Global)) (list : Vec Spot Global) → KeepsListed lists old
+    → new ≡ lists ++ list ∷ [] → list.items ≡ []
     → KeepsListed new old
 keeps_less old lists new list k e none node spot h = elim (get_cases lists list node h.0 (subst (λ x. slice_get x node ≡ Some h.0) e h.1)) [
   | inl g ↦ k node spot (h.0, g, h.2)
-  | inr g ↦ absurd (let i : Holds [] spot = subst (λ x. Holds x spot) (ap (λ (x : Vec Spot Global). x.items) g.1 ∙ none) h.2 in let f = i.1 in cc)
+  | inr g ↦
+      absurd (let i : Holds [] spot = subst (λ x. Holds x spot) (ap (λ (x : Vec Spot Global). x.items) g.1 ∙ none) h.2 in let f = i.1 in cc)
 ]
 
 -- a spot more in one list
-pub only_changed : (old new : List (Vec Spot Global)) (node : ℕ) (before after : Vec Spot Global) (spot : Spot) → slice_get old node ≡ Some before
+pub only_changed : (old new : List (Vec Spot Global)) (node : ℕ) (before after : Vec Spot Global) (spot : Spot)
+    → slice_get old node ≡ Some before
     → new ≡ set old node after → ((other : Spot) → Holds after.items other → Holds before.items other ⊎ (other ≡ spot))
     → ListsOnly old new (λ n s. (n ≡ node) × (s ≡ spot))
-only_changed old new node before after spot b e k n other h = elim (set_cases old node after n h.0 (subst (λ x. slice_get x n ≡ Some h.0) e h.1)) [
-  | inl g ↦ inl (h.0, g, h.2)
-  | inr g ↦ elim (k other (subst (λ (x : Vec Spot Global). Holds x.items other) g.1 h.2)) [
-    | inl i ↦ inl (before, subst (λ x. slice_get old x ≡ Some before) (sym g.0) b, i)
-    | inr i ↦ inr (g.0, i)
-  ]
-]
+only_changed old new node before after spot b e k n other h =
+    elim (set_cases old node after n h.0 (subst (λ x. slice_get x n ≡ Some h.0) e h.1)) [
+      | inl g ↦ inl (h.0, g, h.2)
+      | inr g ↦ elim (k other (subst (λ (x : Vec Spot Global). Holds x.items other) g.1 h.2)) [
+        | inl i ↦ inl (before, subst (λ x. slice_get old x ≡ Some before) (sym g.0) b, i)
+        | inr i ↦ inr (g.0, i)
+      ]
+    ]
 
 pub only_none : (New : ℕ → Spot → Type 0) (old new : List (Vec Spot Global)) → KeepsListed new old → ListsOnly old new New
 only_none New old new k n s h = inl (k n s h)
@@ -94,7 +101,8 @@ only_on New Other Both a b c first second f g n s h = elim (g n s h) [
   | inr i ↦ inr (second n s i)
 ]
 
-pub only_like : (New Other : ℕ → Spot → Type 0) (a b : List (Vec Spot Global)) → ((n : ℕ) (s : Spot) → New n s → Other n s) → ListsOnly a b New → ListsOnly a b Other
+pub only_like : (New Other : ℕ → Spot → Type 0) (a b : List (Vec Spot Global)) → ((n : ℕ) (s : Spot) → New n s → Other n s)
+    → ListsOnly a b New → ListsOnly a b Other
 only_like New Other a b which f n s h = elim (f n s h) [ inl i ↦ inl i | inr i ↦ inr (which n s i) ]
 
 pub unmade : (old ends new : List (Option ℕ)) → SameEnds old ends → new ≡ ends → SameEnds old new
@@ -120,7 +128,8 @@ copies_keep_back old new c node spot h =
 pub no_copies : AreCopies [] []
 no_copies = record { as_many = refl; each = λ node list e. cc }
 
-one_more : (old new : List (Vec Spot Global)) (list copy : Vec Spot Global) → AreCopies old new → copy.items ≡ list.items → AreCopies (old ++ list ∷ []) (new ++ copy ∷ [])
+one_more : (old new : List (Vec Spot Global)) (list copy : Vec Spot Global) → AreCopies old new → copy.items ≡ list.items
+    → AreCopies (old ++ list ∷ []) (new ++ copy ∷ [])
 one_more old new list copy c same = record {
   as_many = (let l = c.as_many in simp length-append (omega (arith, l)));
   each = λ node other e. elim (get_cases old list node other e) [
@@ -133,9 +142,12 @@ one_more old new list copy c same = record {
   ];
 }
 
-pub copies_more : (lists copies new : List (Vec Spot Global)) (n : ℕ) (d copy : Vec Spot Global) → n < length lists → AreCopies (take n lists) copies
+pub copies_more : (lists copies new : List (Vec Spot Global)) (n : ℕ) (d copy : Vec Spot Global) → n < length lists
+    → AreCopies (take n lists) copies
     → copy.items ≡ (get_or lists n d).items → new ≡ copies ++ copy ∷ [] → AreCopies (take (n + 1) lists) new
-copies_more lists copies new n d copy l c same e = rw (e, take_more lists n d l) (one_more (take n lists) copies (get_or lists n d) copy c same)
+copies_more lists copies new n d copy l c same e =
+    rw (e, take_more lists n d l) (one_more (take n lists) copies (get_or lists n d) copy c same)
 
-pub all_copies : (lists copies : List (Vec Spot Global)) (n : ℕ) → n ≡ length lists → AreCopies (take n lists) copies → AreCopies lists copies
+pub all_copies : (lists copies : List (Vec Spot Global)) (n : ℕ) → n ≡ length lists → AreCopies (take n lists) copies
+    → AreCopies lists copies
 all_copies lists copies n e = subst (λ x. AreCopies x copies) (ap (λ k. take k lists) e ∙ take-length lists)

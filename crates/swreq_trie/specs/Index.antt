@@ -50,7 +50,8 @@ HasSpot edges inside spot symbol = (node : ℕ) × IsChild edges 0 symbol node �
 -- So is each place past the first and below this number, by its symbol there.
 abbrev pub IsInsideBelow : List Edge → List (Vec Spot Global) → ℕ → Entry → ℕ → Type 0
 IsInsideBelow edges inside k entry count =
-    (at : ℕ) (symbol : Symbol) → 0 < at → at < count → slice_get entry.left at ≡ Some symbol → HasSpot edges inside (spot_of k entry at) symbol
+    (at : ℕ) (symbol : Symbol) → 0 < at → at < count → slice_get entry.left at ≡ Some symbol
+    → HasSpot edges inside (spot_of k entry at) symbol
 
 abbrev pub IsInside : List Edge → List (Vec Spot Global) → ℕ → Entry → Type 0
 IsInside edges inside k entry = IsInsideBelow edges inside k entry (length entry.left)
@@ -73,7 +74,8 @@ pub record StandsRight (edges : List Edge) (stored : List Entry) (node : ℕ) (s
   pub spot_is : spot ≡ spot_of spot.side entry spot.at
   pub within : IsWithin edges entry.left spot.at node
 
-pub record IsIndex (edges : List Edge) (ends : List (Option ℕ)) (passing inside : List (Vec Spot Global)) (lengths : Lengths) (stored : List Entry)
+pub record IsIndex (edges : List Edge) (ends : List (Option ℕ)) (passing inside : List (Vec Spot Global))
+    (lengths : Lengths) (stored : List Entry)
     : Type 0 where
   pub forked : IsForked edges
   pub some : (k : ℕ) (entry : Entry) → slice_get stored k ≡ Some entry → 0 < length entry.left

@@ -53,12 +53,15 @@ IsOwnKey left number at key = Overlap left left at × (key ≡ (number, number, 
 pub record AreTheirPlaces (keys : List (ℕ × ℕ × ℕ)) (places : List Place) : Type 0 where
   pub each : (k : ℕ) (place : Place) → slice_get places k ≡ Some place → Holds keys (key_of place)
   pub all : (key : ℕ × ℕ × ℕ) → Holds keys key → Holds places (place_of key)
-  pub ordered : (j k : ℕ) (p q : Place) → j < k → slice_get places j ≡ Some p → slice_get places k ≡ Some q → key_cmp (key_of p) (key_of q) ≡ Less
+  pub ordered : (j k : ℕ) (p q : Place) → j < k → slice_get places j ≡ Some p → slice_get places k ≡ Some q
+      → key_cmp (key_of p) (key_of q) ≡ Less
 
 -- the same of the first `count` keys, the last of which is not below that of a place
 pub record ArePlacesBelow (keys : List (ℕ × ℕ × ℕ)) (count : ℕ) (places : List Place) : Type 0 where
   pub each : (k : ℕ) (place : Place) → slice_get places k ≡ Some place → Holds keys (key_of place)
   pub all : (k : ℕ) (key : ℕ × ℕ × ℕ) → k < count → slice_get keys k ≡ Some key → Holds places (place_of key)
-  pub ordered : (j k : ℕ) (p q : Place) → j < k → slice_get places j ≡ Some p → slice_get places k ≡ Some q → key_cmp (key_of p) (key_of q) ≡ Less
+  pub ordered : (j k : ℕ) (p q : Place) → j < k → slice_get places j ≡ Some p → slice_get places k ≡ Some q
+      → key_cmp (key_of p) (key_of q) ≡ Less
   pub last : (k : ℕ) (place : Place) → slice_get places k ≡ Some place
-      → (n : ℕ) × (key : ℕ × ℕ × ℕ) × (suc n ≡ count) × (slice_get keys n ≡ Some key) × ((key_cmp (key_of place) key ≡ Less) ⊎ (key_of place ≡ key))
+      → (n : ℕ) × (key : ℕ × ℕ × ℕ) × (suc n ≡ count) × (slice_get keys n ≡ Some key)
+      × ((key_cmp (key_of place) key ≡ Less) ⊎ (key_of place ≡ key))

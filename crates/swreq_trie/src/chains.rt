@@ -98,7 +98,8 @@ fn add_child(
 ) -> Result<usize, AllocError>
     requires chained { AreChained links.old.items heads.old.items }
     requires new { NoChild (edges_of links.old.items) edge.from edge.symbol }
-    ensures child { IfOk result (λ child. IsChild (edges_of links.new.items) edge.from edge.symbol child) }
+    ensures child { IfOk result
+        (λ child. IsChild (edges_of links.new.items) edge.from edge.symbol child) }
     ensures grown { IsGrown (edges_of links.old.items) (edges_of links.new.items) }
     ensures chained { AreChained links.new.items heads.new.items }
 {
@@ -119,7 +120,8 @@ pub(crate) fn make_child(
     edge: Edge,
 ) -> Result<usize, AllocError>
     requires { AreChained links.old.items heads.old.items }
-    ensures child { IfOk result (λ child. IsChild (edges_of links.new.items) edge.from edge.symbol child) }
+    ensures child { IfOk result
+        (λ child. IsChild (edges_of links.new.items) edge.from edge.symbol child) }
     ensures grown { IsGrown (edges_of links.old.items) (edges_of links.new.items) }
     ensures chained { AreChained links.new.items heads.new.items }
 {

@@ -57,7 +57,8 @@ impl Edges {
 
     /// The node to which an edge leads from this node by the symbol, or None where there is none.
     pub fn child(&self, node: usize, symbol: Symbol) -> Option<usize>
-        ensures found { MatchOption result (NoChild self.now node symbol) (λ child. IsChild self.now node symbol child) }
+        ensures found { MatchOption result (NoChild self.now node symbol)
+            (λ child. IsChild self.now node symbol child) }
         ensures forked { IsForked self.now }
     {
         find_child(&self.links, &self.heads, Edge { from: node, symbol })

@@ -7,7 +7,8 @@ use std::alloc::AllocError;
 
 // The number of the side that ends at the node, or None where none does.
 pub(crate) fn end_at(ends: &[Option<u32>], node: usize) -> Option<u32>
-    ensures { MatchOption result ((number : ℕ) → EndsAt ends.now node number → ⊥) (λ number. EndsAt ends.now node number) }
+    ensures { MatchOption result ((number : ℕ) → EndsAt ends.now node number → ⊥)
+        (λ number. EndsAt ends.now node number) }
 {
     if node < ends.len() { ends[node] } else { None }
 }

@@ -50,7 +50,8 @@ fn add_begin(spot: Spot, number: u32, keys: &mut Vec<Key>) -> Result<(), AllocEr
 
 // Adds the places at the starts of the sides of these spots.
 fn add_begins(spots: &[Spot], number: u32, keys: &mut Vec<Key>) -> Result<(), AllocError>
-    ensures { OnOk result (Gains (λ key. (spot : Spot) × Holds spots.now spot × IsBeginKey number spot key) keys.old.items keys.new.items) }
+    ensures { OnOk result (Gains (λ key. (spot : Spot) × Holds spots.now spot
+        × IsBeginKey number spot key) keys.old.items keys.new.items) }
 {
     for spot in spots {
         add_begin(*spot, number, keys)?;
@@ -81,7 +82,8 @@ fn add_inside(
     number: u32,
     keys: &mut Vec<Key>,
 ) -> Result<(), AllocError>
-    ensures { OnOk result (Gains (IsInsideKey entries.now left.now number spot) keys.old.items keys.new.items) }
+    ensures { OnOk result
+        (Gains (IsInsideKey entries.now left.now number spot) keys.old.items keys.new.items) }
 {
     if number <= spot.number {
         return Ok(());
@@ -102,7 +104,8 @@ fn add_insides(
     keys: &mut Vec<Key>,
 ) -> Result<(), AllocError>
     ensures { OnOk result (Gains
-        (λ key. (spot : Spot) × Holds spots.now spot × IsInsideKey entries.now left.now number spot key)
+        (λ key.
+        (spot : Spot) × Holds spots.now spot × IsInsideKey entries.now left.now number spot key)
         keys.old.items keys.new.items) }
 {
     for spot in spots {
@@ -135,7 +138,8 @@ fn add_from_one(
     keys: &mut Vec<Key>,
 ) -> Result<(), AllocError>
     requires { at ≤ long }
-    ensures { OnOk result (Gains (IsFromKey number at long depth spot) keys.old.items keys.new.items) }
+    ensures { OnOk result
+        (Gains (IsFromKey number at long depth spot) keys.old.items keys.new.items) }
 {
     if number <= spot.number {
         return Ok(());
@@ -178,7 +182,8 @@ fn add_from_nodes(
 ) -> Result<(), AllocError>
     requires { at ≤ long }
     ensures { OnOk result (Gains
-        (λ key. (met : Met) × Holds nodes.now met × ((spot : Spot) × IsListed lists.now met.node spot × IsFromKey number at long met.depth spot key))
+        (λ key. (met : Met) × Holds nodes.now met × ((spot : Spot)
+        × IsListed lists.now met.node spot × IsFromKey number at long met.depth spot key))
         keys.old.items keys.new.items) }
 {
     for met in nodes {
@@ -244,7 +249,8 @@ impl Trie {
     ) -> Result<(), AllocError>
         requires { 0 < length left.now }
         ensures { OnOk result (Gains
-            (λ key. (k : ℕ) × (at : ℕ) × (0 < at) × IsOnto self.now left.now number k at (place_of key))
+            (λ key.
+            (k : ℕ) × (at : ℕ) × (0 < at) × IsOnto self.now left.now number k at (place_of key))
             keys.old.items keys.new.items) }
     {
         match self.edges.child(0, left[0]) {
@@ -286,7 +292,8 @@ impl Trie {
         keys: &mut Vec<Key>,
     ) -> Result<(), AllocError>
         ensures { OnOk result (Gains
-            (λ key. (at : ℕ) × (at < length left.now) × ((k : ℕ) × IsFrom self.now left.now number k at (place_of key)))
+            (λ key. (at : ℕ) × (at < length left.now)
+            × ((k : ℕ) × IsFrom self.now left.now number k at (place_of key)))
             keys.old.items keys.new.items) }
     {
         for at in 0..left.len() {
@@ -304,7 +311,8 @@ impl Trie {
         keys: &mut Vec<Key>,
     ) -> Result<(), AllocError>
         requires { 0 < length left.now }
-        ensures { OnOk result (Gains (λ key. IsPlace self.now left.now number (place_of key)) keys.old.items keys.new.items) }
+        ensures { OnOk result (Gains (λ key. IsPlace self.now left.now number (place_of key))
+            keys.old.items keys.new.items) }
     {
         self.add_onto_begins(left, number, keys)?;
         self.add_onto_insides(left, number, keys)?;
@@ -321,7 +329,8 @@ impl Trie {
         keys: &mut Vec<Key>,
     ) -> Result<(), AllocError>
         requires { 0 < length left.now }
-        ensures { OnOk result (Gains (λ key. IsPlace self.now left.now number (place_of key)) [] keys.new.items) }
+        ensures { OnOk result
+            (Gains (λ key. IsPlace self.now left.now number (place_of key)) [] keys.new.items) }
     {
         keys.clear();
         self.add_all(left, number, nodes, keys)

@@ -44,7 +44,8 @@ fn make_room(alloc: Global, lists: &mut Vec<Vec<Spot>>, node: usize) -> Result<(
 fn push(list: &mut Vec<Spot>, spot: Spot) -> Result<(), AllocError>
     ensures added { OnOk result (Holds list.new.items spot) }
     ensures kept { (other : Spot) → Holds list.old.items other → Holds list.new.items other }
-    ensures only { (other : Spot) → Holds list.new.items other → Holds list.old.items other ⊎ (other ≡ spot) }
+    ensures only { (other : Spot) → Holds list.new.items other
+        → Holds list.old.items other ⊎ (other ≡ spot) }
 {
     list.push(spot)?;
     Ok(())

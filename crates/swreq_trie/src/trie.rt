@@ -121,7 +121,8 @@ impl Trie {
     /// Stores the side with the number, as the last one. If memory runs out, all is as before.
     pub fn insert(&mut self, left: &[Symbol], number: u32) -> Result<(), AllocError>
         requires { 0 < length left.now }
-        ensures ok { OnOk result (self.new ≡ self.old ++ (record { left = left.now; number = number }) ∷ []) }
+        ensures ok { OnOk result
+            (self.new ≡ self.old ++ (record { left = left.now; number = number }) ∷ []) }
         ensures err { OnErr result (self.new ≡ self.old) }
     {
         let index = self.entries.len();
@@ -157,7 +158,8 @@ impl Trie {
     /// there, how many symbols of the word tell so.
     pub fn find_at(&self, w: &[Symbol], at: usize) -> Result<u32, usize>
         requires { at ≤ length w.now }
-        ensures { MatchResult result (λ number. Shortest self.now (drop at w.now) number) (λ count. TellNone self.now w.now at count) }
+        ensures { MatchResult result (λ number. Shortest self.now (drop at w.now) number)
+            (λ count. TellNone self.now w.now at count) }
     {
         let rest = &w[at..];
         if rest.len() < self.lengths.shortest {

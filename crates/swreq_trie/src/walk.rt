@@ -57,7 +57,8 @@ pub(crate) fn find(edges: &Edges, ends: &[Option<u32>], w: &[Symbol]) -> Result<
 // The node to which the word leads, or None where it leads to none.
 pub(crate) fn end_of(edges: &Edges, w: &[Symbol]) -> Option<usize>
     requires { IsForked edges.now }
-    ensures { MatchOption result ((node : ℕ) → Leads edges.now 0 w.now node → ⊥) (λ node. Leads edges.now 0 w.now node) }
+    ensures { MatchOption result ((node : ℕ) → Leads edges.now 0 w.now node → ⊥)
+        (λ node. Leads edges.now 0 w.now node) }
 {
     let mut node = 0;
     for symbol in w {
@@ -79,9 +80,12 @@ fn push(nodes: &mut Vec<Met>, met: Met) -> Result<(), AllocError>
 
 // Puts the node last, if a side ends at it.
 fn add_ended(ends: &[Option<u32>], met: Met, nodes: &mut Vec<Met>) -> Result<(), AllocError>
-    ensures ended { OnOk result ((number : ℕ) → EndsAt ends.now met.node number → Holds nodes.new.items met) }
-    ensures kept { OnOk result ((other : Met) → Holds nodes.old.items other → Holds nodes.new.items other) }
-    ensures only { OnOk result ((other : Met) → Holds nodes.new.items other → Holds nodes.old.items other ⊎ (other ≡ met)) }
+    ensures ended { OnOk result
+        ((number : ℕ) → EndsAt ends.now met.node number → Holds nodes.new.items met) }
+    ensures kept { OnOk result
+        ((other : Met) → Holds nodes.old.items other → Holds nodes.new.items other) }
+    ensures only { OnOk result ((other : Met) → Holds nodes.new.items other
+        → Holds nodes.old.items other ⊎ (other ≡ met)) }
 {
     match end_at(ends, met.node) {
         Some(_) => push(nodes, met),
@@ -126,7 +130,8 @@ fn make_step(
 ) -> Result<usize, AllocError>
     ensures child { IfOk result (λ child. IsChild edges.new node symbol child) }
     ensures listed { IfOk result (λ child. IsListed passing.new.items child begin) }
-    ensures only { ListsOnly passing.old.items passing.new.items (λ n s. (s ≡ begin) × IsChild edges.new node symbol n) }
+    ensures only { ListsOnly passing.old.items passing.new.items
+        (λ n s. (s ≡ begin) × IsChild edges.new node symbol n) }
     ensures grown { IsGrown edges.old edges.new }
     ensures forked { IsForked edges.new }
     ensures passing { KeepsListed passing.old.items passing.new.items }
@@ -148,7 +153,8 @@ fn make_path(
     requires { IsForked edges.old }
     ensures leads { IfOk result (λ node. Leads edges.new 0 left.now node) }
     ensures listed { OnOk result (IsPassing edges.new passing.new.items begin left.now) }
-    ensures only { ListsOnly passing.old.items passing.new.items (λ n s. (s ≡ begin) × IsOnWay edges.new left.now n) }
+    ensures only { ListsOnly passing.old.items passing.new.items
+        (λ n s. (s ≡ begin) × IsOnWay edges.new left.now n) }
     ensures grown { IsGrown edges.old edges.new }
     ensures forked { IsForked edges.new }
     ensures passing { KeepsListed passing.old.items passing.new.items }
@@ -169,7 +175,8 @@ fn add_inside_at(
     symbol: Symbol,
 ) -> Result<(), AllocError>
     ensures spot { OnOk result (HasSpot edges.new inside.new.items spot symbol) }
-    ensures only { ListsOnly inside.old.items inside.new.items (λ n s. (s ≡ spot) × IsChild edges.new 0 symbol n) }
+    ensures only { ListsOnly inside.old.items inside.new.items
+        (λ n s. (s ≡ spot) × IsChild edges.new 0 symbol n) }
     ensures grown { IsGrown edges.old edges.new }
     ensures forked { IsForked edges.new }
     ensures inside { KeepsListed inside.old.items inside.new.items }
@@ -188,9 +195,11 @@ fn add_inside(
     left: &[Symbol],
 ) -> Result<(), AllocError>
     requires { IsForked edges.old }
-    ensures spots { OnOk result (IsInside edges.new inside.new.items side (record { left = left.now; number = number })) }
+    ensures spots { OnOk result
+        (IsInside edges.new inside.new.items side (record { left = left.now; number = number })) }
     ensures only { ListsOnly inside.old.items inside.new.items
-        (λ n s. (at : ℕ) × (s ≡ spot_of side (record { left = left.now; number = number }) at) × IsWithin edges.new left.now at n) }
+        (λ n s. (at : ℕ) × (s ≡ spot_of side (record { left = left.now; number = number }) at)
+        × IsWithin edges.new left.now at n) }
     ensures grown { IsGrown edges.old edges.new }
     ensures forked { IsForked edges.new }
     ensures inside { KeepsListed inside.old.items inside.new.items }
@@ -220,12 +229,18 @@ pub(crate) fn make_way(
     requires { IsForked edges.old }
     ensures leads { IfOk result (λ node. Leads edges.new 0 side.now.left.now node) }
     ensures room { IfOk result (λ node. node < length ends.new.items) }
-    ensures listed { OnOk result (IsPassing edges.new passing.new.items (begin_of side.now.index (record { left = side.now.left.now; number = side.now.number })) side.now.left.now) }
-    ensures spots { OnOk result (IsInside edges.new inside.new.items side.now.index (record { left = side.now.left.now; number = side.now.number })) }
+    ensures listed { OnOk result (IsPassing edges.new passing.new.items (begin_of side.now.index
+        (record { left = side.now.left.now; number = side.now.number })) side.now.left.now) }
+    ensures spots { OnOk result (IsInside edges.new inside.new.items side.now.index
+        (record { left = side.now.left.now; number = side.now.number })) }
     ensures passes { ListsOnly passing.old.items passing.new.items
-        (λ n s. (s ≡ begin_of side.now.index (record { left = side.now.left.now; number = side.now.number })) × IsOnWay edges.new side.now.left.now n) }
+        (λ n s. (s
+        ≡ begin_of side.now.index (record { left = side.now.left.now; number = side.now.number }))
+        × IsOnWay edges.new side.now.left.now n) }
     ensures stands { ListsOnly inside.old.items inside.new.items
-        (λ n s. (at : ℕ) × (s ≡ spot_of side.now.index (record { left = side.now.left.now; number = side.now.number }) at) × IsWithin edges.new side.now.left.now at n) }
+        (λ n s. (at : ℕ) × (s
+        ≡ spot_of side.now.index (record { left = side.now.left.now; number = side.now.number }) at)
+        × IsWithin edges.new side.now.left.now at n) }
     ensures grown { IsGrown edges.old edges.new }
     ensures forked { IsForked edges.new }
     ensures ends { SameEnds ends.old.items ends.new.items }

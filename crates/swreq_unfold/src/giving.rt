@@ -41,11 +41,14 @@ pub(crate) fn give_member(
     requires named { (n : Named) × (slice_get ground.now.members rank ≡ Some n) }
     requires sheet { IsSheet sheet.old }
     requires t { IsOf sheet.old.table t }
-    requires conforms { Says sheet.old (Requires (Conforms (term_at sheet.old.table t) (member_at ground.now rank).proto)) }
+    requires conforms { Says sheet.old
+        (Requires (Conforms (term_at sheet.old.table t) (member_at ground.now rank).proto)) }
     ensures both { OnOk result (SaysBoth ground.now sheet.new (term_at sheet.old.table t)
-        (Proto (member_at ground.now rank).proto.rank ∷ Name (member_at ground.now rank).name.rank ∷ []) (Member rank ∷ [])) }
+        (Proto (member_at ground.now rank).proto.rank ∷ Name (member_at ground.now rank).name.rank
+        ∷ []) (Member rank ∷ [])) }
     ensures grows { Grows sheet.old sheet.new }
-    ensures derives { OnOk result ((b : Basis) → FitsBasis ground.now b → Keeps b sheet.old sheet.new) }
+    ensures derives { OnOk result
+        ((b : Basis) → FitsBasis ground.now b → Keeps b sheet.old sheet.new) }
 {
     let named = member_at(ground, rank);
     inherit(ground, sheet, t, named.proto, named.name)
@@ -57,10 +60,13 @@ fn put_conf(sheet: &mut Sheet, origin: Origin, u: TermId, q: ProtoId) -> Result<
     requires origin { IsOrigin sheet.old origin }
     requires u { IsOf sheet.old.table u }
     ensures table { sheet.new.table ≡ sheet.old.table }
-    ensures conforms { OnOk result (Says sheet.new (Requires (Conforms (term_at sheet.old.table u) q))) }
+    ensures conforms { OnOk result
+        (Says sheet.new (Requires (Conforms (term_at sheet.old.table u) q))) }
     ensures grows { Grows sheet.old sheet.new }
-    ensures derives { OnOk result ((b : Basis) (v : Term) → HasNumber origin.number (written_by b origin.owner) (Conforms v q)
-        → term_at sheet.old.table u ≡ placed origin.owner (term_at sheet.old.table origin.t) v → Keeps b sheet.old sheet.new) }
+    ensures derives { OnOk result
+        ((b : Basis) (v : Term) → HasNumber origin.number (written_by b origin.owner) (Conforms v q)
+        → term_at sheet.old.table u ≡ placed origin.owner (term_at sheet.old.table origin.t) v
+        → Keeps b sheet.old sheet.new) }
 {
     match origin.owner {
         Some(p) => assoc_conf(sheet, origin.t, (p, origin.number), u, q),
@@ -74,10 +80,13 @@ fn put_layout(sheet: &mut Sheet, origin: Origin, u: TermId) -> Result<(), AllocE
     requires origin { IsOrigin sheet.old origin }
     requires u { IsOf sheet.old.table u }
     ensures table { sheet.new.table ≡ sheet.old.table }
-    ensures object { OnOk result (Says sheet.new (Requires (IsAnyObject (term_at sheet.old.table u)))) }
+    ensures object { OnOk result
+        (Says sheet.new (Requires (IsAnyObject (term_at sheet.old.table u)))) }
     ensures grows { Grows sheet.old sheet.new }
-    ensures derives { OnOk result ((b : Basis) (v : Term) → HasNumber origin.number (written_by b origin.owner) (IsAnyObject v)
-        → term_at sheet.old.table u ≡ placed origin.owner (term_at sheet.old.table origin.t) v → Keeps b sheet.old sheet.new) }
+    ensures derives { OnOk result ((b : Basis) (v : Term)
+        → HasNumber origin.number (written_by b origin.owner) (IsAnyObject v)
+        → term_at sheet.old.table u ≡ placed origin.owner (term_at sheet.old.table origin.t) v
+        → Keeps b sheet.old sheet.new) }
 {
     match origin.owner {
         Some(p) => assoc_layout(sheet, origin.t, (p, origin.number), u),
@@ -92,11 +101,14 @@ fn put_same(sheet: &mut Sheet, origin: Origin, sides: (TermId, TermId)) -> Resul
     requires left { IsOf sheet.old.table sides.0 }
     requires right { IsOf sheet.old.table sides.1 }
     ensures table { sheet.new.table ≡ sheet.old.table }
-    ensures equal { OnOk result (AreSaidEqual sheet.new (term_at sheet.old.table sides.0) (term_at sheet.old.table sides.1)) }
+    ensures equal { OnOk result (AreSaidEqual sheet.new (term_at sheet.old.table sides.0)
+        (term_at sheet.old.table sides.1)) }
     ensures grows { Grows sheet.old sheet.new }
-    ensures derives { OnOk result ((b : Basis) (u v : Term) → HasNumber origin.number (written_by b origin.owner) (Equals u v)
+    ensures derives { OnOk result
+        ((b : Basis) (u v : Term) → HasNumber origin.number (written_by b origin.owner) (Equals u v)
         → term_at sheet.old.table sides.0 ≡ placed origin.owner (term_at sheet.old.table origin.t) u
-        → term_at sheet.old.table sides.1 ≡ placed origin.owner (term_at sheet.old.table origin.t) v → Keeps b sheet.old sheet.new) }
+        → term_at sheet.old.table sides.1 ≡ placed origin.owner (term_at sheet.old.table origin.t) v
+        → Keeps b sheet.old sheet.new) }
 {
     match origin.owner {
         Some(p) => assoc_same(sheet, origin.t, (p, origin.number), sides),
@@ -117,10 +129,13 @@ pub(crate) fn give_conf(
     requires sheet { IsSheet sheet.old }
     requires origin { IsOrigin sheet.old origin }
     requires side { IsReadBy ground.now sheet.old origin.t u word.now }
-    ensures both { OnOk result (SaysBoth ground.now sheet.new (term_at sheet.old.table origin.t) (word.now ++ Proto q.rank ∷ []) word.now) }
+    ensures both { OnOk result (SaysBoth ground.now sheet.new (term_at sheet.old.table origin.t)
+        (word.now ++ Proto q.rank ∷ []) word.now) }
     ensures grows { Grows sheet.old sheet.new }
-    ensures derives { OnOk result ((b : Basis) (v : Term) → HasNumber origin.number (written_by b origin.owner) (Conforms v q)
-        → term_at sheet.old.table u ≡ placed origin.owner (term_at sheet.old.table origin.t) v → Keeps b sheet.old sheet.new) }
+    ensures derives { OnOk result
+        ((b : Basis) (v : Term) → HasNumber origin.number (written_by b origin.owner) (Conforms v q)
+        → term_at sheet.old.table u ≡ placed origin.owner (term_at sheet.old.table origin.t) v
+        → Keeps b sheet.old sheet.new) }
 {
     put_conf(sheet, origin, u, q)?;
     let last = read(ground, sheet, origin.t, word)?;
@@ -139,10 +154,13 @@ pub(crate) fn give_layout(
     requires sheet { IsSheet sheet.old }
     requires origin { IsOrigin sheet.old origin }
     requires side { IsReadBy ground.now sheet.old origin.t u word.now }
-    ensures both { OnOk result (SaysBoth ground.now sheet.new (term_at sheet.old.table origin.t) (word.now ++ Layout ∷ []) word.now) }
+    ensures both { OnOk result (SaysBoth ground.now sheet.new (term_at sheet.old.table origin.t)
+        (word.now ++ Layout ∷ []) word.now) }
     ensures grows { Grows sheet.old sheet.new }
-    ensures derives { OnOk result ((b : Basis) (v : Term) → HasNumber origin.number (written_by b origin.owner) (IsAnyObject v)
-        → term_at sheet.old.table u ≡ placed origin.owner (term_at sheet.old.table origin.t) v → Keeps b sheet.old sheet.new) }
+    ensures derives { OnOk result ((b : Basis) (v : Term)
+        → HasNumber origin.number (written_by b origin.owner) (IsAnyObject v)
+        → term_at sheet.old.table u ≡ placed origin.owner (term_at sheet.old.table origin.t) v
+        → Keeps b sheet.old sheet.new) }
 {
     put_layout(sheet, origin, u)?;
     let last = read(ground, sheet, origin.t, word)?;
@@ -162,11 +180,14 @@ pub(crate) fn give_same(
     requires origin { IsOrigin sheet.old origin }
     requires left { IsReadBy ground.now sheet.old origin.t ids.0 words.from.now }
     requires right { IsReadBy ground.now sheet.old origin.t ids.1 words.to.now }
-    ensures both { OnOk result (SaysBoth ground.now sheet.new (term_at sheet.old.table origin.t) words.entry.from.now words.entry.to.now) }
+    ensures both { OnOk result (SaysBoth ground.now sheet.new
+        (term_at sheet.old.table origin.t) words.entry.from.now words.entry.to.now) }
     ensures grows { Grows sheet.old sheet.new }
-    ensures derives { OnOk result ((b : Basis) (u v : Term) → HasNumber origin.number (written_by b origin.owner) (Equals u v)
+    ensures derives { OnOk result
+        ((b : Basis) (u v : Term) → HasNumber origin.number (written_by b origin.owner) (Equals u v)
         → term_at sheet.old.table ids.0 ≡ placed origin.owner (term_at sheet.old.table origin.t) u
-        → term_at sheet.old.table ids.1 ≡ placed origin.owner (term_at sheet.old.table origin.t) v → Keeps b sheet.old sheet.new) }
+        → term_at sheet.old.table ids.1 ≡ placed origin.owner (term_at sheet.old.table origin.t) v
+        → Keeps b sheet.old sheet.new) }
 {
     put_same(sheet, origin, ids)?;
     let first = read(ground, sheet, origin.t, words.from)?;

@@ -42,14 +42,19 @@ pub(crate) fn cross(
 ) -> Result<(), AllocError>
     requires sheet { IsSheet sheet.old }
     requires t { IsOf sheet.old.table t }
-    requires pair { (left : List SymbolView) × (right : List SymbolView) × OverlapPair first.now second.now at left right }
-    requires first { SaysBoth ground.now sheet.old (term_at sheet.old.table t) first.now.left first.now.right }
-    requires second { SaysBoth ground.now sheet.old (read ground.now (term_at sheet.old.table t) (take at first.now.left))
+    requires pair { (left : List SymbolView) × (right : List SymbolView)
+        × OverlapPair first.now second.now at left right }
+    requires first { SaysBoth ground.now sheet.old
+        (term_at sheet.old.table t) first.now.left first.now.right }
+    requires second { SaysBoth ground.now sheet.old
+        (read ground.now (term_at sheet.old.table t) (take at first.now.left))
         second.now.left second.now.right }
-    ensures both { OnOk result ((left right : List SymbolView) → OverlapPair first.now second.now at left right
+    ensures both { OnOk result
+        ((left right : List SymbolView) → OverlapPair first.now second.now at left right
         → SaysBoth ground.now sheet.new (term_at sheet.old.table t) left right) }
     ensures grows { Grows sheet.old sheet.new }
-    ensures derives { OnOk result ((b : Basis) → FitsBasis ground.now b → Keeps b sheet.old sheet.new) }
+    ensures derives { OnOk result
+        ((b : Basis) → FitsBasis ground.now b → Keeps b sheet.old sheet.new) }
 {
     let left = first.left.symbols();
     let common = left.len() - at;
@@ -84,14 +89,19 @@ pub(crate) fn within(
 ) -> Result<(), AllocError>
     requires sheet { IsSheet sheet.old }
     requires t { IsOf sheet.old.table t }
-    requires pair { (left : List SymbolView) × (right : List SymbolView) × ContainmentPair first.now second.now at left right }
-    requires first { SaysBoth ground.now sheet.old (term_at sheet.old.table t) first.now.left first.now.right }
-    requires second { SaysBoth ground.now sheet.old (read ground.now (term_at sheet.old.table t) (take at first.now.left))
+    requires pair { (left : List SymbolView) × (right : List SymbolView)
+        × ContainmentPair first.now second.now at left right }
+    requires first { SaysBoth ground.now sheet.old
+        (term_at sheet.old.table t) first.now.left first.now.right }
+    requires second { SaysBoth ground.now sheet.old
+        (read ground.now (term_at sheet.old.table t) (take at first.now.left))
         second.now.left second.now.right }
-    ensures both { OnOk result ((left right : List SymbolView) → ContainmentPair first.now second.now at left right
+    ensures both { OnOk result
+        ((left right : List SymbolView) → ContainmentPair first.now second.now at left right
         → SaysBoth ground.now sheet.new (term_at sheet.old.table t) left right) }
     ensures grows { Grows sheet.old sheet.new }
-    ensures derives { OnOk result ((b : Basis) → FitsBasis ground.now b → Keeps b sheet.old sheet.new) }
+    ensures derives { OnOk result
+        ((b : Basis) → FitsBasis ground.now b → Keeps b sheet.old sheet.new) }
 {
     let left = first.left.symbols();
     let end = at + second.left.symbols().len();
@@ -123,17 +133,24 @@ pub(crate) fn meet(
 ) -> Result<(), AllocError>
     requires sheet { IsSheet sheet.old }
     requires t { IsOf sheet.old.table t }
-    requires pair { ((left : List SymbolView) × (right : List SymbolView) × OverlapPair first.now second.now at left right)
-        ⊎ ((left : List SymbolView) × (right : List SymbolView) × ContainmentPair first.now second.now at left right) }
-    requires first { SaysBoth ground.now sheet.old (term_at sheet.old.table t) first.now.left first.now.right }
-    requires second { SaysBoth ground.now sheet.old (read ground.now (term_at sheet.old.table t) (take at first.now.left))
+    requires pair { ((left : List SymbolView) × (right : List SymbolView)
+        × OverlapPair first.now second.now at left right)
+        ⊎ ((left : List SymbolView) × (right : List SymbolView)
+        × ContainmentPair first.now second.now at left right) }
+    requires first { SaysBoth ground.now sheet.old
+        (term_at sheet.old.table t) first.now.left first.now.right }
+    requires second { SaysBoth ground.now sheet.old
+        (read ground.now (term_at sheet.old.table t) (take at first.now.left))
         second.now.left second.now.right }
-    ensures overlap { OnOk result ((left right : List SymbolView) → OverlapPair first.now second.now at left right
+    ensures overlap { OnOk result
+        ((left right : List SymbolView) → OverlapPair first.now second.now at left right
         → SaysBoth ground.now sheet.new (term_at sheet.old.table t) left right) }
-    ensures containment { OnOk result ((left right : List SymbolView) → ContainmentPair first.now second.now at left right
+    ensures containment { OnOk result
+        ((left right : List SymbolView) → ContainmentPair first.now second.now at left right
         → SaysBoth ground.now sheet.new (term_at sheet.old.table t) left right) }
     ensures grows { Grows sheet.old sheet.new }
-    ensures derives { OnOk result ((b : Basis) → FitsBasis ground.now b → Keeps b sheet.old sheet.new) }
+    ensures derives { OnOk result
+        ((b : Basis) → FitsBasis ground.now b → Keeps b sheet.old sheet.new) }
 {
     let rest = first.left.symbols().len() - at;
     if second.left.symbols().len() <= rest {

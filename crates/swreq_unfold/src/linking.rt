@@ -29,9 +29,11 @@ pub fn link(
     requires t { IsOf sheet.old.table t }
     requires word { SaysWord book.now.ground sheet.old (term_at sheet.old.table t) u.now }
     requires alike { ReduceAlike (rules_at book.now system) u.now v.now }
-    ensures both { OnOk result (SaysBoth book.now.ground sheet.new (term_at sheet.old.table t) u.now v.now) }
+    ensures both { OnOk result
+        (SaysBoth book.now.ground sheet.new (term_at sheet.old.table t) u.now v.now) }
     ensures grows { Grows sheet.old sheet.new }
-    ensures derives { OnOk result ((b : Basis) → FitsBook book.now b → Keeps b sheet.old sheet.new) }
+    ensures derives { OnOk result
+        ((b : Basis) → FitsBook book.now b → Keeps b sheet.old sheet.new) }
 {
     let rules = all_rules(book, system);
     match path_between(sheet.alloc, rules, u, v)? {

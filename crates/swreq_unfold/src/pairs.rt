@@ -45,7 +45,8 @@ fn join_at(
     requires t { IsOf sheet.old.table t }
     requires first { SaysBoth ground.now sheet.old (term_at sheet.old.table t) w.now u.now }
     requires second { SaysBoth ground.now sheet.old (term_at sheet.old.table t) w.now v.now }
-    ensures both { OnOk result (SaysBoth ground.now sheet.new (term_at sheet.old.table t) u.now v.now) }
+    ensures both { OnOk result
+        (SaysBoth ground.now sheet.new (term_at sheet.old.table t) u.now v.now) }
     ensures grows { Grows sheet.old sheet.new }
     ensures derives { OnOk result ((b : Basis) → Keeps b sheet.old sheet.new) }
 {
@@ -69,11 +70,13 @@ pub(crate) fn meet_within(
     requires first { SaysBoth ground.now sheet.old (term_at sheet.old.table t)
         (around.before.now ++ (sides.from.now ++ around.after.now)) u.now }
     requires second { SaysBoth ground.now sheet.old
-        (read ground.now (term_at sheet.old.table t) around.before.now) sides.from.now sides.to.now }
+        (read ground.now (term_at sheet.old.table t) around.before.now)
+        sides.from.now sides.to.now }
     ensures both { OnOk result (SaysBoth ground.now sheet.new (term_at sheet.old.table t) u.now
         (around.entry.before.now ++ (sides.entry.to.now ++ around.entry.after.now))) }
     ensures grows { Grows sheet.old sheet.new }
-    ensures derives { OnOk result ((b : Basis) → FitsBasis ground.now b → Keeps b sheet.old sheet.new) }
+    ensures derives { OnOk result
+        ((b : Basis) → FitsBasis ground.now b → Keeps b sheet.old sheet.new) }
 {
     replace(ground, sheet, t, around.before, sides, around.after)?;
     let from = joined(sheet.alloc, sides.from, around.after)?;
@@ -96,10 +99,12 @@ pub(crate) fn close(
 ) -> Result<(), AllocError>
     requires sheet { IsSheet sheet.old }
     requires t { IsOf sheet.old.table t }
-    requires words { SaysBoth ground.now sheet.old (term_at sheet.old.table t) words.from.now words.to.now }
+    requires words { SaysBoth ground.now sheet.old
+        (term_at sheet.old.table t) words.from.now words.to.now }
     requires ends { SaysEnds ground.now sheet.old (term_at sheet.old.table t) words ends }
     requires oriented { IsOriented rule.now ends.from.now ends.to.now }
-    ensures both { OnOk result (SaysBoth ground.now sheet.new (term_at sheet.old.table t) rule.now.left rule.now.right) }
+    ensures both { OnOk result
+        (SaysBoth ground.now sheet.new (term_at sheet.old.table t) rule.now.left rule.now.right) }
     ensures grows { Grows sheet.old sheet.new }
     ensures derives { OnOk result ((b : Basis) → Keeps b sheet.old sheet.new) }
 {
@@ -121,13 +126,17 @@ pub(crate) fn meet_across(
 ) -> Result<(), AllocError>
     requires sheet { IsSheet sheet.old }
     requires t { IsOf sheet.old.table t }
-    requires first { SaysBoth ground.now sheet.old (term_at sheet.old.table t) first.from.now first.to.now }
-    requires second { SaysBehind ground.now sheet.old (term_at sheet.old.table t) around.before.now second.from.now second.to.now }
+    requires first { SaysBoth ground.now sheet.old
+        (term_at sheet.old.table t) first.from.now first.to.now }
+    requires second { SaysBehind ground.now sheet.old
+        (term_at sheet.old.table t) around.before.now second.from.now second.to.now }
     requires word { first.from.now ++ around.after.now ≡ around.before.now ++ second.from.now }
-    ensures both { OnOk result (SaysBoth ground.now sheet.new (term_at sheet.old.table t) (first.entry.to.now ++ around.entry.after.now)
+    ensures both { OnOk result (SaysBoth ground.now sheet.new (term_at sheet.old.table t)
+        (first.entry.to.now ++ around.entry.after.now)
         (around.entry.before.now ++ second.entry.to.now)) }
     ensures grows { Grows sheet.old sheet.new }
-    ensures derives { OnOk result ((b : Basis) → FitsBasis ground.now b → Keeps b sheet.old sheet.new) }
+    ensures derives { OnOk result
+        ((b : Basis) → FitsBasis ground.now b → Keeps b sheet.old sheet.new) }
 {
     put_side(ground, sheet, t, first.from, first.to, around.after)?;
     let w = joined(sheet.alloc, first.from, around.after)?;

@@ -55,7 +55,8 @@ pub(crate) fn take_step(
 ) -> Result<(), AllocError>
     requires sheet { IsSheet sheet.old }
     requires t { IsOf sheet.old.table t }
-    requires both { SaysBoth ground.now sheet.old (read ground.now (term_at sheet.old.table t) step.now.before)
+    requires both { SaysBoth ground.now sheet.old
+        (read ground.now (term_at sheet.old.table t) step.now.before)
         rule.now.left rule.now.right }
     requires word { SaysWord ground.now sheet.old (term_at sheet.old.table t)
         (step.now.before ++ (replaced_side step.now.forward rule.now ++ step.now.after)) }
@@ -63,7 +64,8 @@ pub(crate) fn take_step(
         (step.now.before ++ (replaced_side step.now.forward rule.now ++ step.now.after))
         (step.now.before ++ (put_side step.now.forward rule.now ++ step.now.after))) }
     ensures grows { Grows sheet.old sheet.new }
-    ensures derives { OnOk result ((b : Basis) → FitsBasis ground.now b → Keeps b sheet.old sheet.new) }
+    ensures derives { OnOk result
+        ((b : Basis) → FitsBasis ground.now b → Keeps b sheet.old sheet.new) }
 {
     let left = rule.left.symbols();
     let right = rule.right.symbols();

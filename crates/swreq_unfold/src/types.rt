@@ -46,7 +46,8 @@ pub(crate) fn start(sheet: &mut Sheet, scope: Scope, head: ParamId) -> Result<Te
     requires sheet { IsSheet sheet.old }
     requires t { IsOf sheet.old.table scope.t }
     ensures is_of { IfOk result (IsOf sheet.new.table) }
-    ensures stands { IfOk result (λ u. term_at sheet.new.table u ≡ placed scope.owner (term_at sheet.old.table scope.t) (Generic head)) }
+    ensures stands { IfOk result (λ u. term_at sheet.new.table u
+        ≡ placed scope.owner (term_at sheet.old.table scope.t) (Generic head)) }
     ensures grows { Grows sheet.old sheet.new }
     ensures derives { OnOk result ((b : Basis) → Keeps b sheet.old sheet.new) }
 {
@@ -68,7 +69,8 @@ pub(crate) fn path_between(
 ) -> Result<Option<Path>, AllocError>
     requires { length rules.now < 2 ^ 32 - 1 }
     ensures start { IfOk result (λ o. IfSome o (λ p. p.start ≡ u.now)) }
-    ensures target { IfOk result (λ o. MatchOption o (ReduceAlike rules.now u.now v.now → ⊥) (λ p. HasTarget rules.now p v.now)) }
+    ensures target { IfOk result (λ o.
+        MatchOption o (ReduceAlike rules.now u.now v.now → ⊥) (λ p. HasTarget rules.now p v.now)) }
     ensures alike { IfOk result (λ o. IfSome o (λ p. ReduceAlike rules.now u.now v.now)) }
 {
     let forth = path_of(alloc, rules, u)?;

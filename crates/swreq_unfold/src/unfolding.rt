@@ -42,12 +42,16 @@ pub(crate) fn walk_along(
     requires rules { HasRules book.now at }
     requires sheet { IsSheet sheet.old }
     requires t { IsOf sheet.old.table t }
-    requires path { (b : List SymbolView) × HasTarget (take at.rule (rules_at book.now at.system)) path.now b }
+    requires path { (b : List SymbolView)
+        × HasTarget (take at.rule (rules_at book.now at.system)) path.now b }
     requires word { SaysWord book.now.ground sheet.old (term_at sheet.old.table t) path.now.start }
-    ensures target { IfOk result (λ w. HasTarget (take at.rule (rules_at book.now at.system)) path.now w) }
-    ensures both { IfOk result (λ w. SaysBoth book.now.ground sheet.new (term_at sheet.old.table t) path.now.start w) }
+    ensures target { IfOk result
+        (λ w. HasTarget (take at.rule (rules_at book.now at.system)) path.now w) }
+    ensures both { IfOk result
+        (λ w. SaysBoth book.now.ground sheet.new (term_at sheet.old.table t) path.now.start w) }
     ensures grows { Grows sheet.old sheet.new }
-    ensures derives { OnOk result ((b : Basis) → FitsBook book.now b → Keeps b sheet.old sheet.new) }
+    ensures derives { OnOk result
+        ((b : Basis) → FitsBook book.now b → Keeps b sheet.old sheet.new) }
 {
     let rules = rules_before(book, at);
     let mut word = path.start.clone()?;
@@ -84,11 +88,15 @@ fn settle(
     requires rule { HasRule book.now at rule.now }
     requires sheet { IsSheet sheet.old }
     requires t { IsOf sheet.old.table t }
-    requires both { SaysBoth book.now.ground sheet.old (term_at sheet.old.table t) words.from.now words.to.now }
-    requires reduces { ReducesTo (rules_at book.now at.system) at.rule words.from.now words.to.now rule.now }
-    ensures both { OnOk result (SaysBoth book.now.ground sheet.new (term_at sheet.old.table t) rule.now.left rule.now.right) }
+    requires both { SaysBoth book.now.ground sheet.old
+        (term_at sheet.old.table t) words.from.now words.to.now }
+    requires reduces { ReducesTo (rules_at book.now at.system) at.rule
+        words.from.now words.to.now rule.now }
+    ensures both { OnOk result (SaysBoth book.now.ground sheet.new
+        (term_at sheet.old.table t) rule.now.left rule.now.right) }
     ensures grows { Grows sheet.old sheet.new }
-    ensures derives { OnOk result ((b : Basis) → FitsBook book.now b → Keeps b sheet.old sheet.new) }
+    ensures derives { OnOk result
+        ((b : Basis) → FitsBook book.now b → Keeps b sheet.old sheet.new) }
 {
     let rules = rules_before(book, at);
     let forth = path_of(sheet.alloc, rules, words.from)?;
@@ -122,10 +130,13 @@ pub fn unfold(
     requires rule { HasRule book.now at rule.now }
     requires sheet { IsSheet sheet.old }
     requires t { IsOf sheet.old.table t }
-    requires allows { AllowsWord book.now.ground sheet.old (term_at sheet.old.table t) rule.now.left }
-    ensures both { OnOk result (SaysBoth book.now.ground sheet.new (term_at sheet.old.table t) rule.now.left rule.now.right) }
+    requires allows { AllowsWord book.now.ground sheet.old
+        (term_at sheet.old.table t) rule.now.left }
+    ensures both { OnOk result (SaysBoth book.now.ground sheet.new
+        (term_at sheet.old.table t) rule.now.left rule.now.right) }
     ensures grows { Grows sheet.old sheet.new }
-    ensures derives { OnOk result ((b : Basis) → FitsBook book.now b → Keeps b sheet.old sheet.new) }
+    ensures derives { OnOk result
+        ((b : Basis) → FitsBook book.now b → Keeps b sheet.old sheet.new) }
 {
     let system = system_at(book, at.system);
     if at.rule < system.base {
@@ -172,10 +183,13 @@ fn from_equation(
     requires born { IsBornAt book.now at rule.now (births.Given n) }
     requires sheet { IsSheet sheet.old }
     requires t { IsOf sheet.old.table t }
-    requires allows { AllowsWord book.now.ground sheet.old (term_at sheet.old.table t) rule.now.left }
-    ensures both { OnOk result (SaysBoth book.now.ground sheet.new (term_at sheet.old.table t) rule.now.left rule.now.right) }
+    requires allows { AllowsWord book.now.ground sheet.old
+        (term_at sheet.old.table t) rule.now.left }
+    ensures both { OnOk result (SaysBoth book.now.ground sheet.new
+        (term_at sheet.old.table t) rule.now.left rule.now.right) }
     ensures grows { Grows sheet.old sheet.new }
-    ensures derives { OnOk result ((b : Basis) → FitsBook book.now b → Keeps b sheet.old sheet.new) }
+    ensures derives { OnOk result
+        ((b : Basis) → FitsBook book.now b → Keeps b sheet.old sheet.new) }
 {
     let equation = equation_at(book, at.system, n);
     give(book, sheet, at.system, equation, t)?;
@@ -207,10 +221,13 @@ fn from_pair(
     requires born { IsBornAt book.now at rule.now (births.Pair place.i place.j place.at) }
     requires sheet { IsSheet sheet.old }
     requires t { IsOf sheet.old.table t }
-    requires allows { AllowsWord book.now.ground sheet.old (term_at sheet.old.table t) rule.now.left }
-    ensures both { OnOk result (SaysBoth book.now.ground sheet.new (term_at sheet.old.table t) rule.now.left rule.now.right) }
+    requires allows { AllowsWord book.now.ground sheet.old
+        (term_at sheet.old.table t) rule.now.left }
+    ensures both { OnOk result (SaysBoth book.now.ground sheet.new
+        (term_at sheet.old.table t) rule.now.left rule.now.right) }
     ensures grows { Grows sheet.old sheet.new }
-    ensures derives { OnOk result ((b : Basis) → FitsBook book.now b → Keeps b sheet.old sheet.new) }
+    ensures derives { OnOk result
+        ((b : Basis) → FitsBook book.now b → Keeps b sheet.old sheet.new) }
 {
     let rules = all_rules(book, at.system);
     let first = rule_of(rules, place.i);
@@ -241,10 +258,13 @@ fn give(
     requires equation { HasEquation book.now system equation.now }
     requires sheet { IsSheet sheet.old }
     requires t { IsOf sheet.old.table t }
-    requires allows { AllowsWord book.now.ground sheet.old (term_at sheet.old.table t) equation.now.left }
-    ensures both { OnOk result (SaysBoth book.now.ground sheet.new (term_at sheet.old.table t) equation.now.left equation.now.right) }
+    requires allows { AllowsWord book.now.ground sheet.old
+        (term_at sheet.old.table t) equation.now.left }
+    ensures both { OnOk result (SaysBoth book.now.ground sheet.new
+        (term_at sheet.old.table t) equation.now.left equation.now.right) }
     ensures grows { Grows sheet.old sheet.new }
-    ensures derives { OnOk result ((b : Basis) → FitsBook book.now b → Keeps b sheet.old sheet.new) }
+    ensures derives { OnOk result
+        ((b : Basis) → FitsBook book.now b → Keeps b sheet.old sheet.new) }
 {
     match &equation.reason {
         Reason::Doubled { .. } => Ok(()),
@@ -287,12 +307,15 @@ fn give_required(
     requires sheet { IsSheet sheet.old }
     requires t { IsOf sheet.old.table scope.t }
     requires owner { Allows sheet.old (term_at sheet.old.table scope.t) scope.owner }
-    requires shown { HasShownSides book.now.ground scope.owner (rules_at book.now scope.system) requirement.now
+    requires shown { HasShownSides book.now.ground scope.owner
+        (rules_at book.now scope.system) requirement.now
         words.from.now words.to.now }
-    ensures both { OnOk result (SaysBoth book.now.ground sheet.new (term_at sheet.old.table scope.t) words.entry.from.now
+    ensures both { OnOk result
+        (SaysBoth book.now.ground sheet.new (term_at sheet.old.table scope.t) words.entry.from.now
         words.entry.to.now) }
     ensures grows { Grows sheet.old sheet.new }
-    ensures derives { OnOk result ((b : Basis) → FitsBook book.now b → HasNumber number (written_by b scope.owner)
+    ensures derives { OnOk result
+        ((b : Basis) → FitsBook book.now b → HasNumber number (written_by b scope.owner)
         (requirement_by requirement.now)
         → Keeps b sheet.old sheet.new) }
 {
@@ -336,15 +359,20 @@ pub fn read_type(
     requires sheet { IsSheet sheet.old }
     requires t { IsOf sheet.old.table scope.t }
     requires owner { Allows sheet.old (term_at sheet.old.table scope.t) scope.owner }
-    requires shown { IsShown book.now.ground scope.owner (rules_at book.now scope.system) (as_term param.now) word.now }
+    requires shown { IsShown book.now.ground scope.owner (rules_at book.now scope.system)
+        (as_term param.now) word.now }
     ensures is_of { IfOk result (IsOf sheet.new.table) }
-    ensures stands { IfOk result (λ u. term_at sheet.new.table u ≡ placed scope.owner (term_at sheet.old.table scope.t)
+    ensures stands { IfOk result
+        (λ u. term_at sheet.new.table u ≡ placed scope.owner (term_at sheet.old.table scope.t)
         (as_term param.now)) }
-    ensures word { OnOk result (SaysWord book.now.ground sheet.new (term_at sheet.old.table scope.t) word.now) }
-    ensures equal { OnOk result (AreSaidEqual sheet.new (placed scope.owner (term_at sheet.old.table scope.t) (as_term param.now))
+    ensures word { OnOk result
+        (SaysWord book.now.ground sheet.new (term_at sheet.old.table scope.t) word.now) }
+    ensures equal { OnOk result (AreSaidEqual sheet.new
+        (placed scope.owner (term_at sheet.old.table scope.t) (as_term param.now))
         (read book.now.ground (term_at sheet.old.table scope.t) word.now)) }
     ensures grows { Grows sheet.old sheet.new }
-    ensures derives { OnOk result ((b : Basis) → FitsBook book.now b → Keeps b sheet.old sheet.new) }
+    ensures derives { OnOk result
+        ((b : Basis) → FitsBook book.now b → Keeps b sheet.old sheet.new) }
 {
     let mut at = start(sheet, scope, param.head)?;
     for k in 0..param.steps.items().len() {
@@ -372,9 +400,11 @@ pub fn declare(
     requires t { IsOf sheet.old.table scope.t }
     requires word { SaysWord book.now.ground sheet.old (term_at sheet.old.table scope.t) word.now }
     requires shown { IsStepShown book.now.ground (rules_at book.now scope.system) word.now step }
-    ensures given { IfOk result (IsGiven book.now.ground sheet.new (read book.now.ground (term_at sheet.old.table scope.t) word.now) step) }
+    ensures given { IfOk result (IsGiven book.now.ground sheet.new
+        (read book.now.ground (term_at sheet.old.table scope.t) word.now) step) }
     ensures grows { Grows sheet.old sheet.new }
-    ensures derives { OnOk result ((b : Basis) → FitsBook book.now b → Keeps b sheet.old sheet.new) }
+    ensures derives { OnOk result
+        ((b : Basis) → FitsBook book.now b → Keeps b sheet.old sheet.new) }
 {
     let last = read(&book.ground, sheet, scope.t, word)?;
     match given_step(&book.ground, sheet, last, step) {

@@ -39,7 +39,8 @@ on_true true f h = f h
 on_true false f h = tt
 
 -- words are linked where their least words are the same
-pub linked_by_least : (rules : List Rule) (u v a b : Word) (r : Bool) → Links rules u a → Links rules v b → IsLeastBy rules a → IsLeastBy rules b
+pub linked_by_least : (rules : List Rule) (u v a b : Word) (r : Bool) → Links rules u a → Links rules v b
+    → IsLeastBy rules a → IsLeastBy rules b
     → Decides r (a ≡ b) → Decides r (Links rules u v)
 linked_by_least rules u v a b r p q l n d = (
   (λ e. linked_on p (linked_back (subst (λ z. Links rules v z) (sym (d.0 e)) q))),
@@ -64,44 +65,60 @@ module _ (w : TextWorld) (closed : IsClosed w) (machine : MachineView) (list : L
   Shown t = ShowsValid m f (source_over (Signature machine.params)) (Links rules) t
 
   pub shown_derivable : (t : Term) → Shown t → IsDerivable w machine list (IsValid t)
-  shown_derivable t h = list_derivable w closed machine list is t (shown_by_params m f (generic_params machine.params) [] list (Links rules) t h)
+  shown_derivable t h =
+      list_derivable w closed machine list is t (shown_by_params m f (generic_params machine.params) [] list (Links rules) t h)
 
   pub derivable_shown : (t : Term) → IsDerivable w machine list (IsValid t) → Shown t
-  derivable_shown t e = shown_by_params m f (generic_params machine.params) list [] (Links rules) t (list_shown w closed machine list is t e)
+  derivable_shown t e =
+      shown_by_params m f (generic_params machine.params) list [] (Links rules) t (list_shown w closed machine list is t e)
 
   pub valid_answer : (t : Term) (r : Bool) → Decides r (Shown t) → Decides r (IsDerivable w machine list (IsValid t))
   valid_answer t r d = ((λ h. shown_derivable t (d.0 h)), λ e. d.1 (derivable_shown t e))
 
   -- of valid type parameters it is derivable where the two sides of its equation are linked
-  pub by_sides : (r : TermRequirement) → HasValidSides f s r → IsDerivable w machine list (Requires r) ↔ Links rules (left_side m s r) (right_side m s r)
-  by_sides r v = let both = is.rules (left_side m s r) (right_side m s r) in let law = congruent r v in ((λ e. both.1 (law.0 e)), λ l. law.1 (both.0 l))
+  pub by_sides : (r : TermRequirement) → HasValidSides f s r
+      → IsDerivable w machine list (Requires r) ↔ Links rules (left_side m s r) (right_side m s r)
+  by_sides r v = let both = is.rules (left_side m s r) (right_side m s r) in let law = congruent r v in
+      ((λ e. both.1 (law.0 e)), λ l. law.1 (both.0 l))
     where
-      congruent : (r : TermRequirement) → HasValidSides f s r → IsDerivable w machine list (Requires r) ↔ AreCongruent m f s (left_side m s r) (right_side m s r)
+      congruent : (r : TermRequirement) → HasValidSides f s r
+          → IsDerivable w machine list (Requires r) ↔ AreCongruent m f s (left_side m s r) (right_side m s r)
       congruent (Conforms t p) v = conforming_words m f (symbols_law w closed) s (text_law w closed) is.in_text t p v
       congruent (IsAnyObject t) v = layout_words m f (symbols_law w closed) s (text_law w closed) is.in_text t v
       congruent (Equals t u) v = equal_words m f (symbols_law w closed) s (text_law w closed) is.in_text t u v.0 v.1
 
-  pub conforms_answer : (t : Term) (p : ProtoId) (r : Bool) → Decides r (IsBehind w machine t (Proto p.rank)) → Decides r (IsDerivable w machine list (Requires (Conforms t p)))
+  pub conforms_answer : (t : Term) (p : ProtoId) (r : Bool) → Decides r (IsBehind w machine t (Proto p.rank))
+      → Decides r (IsDerivable w machine list (Requires (Conforms t p)))
   conforms_answer t p r d = (
     (λ h. let b = d.0 h in
-        (by_sides (Conforms t p) (shown_derivable t b.0)).1 (subst (λ z. Links rules z (word_of m s t)) (spell-append m s t [] (Proto p.rank ∷ [])) b.1)),
+        (by_sides (Conforms t p) (shown_derivable t b.0)).1
+        (subst (λ z. Links rules z (word_of m s t)) (spell-append m s t [] (Proto p.rank ∷ [])) b.1)),
     λ e.
         let v = valid_sides f s (Conforms t p) e in
-        d.1 (derivable_shown t v, subst (λ z. Links rules z (word_of m s t)) (sym (spell-append m s t [] (Proto p.rank ∷ []))) ((by_sides (Conforms t p) v).0 e)),
+        d.1 (
+          derivable_shown t v,
+          subst (λ z. Links rules z (word_of m s t)) (sym (spell-append m s t [] (Proto p.rank ∷ []))) ((by_sides (Conforms t p) v).0 e),
+        ),
   )
 
-  pub layout_answer : (t : Term) (r : Bool) → Decides r (IsBehind w machine t Layout) → Decides r (IsDerivable w machine list (Requires (IsAnyObject t)))
+  pub layout_answer : (t : Term) (r : Bool) → Decides r (IsBehind w machine t Layout)
+      → Decides r (IsDerivable w machine list (Requires (IsAnyObject t)))
   layout_answer t r d = (
     (λ h. let b = d.0 h in
-        (by_sides (IsAnyObject t) (shown_derivable t b.0)).1 (subst (λ z. Links rules z (word_of m s t)) (spell-append m s t [] (Layout ∷ [])) b.1)),
+        (by_sides (IsAnyObject t) (shown_derivable t b.0)).1
+        (subst (λ z. Links rules z (word_of m s t)) (spell-append m s t [] (Layout ∷ [])) b.1)),
     λ e.
         let v = valid_sides f s (IsAnyObject t) e in
-        d.1 (derivable_shown t v, subst (λ z. Links rules z (word_of m s t)) (sym (spell-append m s t [] (Layout ∷ []))) ((by_sides (IsAnyObject t) v).0 e)),
+        d.1 (
+          derivable_shown t v,
+          subst (λ z. Links rules z (word_of m s t)) (sym (spell-append m s t [] (Layout ∷ []))) ((by_sides (IsAnyObject t) v).0 e),
+        ),
   )
 
   -- the least words of the two sides tell
   pub equal_answer : (t u : Term) (a b : Word) (r : Bool) → Shown t → Shown u → IsLeastBy rules a → IsLeastBy rules b
-      → Links rules (word_of m s t) a → Links rules (word_of m s u) b → Decides r (a ≡ b) → Decides r (IsDerivable w machine list (Requires (Equals t u)))
+      → Links rules (word_of m s t) a → Links rules (word_of m s u) b → Decides r (a ≡ b)
+      → Decides r (IsDerivable w machine list (Requires (Equals t u)))
   equal_answer t u a b r h k l n p q d =
       let law = by_sides (Equals t u) (shown_derivable t h, shown_derivable u k) in
       let links = linked_by_least rules (word_of m s t) (word_of m s u) a b r p q l n d in

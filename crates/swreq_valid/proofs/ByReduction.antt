@@ -36,7 +36,8 @@ alike_by rules u v m n p q b e = (
 
 module _ (x : LexiconView) (rules : List Rule) (over : Over) (t : Term) where
   module _ (a : NameId) where
-    declared_as : (d : AssocId) (e : ProtocolName) → slice_get x.associated d.rank ≡ Some e → (p : ProtoId) → DeclaresType x p a d → pair p a ≡ e
+    declared_as : (d : AssocId) (e : ProtocolName) → slice_get x.associated d.rank ≡ Some e → (p : ProtoId)
+        → DeclaresType x p a d → pair p a ≡ e
     declared_as d e at p c = same_Some (pair p a) e (sym (at_rank x p a d c) ∙ at)
 
     pub given_answer : (d : AssocId) (e : ProtocolName) (r : Bool) → slice_get x.associated d.rank ≡ Some e → e.name.rank ≡ a.rank
@@ -79,7 +80,8 @@ module _ (x : LexiconView) (rules : List Rule) (over : Over) (t : Term) where
 
 module _ (x : LexiconView) (rules : List Rule) (over : Over) (t : Term) where
   pub given_result : (a : NameId) (d : AssocId) (e : ProtocolName) (r : Result Bool AllocError) → slice_get x.associated d.rank ≡ Some e
-      → e.name.rank ≡ a.rank → IfOk r (λ b. IsTrue b ↔ ReducesConformance x rules over t e.proto) → IfOk r (λ b. IsTrue b ↔ IsGivenOf x rules over t a d)
+      → e.name.rank ≡ a.rank → IfOk r (λ b. IsTrue b ↔ ReducesConformance x rules over t e.proto)
+      → IfOk r (λ b. IsTrue b ↔ IsGivenOf x rules over t a d)
   given_result a d e (Ok b) at named h = given_answer x rules over t a d e b at named h
   given_result a d e (Err f) at named h = tt
 
@@ -89,13 +91,15 @@ module _ (x : LexiconView) (rules : List Rule) (over : Over) (t : Term) where
   assoc_result d e (Err f) at h = tt
 
 -- the protocol of an associated type is of the text
-pub in_text : (x : LexiconView) → AreIds x → (d : AssocId) (e : ProtocolName) → slice_get x.associated d.rank ≡ Some e → IsProtocol x e.proto
+pub in_text : (x : LexiconView) → AreIds x → (d : AssocId) (e : ProtocolName)
+    → slice_get x.associated d.rank ≡ Some e → IsProtocol x e.proto
 in_text x ids d e at = (ids.associated e (get_contains x.associated d.rank e at)).0
 
 -- ---- members
 
 module _ (w : TextWorld) (rules : List Rule) (over : Over) where
-  member_valid : (t : Term) (s : Step) → ReducesValid w rules over t → HasStepOf w.lexicon rules over t s → ReducesValid w rules over (Member t s)
+  member_valid : (t : Term) (s : Step) → ReducesValid w rules over t → HasStepOf w.lexicon rules over t s
+      → ReducesValid w rules over (Member t s)
   member_valid t (Name a) v (d, (p, h, k)) = (v, (p, d, h, k))
   member_valid t (Bound d) v (a, (p, h, k)) = (v, (p, a, h, k))
 

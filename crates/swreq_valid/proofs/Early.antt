@@ -48,15 +48,20 @@ abbrev AreGiven : List Rule → Type 0
 AreGiven trace = (k : ℕ) (rule : Rule) → slice_get trace k ≡ Some rule → IsTrue (is_given rule)
 
 module _ (base : ℕ) (front more : Equations) (trace : List Rule) where
-  sides_more : (m : Birth) (left right : List Symbol) → HasSides base front trace m left right → HasSides base (front ++ more) trace m left right
+  sides_more : (m : Birth) (left right : List Symbol) → HasSides base front trace m left right
+      → HasSides base (front ++ more) trace m left right
   sides_more (Given n) left right (k, e, s) = (k, e, get_left front more k (left, right) s)
   sides_more (Pair i j at) left right h = h
 
   -- a moment before one of the front is of the front
   sides_before : (b m : Birth) (bl br left right : List Symbol) → IsTrue (is_of_equation b) → HasSides base front trace b bl br → Before m b
       → HasSides base (front ++ more) trace m left right → HasSides base front trace m left right
-  sides_before (Given b) (Given n) bl br left right t (i, e, s) earlier (k, f, q) =
-      (k, f, get_front front more k (left, right) (let l = nat_less n b earlier in let w = slice_get_within front i (bl, br) s in omega (arith, l, w, e, f)) q)
+  sides_before (Given b) (Given n) bl br left right t (i, e, s) earlier (k, f, q) = (
+    k,
+    f,
+    get_front front more k (left, right)
+        (let l = nat_less n b earlier in let w = slice_get_within front i (bl, br) s in omega (arith, l, w, e, f)) q,
+  )
   sides_before (Given b) (Pair i j at) bl br left right t h earlier q = absurd cc
   sides_before (Pair i j at) m bl br left right t h earlier q = absurd cc
 
@@ -71,7 +76,8 @@ module _ (base : ℕ) (front more : Equations) (trace : List Rule) where
       settled = (h.born k rule b e).settled;
     };
     settled = λ k rule b e m left right s earlier. h.settled k rule b e m left right
-        (sides_before rule.birth m (h.born k rule b e).left (h.born k rule b e).right left right (among k rule e) (h.born k rule b e).sides earlier s) earlier;
+        (sides_before rule.birth m (h.born k rule b e).left (h.born k rule b e).right left right (among k rule e)
+        (h.born k rule b e).sides earlier s) earlier;
   }
 
   within_more : (limits : Limits) → AreGiven trace → IsWithin limits base front trace
@@ -80,7 +86,8 @@ module _ (base : ℕ) (front more : Equations) (trace : List Rule) where
 
 -- ---- a limit among the equations
 
-pub stops_by : (limits : Limits) (front : Equations) (e : Failed) → IsAnswer limits [] front (Err e) → IsLimitAmong e → StopsAmong limits front
+pub stops_by : (limits : Limits) (front : Equations) (e : Failed) → IsAnswer limits [] front (Err e) → IsLimitAmong e
+    → StopsAmong limits front
 stops_by limits front (Limit which trace) h among = record { which = which; trace = trace; passes = h.1; among = among }
 stops_by limits front Memory h among = absurd among
 
@@ -97,7 +104,8 @@ module _ (limits : Limits) (front : Equations) (s : StopsAmong limits front) whe
   among_within : (part : List Rule) → IsWithin limits 0 front part → AreGiven part
   among_within part w k rule e =
       let is = within_is_prefix limits [] front part s.trace refl w refl (inr (s.which, s.passes)) in
-      all_at is_given s.trace s.among k rule (in_whole s.trace (length part) k rule (subst (λ (z : List Rule). slice_get z k ≡ Some rule) is e))
+      all_at is_given s.trace s.among k rule
+      (in_whole s.trace (length part) k rule (subst (λ (z : List Rule). slice_get z k ≡ Some rule) is e))
 
   module _ (more : Equations) where
     front_within : (part : List Rule) → IsWithin limits 0 front part → IsWithin limits 0 (front ++ more) part
@@ -118,7 +126,8 @@ module _ (limits : Limits) (front : Equations) (s : StopsAmong limits front) whe
     )
     front_answer Memory h = h
 
-    front_told : (e : Failed) (old new : Option (List Event)) → TellsEvents limits [] front old new (Err e) → TellsEvents limits [] (front ++ more) old new (Err e)
+    front_told : (e : Failed) (old new : Option (List Event)) → TellsEvents limits [] front old new (Err e)
+        → TellsEvents limits [] (front ++ more) old new (Err e)
     front_told (Limit which trace) old new h = h
     front_told Memory old new (inl h) = inl h
     front_told Memory old new (inr (trace, b, w, h)) = inr (trace, b, front_within trace w, h)
@@ -135,7 +144,8 @@ module _ (limits : Limits) (front : Equations) (s : StopsAmong limits front) whe
       (a.0, record { passes = a.1; of_equations = λ k rule lo e. of_equation rule.birth (among_within trace h.1.within k rule e) })
 
   first_fails : (plan : Plan) (e : Failed) (old new : Option (List Event)) → IsAnswer limits [] front (Err e)
-      → IsAnswer limits plan.base (given plan []) (Err e) → TellsEvents limits plan.base (given plan []) old new (Err e) → Answers limits plan old new (Err e)
+      → IsAnswer limits plan.base (given plan []) (Err e) → TellsEvents limits plan.base (given plan []) old new (Err e)
+      → Answers limits plan old new (Err e)
   first_fails plan (Limit which trace) old new h a t = (
     events (length plan.base) trace,
     record {
@@ -166,7 +176,9 @@ module _ (limits : Limits) (front : Equations) (s : StopsAmong limits front) whe
       (same_told limits plan.base [] (front ++ more) (given plan []) old new (Err e) (sym over) all (front_told more e old new t))
 
 pub fails_by_front : (limits : Limits) (all front : Equations) (r : Option Failed) (old new : Option (List Event)) → IsFront front all
-    → MatchOption r (new ≡ old) (λ e. StopsAmong limits front × IsAnswer limits [] front (Err e) × TellsEvents limits [] front old new (Err e))
+    → MatchOption r (new ≡ old)
+    (λ e. StopsAmong limits front × IsAnswer limits [] front (Err e) × TellsEvents limits [] front old new (Err e))
     → MatchOption r (new ≡ old) (λ e. (plan : Plan) → plan.base ≡ [] → plan.basic ≡ all → Answers limits plan old new (Err e))
 fails_by_front limits all front None old new f h = h
-fails_by_front limits all front (Some e) old new f h = λ plan over is. first_round_fails limits front h.0 plan e old new over (f.0, is ∙ f.1) h.1 h.2
+fails_by_front limits all front (Some e) old new f h =
+    λ plan over is. first_round_fails limits front h.0 plan e old new over (f.0, is ∙ f.1) h.1 h.2

@@ -33,20 +33,24 @@ module _ (P : Side → Type 0) where
   head_fails s rest a n e = record { before = []; side = s; after = rest; split = refl; earlier = none_fails; fails = n; at_is = sym e }
 
   second_fails : (s t : Side) (a : ℕ) → P s → (P t → ⊥) → a ≡ t.at → FailsFirst P (s ∷ t ∷ []) a
-  second_fails s t a h n e = record { before = s ∷ []; side = t; after = []; split = refl; earlier = one_holds s h; fails = n; at_is = sym e }
+  second_fails s t a h n e =
+      record { before = s ∷ []; side = t; after = []; split = refl; earlier = one_holds s h; fails = n; at_is = sym e }
 
-  pub of_one : {E : Type 0} (result : Result (Option ℕ) E) (s : Side) (all : List Side) → all ≡ s ∷ [] → IfOk result (Tested s) → IfOk result (Found all)
+  pub of_one : {E : Type 0} (result : Result (Option ℕ) E) (s : Side) (all : List Side) → all ≡ s ∷ [] → IfOk result (Tested s)
+      → IfOk result (Found all)
   of_one (Ok None) s all e h = subst (HoldsOfEach P) (sym e) (one_holds s h)
   of_one (Ok (Some a)) s all e h = subst (λ z. FailsFirst P z a) (sym e) (head_fails s [] a h.0 h.1)
   of_one (Err x) s all e h = tt
 
-  pub of_second : {E : Type 0} (result : Result (Option ℕ) E) (s t : Side) (first : Option ℕ) (all : List Side) → all ≡ s ∷ t ∷ [] → first ≡ None
+  pub of_second : {E : Type 0} (result : Result (Option ℕ) E) (s t : Side) (first : Option ℕ) (all : List Side)
+      → all ≡ s ∷ t ∷ [] → first ≡ None
       → Tested s first → IfOk result (Tested t) → IfOk result (Found all)
   of_second (Ok None) s t first all e n k h = subst (HoldsOfEach P) (sym e) (two_hold s t (subst (Tested s) n k) h)
   of_second (Ok (Some a)) s t first all e n k h = subst (λ z. FailsFirst P z a) (sym e) (second_fails s t a (subst (Tested s) n k) h.0 h.1)
   of_second (Err x) s t first all e n k h = tt
 
-  pub of_first : (s t : Side) (a : ℕ) (first : Option ℕ) (all : List Side) → all ≡ s ∷ t ∷ [] → first ≡ Some a → Tested s first → FailsFirst P all a
+  pub of_first : (s t : Side) (a : ℕ) (first : Option ℕ) (all : List Side) → all ≡ s ∷ t ∷ [] → first ≡ Some a
+      → Tested s first → FailsFirst P all a
   of_first s t a first all e n k = let h = subst (Tested s) n k in subst (λ z. FailsFirst P z a) (sym e) (head_fails s (t ∷ []) a h.0 h.1)
 
 -- ---- one part after another
@@ -84,30 +88,39 @@ module _ (P : Side → Type 0) where
   all_hold all f = subst (HoldsOfEach P) (sym (f.split ∙ append-nil f.front)) f.holds
 
 -- the sides of a list are those of its items, one part after another
-module _ (P : Side → Type 0) {A : Type 0} (of : List A → List Side) (part : A → List Side) (none : of [] ≡ []) (one : (x : A) (xs : List A) → of (x ∷ xs) ≡ part x ++ of xs) where
+module _ (P : Side → Type 0) {A : Type 0} (of : List A → List Side) (part : A → List Side) (none : of [] ≡ [])
+    (one : (x : A) (xs : List A) → of (x ∷ xs) ≡ part x ++ of xs) where
   cut : (xs : List A) (k : ℕ) (d : A) → k < length xs → of (drop k xs) ≡ part (get_or xs k d) ++ of (drop (k + 1) xs)
   cut xs k d l = ap of (drop_more xs k d l) ∙ one (get_or xs k d) (drop (k + 1) xs)
 
-  pub holds_here : (xs : List A) (k : ℕ) (d : A) (found : Option ℕ) → k < length xs → SoFar P (of xs) (of (drop k xs)) → Found P (part (get_or xs k d)) found
+  pub holds_here : (xs : List A) (k : ℕ) (d : A) (found : Option ℕ) → k < length xs → SoFar P (of xs) (of (drop k xs))
+      → Found P (part (get_or xs k d)) found
       → found ≡ None → SoFar P (of xs) (of (drop (k + 1) xs))
   holds_here xs k d found l f h n =
-      part_holds P (of xs) (part (get_or xs k d)) (of (drop (k + 1) xs)) (subst (SoFar P (of xs)) (cut xs k d l) f) (subst (Found P (part (get_or xs k d))) n h)
+      part_holds P (of xs) (part (get_or xs k d)) (of (drop (k + 1) xs)) (subst (SoFar P (of xs)) (cut xs k d l) f)
+      (subst (Found P (part (get_or xs k d))) n h)
 
-  pub fails_here : (xs : List A) (k : ℕ) (d : A) (found : Option ℕ) (at : ℕ) → k < length xs → SoFar P (of xs) (of (drop k xs)) → Found P (part (get_or xs k d)) found
+  pub fails_here : (xs : List A) (k : ℕ) (d : A) (found : Option ℕ) (at : ℕ) → k < length xs → SoFar P (of xs) (of (drop k xs))
+      → Found P (part (get_or xs k d)) found
       → found ≡ Some at → FailsFirst P (of xs) at
   fails_here xs k d found at l f h n =
-      part_fails P (of xs) (part (get_or xs k d)) (of (drop (k + 1) xs)) at (subst (SoFar P (of xs)) (cut xs k d l) f) (subst (Found P (part (get_or xs k d))) n h)
+      part_fails P (of xs) (part (get_or xs k d)) (of (drop (k + 1) xs)) at (subst (SoFar P (of xs)) (cut xs k d l) f)
+      (subst (Found P (part (get_or xs k d))) n h)
 
   -- as `holds_here`, where the item is found at its place
-  pub holds_at : (xs : List A) (k : ℕ) (x : A) (found : Option ℕ) → slice_get xs k ≡ Some x → SoFar P (of xs) (of (drop k xs)) → Found P (part x) found
+  pub holds_at : (xs : List A) (k : ℕ) (x : A) (found : Option ℕ) → slice_get xs k ≡ Some x → SoFar P (of xs) (of (drop k xs))
+      → Found P (part x) found
       → found ≡ None → SoFar P (of xs) (of (drop (k + 1) xs))
   holds_at xs k x found e f h n =
-      holds_here xs k x found (slice_get_within xs k x e) f (subst (λ z. Found P (part z) found) (sym (get_or_from_slice_get xs k x x e)) h) n
+      holds_here xs k x found (slice_get_within xs k x e) f
+      (subst (λ z. Found P (part z) found) (sym (get_or_from_slice_get xs k x x e)) h) n
 
-  pub fails_at : (xs : List A) (k : ℕ) (x : A) (found : Option ℕ) (at : ℕ) → slice_get xs k ≡ Some x → SoFar P (of xs) (of (drop k xs)) → Found P (part x) found
+  pub fails_at : (xs : List A) (k : ℕ) (x : A) (found : Option ℕ) (at : ℕ) → slice_get xs k ≡ Some x → SoFar P (of xs) (of (drop k xs))
+      → Found P (part x) found
       → found ≡ Some at → FailsFirst P (of xs) at
   fails_at xs k x found at e f h n =
-      fails_here xs k x found at (slice_get_within xs k x e) f (subst (λ z. Found P (part z) found) (sym (get_or_from_slice_get xs k x x e)) h) n
+      fails_here xs k x found at (slice_get_within xs k x e) f
+      (subst (λ z. Found P (part z) found) (sym (get_or_from_slice_get xs k x x e)) h) n
 
   pub hold_all : (xs : List A) (k : ℕ) → length xs ≤ k → SoFar P (of xs) (of (drop k xs)) → HoldsOfEach P (of xs)
   hold_all xs k l f = all_hold P (of xs) (subst (SoFar P (of xs)) (ap of (drop_all k xs l) ∙ none) f)
@@ -117,7 +130,8 @@ module _ (P : Side → Type 0) {A : Type 0} (of : List A → List Side) (part : 
 pub each_to : (P Q : Side → Type 0) (all : List Side) → ((s : Side) → P s → Q s) → HoldsOfEach P all → HoldsOfEach Q all
 each_to P Q all to h = λ s k. to s (h s k)
 
-pub first_to : (P Q : Side → Type 0) (all : List Side) (at : ℕ) → ((s : Side) → Contains all s → P s → Q s) → ((s : Side) → Contains all s → Q s → P s)
+pub first_to : (P Q : Side → Type 0) (all : List Side) (at : ℕ) → ((s : Side) → Contains all s → P s → Q s)
+    → ((s : Side) → Contains all s → Q s → P s)
     → FailsFirst P all at → FailsFirst Q all at
 first_to P Q all at to back h = record {
   before = h.before;
@@ -125,7 +139,8 @@ first_to P Q all at to back h = record {
   after = h.after;
   split = h.split;
   earlier = λ s k. to s (within s (Contains-append_left h.before (h.side ∷ h.after) s k)) (h.earlier s k);
-  fails = λ q. h.fails (back h.side (within h.side (Contains-append_right h.before (h.side ∷ h.after) h.side (first_member h.side h.after))) q);
+  fails =
+      λ q. h.fails (back h.side (within h.side (Contains-append_right h.before (h.side ∷ h.after) h.side (first_member h.side h.after))) q);
   at_is = h.at_is;
 }
   where
@@ -136,17 +151,21 @@ first_to P Q all at to back h = record {
 
 pub not_both : (P : Side → Type 0) (all : List Side) (at : ℕ) → HoldsOfEach P all → FailsFirst P all at → ⊥
 not_both P all at h f =
-    f.fails (h f.side (subst (λ z. Contains z f.side) (sym f.split) (Contains-append_right f.before (f.side ∷ f.after) f.side (first_member f.side f.after))))
+    f.fails (h f.side
+    (subst (λ z. Contains z f.side) (sym f.split) (Contains-append_right f.before (f.side ∷ f.after) f.side (first_member f.side f.after))))
 
 -- of two cuts of one list, the front of the one holds the first of the other's rest, or the firsts are one
-one_cut : (P : Side → Type 0) (xs ys : List Side) (x y : Side) (v w : List Side) → xs ++ (x ∷ v) ≡ ys ++ (y ∷ w) → HoldsOfEach P xs → HoldsOfEach P ys
+one_cut : (P : Side → Type 0) (xs ys : List Side) (x y : Side) (v w : List Side) → xs ++ (x ∷ v) ≡ ys ++ (y ∷ w)
+    → HoldsOfEach P xs → HoldsOfEach P ys
     → (P x → ⊥) → (P y → ⊥) → x ≡ y
 one_cut P [] [] x y v w e h k n m = same_head x y v w e
 one_cut P [] (z ∷ ys) x y v w e h k n m = absurd (n (subst P (sym (same_head x z v (ys ++ (y ∷ w)) e)) (k z (first_member z ys))))
 one_cut P (z ∷ xs) [] x y v w e h k n m = absurd (m (subst P (same_head z y (xs ++ (x ∷ v)) w e) (h z (first_member z xs))))
 one_cut P (z ∷ xs) (t ∷ ys) x y v w e h k n m =
-    one_cut P xs ys x y v w (same_rest z t (xs ++ (x ∷ v)) (ys ++ (y ∷ w)) e) (λ s c. h s (later_member z s xs c)) (λ s c. k s (later_member t s ys c)) n m
+    one_cut P xs ys x y v w (same_rest z t (xs ++ (x ∷ v)) (ys ++ (y ∷ w)) e) (λ s c. h s (later_member z s xs c))
+    (λ s c. k s (later_member t s ys c)) n m
 
 pub one_first : (P : Side → Type 0) (all : List Side) (at to : ℕ) → FailsFirst P all at → FailsFirst P all to → at ≡ to
 one_first P all at to h k =
-    sym h.at_is ∙ ap (λ (s : Side). s.at) (one_cut P h.before k.before h.side k.side h.after k.after (sym h.split ∙ k.split) h.earlier k.earlier h.fails k.fails) ∙ k.at_is
+    sym h.at_is ∙ ap (λ (s : Side). s.at)
+    (one_cut P h.before k.before h.side k.side h.after k.after (sym h.split ∙ k.split) h.earlier k.earlier h.fails k.fails) ∙ k.at_is

@@ -53,7 +53,8 @@ module _ (w : TextWorld) (closed : IsClosed w) (machine : MachineView) (list : L
   conforms_decide t p v =
       let law = by_sides w closed machine list is (Conforms t p) v in
       let r = Conforms t p in
-      elim (links_decide (last_rules machine.rounds) complete (left_side (symbols_of w.lexicon) s r) (right_side (symbols_of w.lexicon) s r)) [
+      elim (links_decide (last_rules machine.rounds) complete (left_side (symbols_of w.lexicon) s r)
+      (right_side (symbols_of w.lexicon) s r)) [
         | inl l ↦ inl (law.1 l)
         | inr n ↦ inr (λ e. n (law.0 e))
       ]
@@ -65,7 +66,8 @@ module _ (w : TextWorld) (closed : IsClosed w) (machine : MachineView) (list : L
   gives_decide : (t : Term) (a : NameId) → Derivable f s (IsValid t) → (k : ℕ) → Gives t a k ⊎ (Gives t a k → ⊥)
   gives_decide t a v k = at (slice_get w.lexicon.associated k) refl
     where
-      other : (e : ProtocolName) → slice_get w.lexicon.associated k ≡ Some e → (p : ProtoId) → Declares f p a (record { rank = k }) → pair p a ≡ e
+      other : (e : ProtocolName) → slice_get w.lexicon.associated k ≡ Some e → (p : ProtoId)
+          → Declares f p a (record { rank = k }) → pair p a ≡ e
       other e h p d = same_Some (pair p a) e (sym (at_rank w.lexicon p a (record { rank = k }) d) ∙ h)
 
       at : (o : Option ProtocolName) → slice_get w.lexicon.associated k ≡ o → Gives t a k ⊎ (Gives t a k → ⊥)
@@ -73,10 +75,12 @@ module _ (w : TextWorld) (closed : IsClosed w) (machine : MachineView) (list : L
       at (Some e) h = elim (cases_eq e.name.rank a.rank) [
         | inr n ↦ inr (λ g. n (sym (ap (λ (z : ProtocolName). z.name.rank) (other e h g.0 g.1))))
         | inl q ↦ (let same : e ≡ pair e.proto a = λ j. record { proto = e.proto; name = record { rank = q j } } in
-            let declared : Declares f e.proto a (record { rank = k }) = from_rank w.lexicon e.proto a (record { rank = k }) (h ∙ ap Some same) in
+            let declared : Declares f e.proto a (record { rank = k }) =
+            from_rank w.lexicon e.proto a (record { rank = k }) (h ∙ ap Some same) in
             elim (conforms_decide t e.proto v) [
               | inl c ↦ inl (e.proto, declared, c)
-              | inr n ↦ inr (λ g. n (subst (λ (z : ProtoId). Derivable f s (Requires (Conforms t z))) (ap (λ (z : ProtocolName). z.proto) (other e h g.0 g.1)) g.2))
+              | inr n ↦ inr (λ g. n (subst (λ (z : ProtoId). Derivable f s (Requires (Conforms t z)))
+                  (ap (λ (z : ProtocolName). z.proto) (other e h g.0 g.1)) g.2))
             ])
       ]
 

@@ -45,7 +45,8 @@ module _ {A : Type 0} where
   tells_length P (x ∷ xs) [] t = absurd t
   tells_length P (x ∷ xs) (b ∷ bs) t = let h = tells_length P xs bs t.1 in omega (arith, h)
 
-  pub tells_one_more : (P : A → Type 0) (xs : List A) (bs : List Bool) (x : A) (b : Bool) → Tells P xs bs → Decides b (P x) → Tells P (xs ++ x ∷ []) (bs ++ b ∷ [])
+  pub tells_one_more : (P : A → Type 0) (xs : List A) (bs : List Bool) (x : A) (b : Bool) → Tells P xs bs → Decides b (P x)
+      → Tells P (xs ++ x ∷ []) (bs ++ b ∷ [])
   tells_one_more P [] [] x b t d = (d, tt)
   tells_one_more P [] (c ∷ bs) x b t d = absurd t
   tells_one_more P (y ∷ xs) [] x b t d = absurd t
@@ -58,25 +59,29 @@ module _ {A : Type 0} where
   count_chosen (x ∷ xs) (true ∷ bs) e = let h = count_chosen xs bs (omega (arith, e)) in omega (arith, h)
   count_chosen (x ∷ xs) (false ∷ bs) e = let h = count_chosen xs bs (omega (arith, e)) in omega (arith, h)
 
-pub tells_map : {A B : Type 0} (P : B → Type 0) (g : A → B) (xs : List A) (bs : List Bool) → Tells (λ x. P (g x)) xs bs → Tells P (map g xs) bs
+pub tells_map : {A B : Type 0} (P : B → Type 0) (g : A → B) (xs : List A) (bs : List Bool)
+    → Tells (λ x. P (g x)) xs bs → Tells P (map g xs) bs
 tells_map P g [] [] t = t
 tells_map P g [] (b ∷ bs) t = absurd t
 tells_map P g (x ∷ xs) [] t = absurd t
 tells_map P g (x ∷ xs) (b ∷ bs) t = (t.0, tells_map P g xs bs t.1)
 
-pub tells_to : {A : Type 0} (P Q : A → Type 0) → ((x : A) → P x → Q x) → ((x : A) → Q x → P x) → (xs : List A) (bs : List Bool) → Tells P xs bs → Tells Q xs bs
+pub tells_to : {A : Type 0} (P Q : A → Type 0) → ((x : A) → P x → Q x) → ((x : A) → Q x → P x) → (xs : List A) (bs : List Bool)
+    → Tells P xs bs → Tells Q xs bs
 tells_to P Q to back [] [] t = t
 tells_to P Q to back [] (b ∷ bs) t = absurd t
 tells_to P Q to back (x ∷ xs) [] t = absurd t
 tells_to P Q to back (x ∷ xs) (b ∷ bs) t = (((λ h. to x (t.0.0 h)), λ h. t.0.1 (back x h)), tells_to P Q to back xs bs t.1)
 
 -- what is chosen from a place on
-pub chosen_from : {A : Type 0} (xs : List A) (bs : List Bool) (k : ℕ) (x d : A) (b c : Bool) → k < length xs → k < length bs → get_or xs k d ≡ x → get_or bs k c ≡ b
+pub chosen_from : {A : Type 0} (xs : List A) (bs : List Bool) (k : ℕ) (x d : A) (b c : Bool) → k < length xs → k < length bs
+    → get_or xs k d ≡ x → get_or bs k c ≡ b
     → chosen (drop k xs) (drop k bs) ≡ (if b then x ∷ [] else []) ++ chosen (drop (k + 1) xs) (drop (k + 1) bs)
 chosen_from xs bs k x d b c l m e f =
     ap₂ chosen (drop_more xs k d l) (drop_more bs k c m) ∙ ap₂ (λ y z. chosen (y ∷ drop (k + 1) xs) (z ∷ drop (k + 1) bs)) e f ∙ one b
   where
-    one : (z : Bool) → chosen (x ∷ drop (k + 1) xs) (z ∷ drop (k + 1) bs) ≡ (if z then x ∷ [] else []) ++ chosen (drop (k + 1) xs) (drop (k + 1) bs)
+    one : (z : Bool)
+        → chosen (x ∷ drop (k + 1) xs) (z ∷ drop (k + 1) bs) ≡ (if z then x ∷ [] else []) ++ chosen (drop (k + 1) xs) (drop (k + 1) bs)
     one true = refl
     one false = refl
 
@@ -97,14 +102,17 @@ Covers (a ∷ xs) (b ∷ bs) = (IsTrue a → IsTrue b) × Covers xs bs
 Covers _ _ = ⊥
 
 module _ {A : Type 0} {P : A → Type 0} where
-  covers : (xs : List A) (cs bs : List Bool) → length cs ≡ length xs → Tells P xs bs → ((x : A) → Contains (chosen xs cs) x → P x) → Covers cs bs
+  covers : (xs : List A) (cs bs : List Bool) → length cs ≡ length xs → Tells P xs bs
+      → ((x : A) → Contains (chosen xs cs) x → P x) → Covers cs bs
   covers [] [] [] e t h = tt
   covers [] [] (b ∷ bs) e t h = t
   covers [] (a ∷ cs) bs e t h = absurd (omega (arith, e))
   covers (x ∷ xs) [] bs e t h = absurd (omega (arith, e))
   covers (x ∷ xs) (a ∷ cs) [] e t h = t
-  covers (x ∷ xs) (true ∷ cs) (b ∷ bs) e t h =
-      ((λ k. t.0.1 (h x (first_member x (chosen xs cs)))), covers xs cs bs (omega (arith, e)) t.1 (λ y c. h y (later_member x y (chosen xs cs) c)))
+  covers (x ∷ xs) (true ∷ cs) (b ∷ bs) e t h = (
+    (λ k. t.0.1 (h x (first_member x (chosen xs cs)))),
+    covers xs cs bs (omega (arith, e)) t.1 (λ y c. h y (later_member x y (chosen xs cs) c)),
+  )
   covers (x ∷ xs) (false ∷ cs) (b ∷ bs) e t h = ((λ k. absurd (true≢false (sym k))), covers xs cs bs (omega (arith, e)) t.1 h)
 
 unset_le : (cs bs : List Bool) → Covers cs bs → unset bs ≤ unset cs
@@ -152,8 +160,10 @@ module _ {A : Type 0} where
   told_among P ys to [] [] t h = tt
   told_among P ys to [] (b ∷ bs) t h = t
   told_among P ys to (x ∷ xs) [] t h = t
-  told_among P ys to (x ∷ xs) (true ∷ bs) t h =
-      (((λ k. h x (first_member x (chosen xs bs))), λ k. refl), told_among P ys to xs bs t.1 (λ y c. h y (later_member x y (chosen xs bs) c)))
+  told_among P ys to (x ∷ xs) (true ∷ bs) t h = (
+    ((λ k. h x (first_member x (chosen xs bs))), λ k. refl),
+    told_among P ys to xs bs t.1 (λ y c. h y (later_member x y (chosen xs bs) c)),
+  )
   told_among P ys to (x ∷ xs) (false ∷ bs) t h = (((λ k. absurd (true≢false (sym k))), λ k. t.0.1 (to x k)), told_among P ys to xs bs t.1 h)
 
   -- flags that tell of a property are set for exactly the chosen ones
@@ -168,15 +178,18 @@ module _ {A : Type 0} where
   none_by_item xs bs e = by_item (λ x. ⊥) xs bs (subst (Tells (λ x. ⊥) xs) (sym e) (none_told xs))
 
   -- flags that are set in either of two lists
-  pub either_tells : (P : A → Type 0) (xs : List A) (bs cs : List Bool) → length bs ≡ length xs → Tells P xs cs → TellsMore P xs bs (either_of bs cs)
+  pub either_tells : (P : A → Type 0) (xs : List A) (bs cs : List Bool) → length bs ≡ length xs → Tells P xs cs
+      → TellsMore P xs bs (either_of bs cs)
   either_tells P [] [] [] e t = tt
   either_tells P [] (b ∷ bs) cs e t = absurd (omega (arith, e))
   either_tells P [] [] (c ∷ cs) e t = absurd t
   either_tells P (x ∷ xs) [] cs e t = absurd (omega (arith, e))
   either_tells P (x ∷ xs) (b ∷ bs) [] e t = absurd t
   either_tells P (x ∷ xs) (true ∷ bs) (c ∷ cs) e t = (((λ k. inl refl), λ k. refl), either_tells P xs bs cs (omega (arith, e)) t.1)
-  either_tells P (x ∷ xs) (false ∷ bs) (c ∷ cs) e t =
-      (((λ k. inr (t.0.0 k)), λ k. elim k [ inl z ↦ absurd (true≢false (sym z)) | inr z ↦ t.0.1 z ]), either_tells P xs bs cs (omega (arith, e)) t.1)
+  either_tells P (x ∷ xs) (false ∷ bs) (c ∷ cs) e t = (
+    ((λ k. inr (t.0.0 k)), λ k. elim k [ inl z ↦ absurd (true≢false (sym z)) | inr z ↦ t.0.1 z ]),
+    either_tells P xs bs cs (omega (arith, e)) t.1,
+  )
 
   more_among : (P : A → Type 0) (ys : List A) (xs : List A) (bs cs : List Bool) → Tells (Contains ys) xs bs → TellsMore P xs bs cs
       → Tells (λ x. Contains ys x ⊎ P x) xs cs
@@ -227,6 +240,8 @@ pub all_set_tell : {A : Type 0} {P : A → Type 0} (xs : List A) (bs : List Bool
 all_set_tell [] [] s e h = tt
 all_set_tell [] (b ∷ bs) s e h = absurd (omega (arith, e))
 all_set_tell (x ∷ xs) [] s e h = absurd (omega (arith, e))
-all_set_tell (x ∷ xs) (true ∷ bs) s e h =
-    (((λ k. h x (first_member x (chosen xs bs))), λ k. refl), all_set_tell xs bs s (omega (arith, e)) (λ y c. h y (later_member x y (chosen xs bs) c)))
+all_set_tell (x ∷ xs) (true ∷ bs) s e h = (
+  ((λ k. h x (first_member x (chosen xs bs))), λ k. refl),
+  all_set_tell xs bs s (omega (arith, e)) (λ y c. h y (later_member x y (chosen xs bs) c)),
+)
 all_set_tell (x ∷ xs) (false ∷ bs) s e h = absurd (true≢false (sym s))

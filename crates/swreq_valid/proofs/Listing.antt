@@ -32,8 +32,10 @@ use Rattle.swreq_valid.specs.Rounds.{RoundView, last_rules}
 -- ---- lists that are made item by item
 
 -- one more part of a list that is made front to back
-module _ {A B : Type 0} (of : List A → List B) (part : A → List B) (none : of [] ≡ []) (one : (x : A) (xs : List A) → of (x ∷ xs) ≡ part x ++ of xs) where
-  pub part_more : (xs : List A) (k : ℕ) (d : A) (v w all : List B) → k < length xs → w ≡ v ++ part (get_or xs k d) → v ++ of (drop k xs) ≡ all
+module _ {A B : Type 0} (of : List A → List B) (part : A → List B) (none : of [] ≡ [])
+    (one : (x : A) (xs : List A) → of (x ∷ xs) ≡ part x ++ of xs) where
+  pub part_more : (xs : List A) (k : ℕ) (d : A) (v w all : List B) → k < length xs → w ≡ v ++ part (get_or xs k d)
+      → v ++ of (drop k xs) ≡ all
       → w ++ of (drop (k + 1) xs) ≡ all
   part_more xs k d v w all l f h =
       ap (λ z. z ++ of (drop (k + 1) xs)) f
@@ -61,7 +63,8 @@ module _ (w : IdWorld) (terms : List Term) (base : List Rule) (start : RoundStar
       ∙ sym (map-map (of_list (generic_params params) rs) (requirement_of terms) list)
 
   pub list_plan_is : plan_of w terms base start ≡ list_of (world_by terms w) base params rs
-  list_plan_is = λ i. record { symbols = symbols_of w.lexicon; facts = facts_of (world_by terms w); base = base; basic = basic_is i; all = items_list i }
+  list_plan_is = λ i.
+      record { symbols = symbols_of w.lexicon; facts = facts_of (world_by terms w); base = base; basic = basic_is i; all = items_list i }
 
   pub list_plan_over : (other : List Rule) → base ≡ other → plan_of w terms base start ≡ list_of (world_by terms w) other params rs
   list_plan_over other same = list_plan_is ∙ ap (λ z. list_of (world_by terms w) z params rs) same
@@ -81,10 +84,12 @@ list_in_text terms x ids params list h = λ t p c.
 
 module _ (w : TextWorld) (closed : IsClosed w) (limits : Limits) (base : List Rule) (params : Params) (list : List TermRequirement)
     (over : AreRulesOf w base) (n : IsInText (symbols_of w.lexicon) (Written (generic_params params) list)) where
-  pub list_machine : (old new : Option (List Event)) (rounds : List RoundView) → Answers limits (list_of w base params list) old new (Ok (last_rules rounds))
+  pub list_machine : (old new : Option (List Event)) (rounds : List RoundView)
+      → Answers limits (list_of w base params list) old new (Ok (last_rules rounds))
       → IsMachineOf w list (record { params = params; rounds = rounds })
   list_machine old new rounds a = record {
-    rules = list_law (symbols_of w.lexicon) (facts_of w) (shown.symbols_law w closed) (shown.text_law w closed) limits base over (generic_params params) list n
+    rules = list_law (symbols_of w.lexicon) (facts_of w) (shown.symbols_law w closed) (shown.text_law w closed) limits base over
+        (generic_params params) list n
         a.1.0 (last_rules rounds) a.0 a.1.1;
     in_text = n;
   }

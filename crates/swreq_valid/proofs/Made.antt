@@ -33,14 +33,16 @@ use Rattle.swreq_valid.proofs.Building.{builds_failed, builds_judged}
 use Rattle.swreq_valid.proofs.OfKept.{kept_of_text, tell_usable}
 use Rattle.swreq_valid.proofs.Valid.{protocol_shown, protocol_valid, side_shown, side_valid}
 
-pub written_known : (terms : List Term) (x : LexiconView) (written : List Written) (list : List Requirement) → list ≡ bare written → AreWritten terms x written → AreKnown terms x list
+pub written_known : (terms : List Term) (x : LexiconView) (written : List Written) (list : List Requirement) → list ≡ bare written
+    → AreWritten terms x written → AreKnown terms x list
 written_known terms x written list e h r c =
     let q = contains_of_map (λ (z : Written). z.requirement) written r (subst (λ z. Contains z r) e c) in
     subst (IsRequirementIn terms x) (sym q.2) (h q.0 q.1)
 
 -- ---- the machine of a written list
 
-module _ (w : IdWorld) (terms : List Term) (closed : IsClosed (world_by terms w)) (base : List Rule) (params : Params) (written : List Written) (list : List Requirement)
+module _ (w : IdWorld) (terms : List Term) (closed : IsClosed (world_by terms w)) (base : List Rule) (params : Params)
+    (written : List Written) (list : List Requirement)
     (same : list ≡ bare written) (limits : Limits) (old new : Option (List Event)) where
   abbrev W : TextWorld
   W = world_by terms w
@@ -48,26 +50,35 @@ module _ (w : IdWorld) (terms : List Term) (closed : IsClosed (world_by terms w)
   abbrev rs : List TermRequirement
   rs = listed terms (bare written)
 
-  pub machine_failed : (e : Failed) (r : Refused) → r ≡ refusal e → Answers limits (list_of W base params (listed terms list)) old new (Err e)
-      → Builds limits (list_of W base params rs) (facts_of W) (sides (WrittenList (generic_params params) rs) (placed terms written)) old new (Err r)
+  pub machine_failed : (e : Failed) (r : Refused) → r ≡ refusal e
+      → Answers limits (list_of W base params (listed terms list)) old new (Err e)
+      → Builds limits (list_of W base params rs) (facts_of W)
+      (sides (WrittenList (generic_params params) rs) (placed terms written)) old new (Err r)
   machine_failed e r k a =
-      subst (λ z. Builds limits (list_of W base params rs) (facts_of W) (sides (WrittenList (generic_params params) rs) (placed terms written)) old new (Err z)) (sym k)
-      (builds_failed limits (list_of W base params rs) (facts_of W) (sides (WrittenList (generic_params params) rs) (placed terms written)) e old new
+      subst (λ z. Builds limits (list_of W base params rs) (facts_of W)
+      (sides (WrittenList (generic_params params) rs) (placed terms written)) old new (Err z)) (sym k)
+      (builds_failed limits (list_of W base params rs) (facts_of W)
+      (sides (WrittenList (generic_params params) rs) (placed terms written)) e old new
       (subst (λ z. Answers limits (list_of W base params (listed terms z)) old new (Err e)) same a))
 
   pub machine_judged : (m : MachineView) (answer : Result MachineView Refused) → m.params ≡ params
       → Answers limits (list_of W base params (listed terms list)) old new (Ok (last_rules m.rounds)) → IsMachineOf W (listed terms list) m
-      → ((qs : List TermRequirement) → Judges (IsShownSide (symbols_of w.lexicon) (facts_of W) (last_rules m.rounds)) (sides (WrittenList (generic_params m.params) qs) (placed terms written))
+      → ((qs : List TermRequirement) → Judges (IsShownSide (symbols_of w.lexicon) (facts_of W) (last_rules m.rounds))
+      (sides (WrittenList (generic_params m.params) qs) (placed terms written))
       (last_rules m.rounds) (built_rules answer))
-      → Builds limits (list_of W base params rs) (facts_of W) (sides (WrittenList (generic_params params) rs) (placed terms written)) old new (built_rules answer)
+      → Builds limits (list_of W base params rs) (facts_of W)
+      (sides (WrittenList (generic_params params) rs) (placed terms written)) old new (built_rules answer)
   machine_judged m answer e a is judged =
       let of : IsMachineOf W rs m = subst (λ z. IsMachineOf W (listed terms z) m) same is in
       builds_judged limits (list_of W base params rs) (facts_of W) (sides (WrittenList (generic_params params) rs) (placed terms written))
       (IsShownSide (symbols_of w.lexicon) (facts_of W) (last_rules m.rounds)) (last_rules m.rounds) (built_rules answer) old new
-      (λ s c h. side_valid W closed m rs of (placed terms written) s (subst (λ p. Contains (sides (WrittenList (generic_params p) rs) (placed terms written)) s) (sym e) c) h)
-      (λ s c h. side_shown W closed m rs of (placed terms written) s (subst (λ p. Contains (sides (WrittenList (generic_params p) rs) (placed terms written)) s) (sym e) c) h)
+      (λ s c h. side_valid W closed m rs of (placed terms written) s
+      (subst (λ p. Contains (sides (WrittenList (generic_params p) rs) (placed terms written)) s) (sym e) c) h)
+      (λ s c h. side_shown W closed m rs of (placed terms written) s
+      (subst (λ p. Contains (sides (WrittenList (generic_params p) rs) (placed terms written)) s) (sym e) c) h)
       (subst (λ z. Answers limits (list_of W base params (listed terms z)) old new (Ok (last_rules m.rounds))) same a)
-      (subst (λ p. Judges (IsShownSide (symbols_of w.lexicon) (facts_of W) (last_rules m.rounds)) (sides (WrittenList (generic_params p) rs) (placed terms written))
+      (subst (λ p. Judges (IsShownSide (symbols_of w.lexicon) (facts_of W) (last_rules m.rounds))
+      (sides (WrittenList (generic_params p) rs) (placed terms written))
       (last_rules m.rounds) (built_rules answer)) e (judged rs))
 
 -- ---- the protocols
@@ -79,20 +90,27 @@ module _ (w : TextWorld) (closed : IsClosed w) (limits : Limits) (old new : Opti
       subst (λ z. Builds limits (protocols_of w) (facts_of w) (protocol_sides w) old new (Err z)) (sym k)
       (builds_failed limits (protocols_of w) (facts_of w) (protocol_sides w) e old new a)
 
-  pub protocols_judged : (rounds : List RoundView) (answer : Result ProtocolsView Refused) → Answers limits (protocols_of w) old new (Ok (last_rules rounds))
-      → AreRulesOf w (last_rules rounds) → Judges (IsShownSide (symbols_of w.lexicon) (facts_of w) (last_rules rounds)) (protocol_sides w) (last_rules rounds) (protocol_rules answer)
+  pub protocols_judged : (rounds : List RoundView) (answer : Result ProtocolsView Refused)
+      → Answers limits (protocols_of w) old new (Ok (last_rules rounds))
+      → AreRulesOf w (last_rules rounds) → Judges (IsShownSide (symbols_of w.lexicon) (facts_of w) (last_rules rounds)) (protocol_sides w)
+      (last_rules rounds) (protocol_rules answer)
       → Builds limits (protocols_of w) (facts_of w) (protocol_sides w) old new (protocol_rules answer)
   protocols_judged rounds answer a are judged =
-      builds_judged limits (protocols_of w) (facts_of w) (protocol_sides w) (IsShownSide (symbols_of w.lexicon) (facts_of w) (last_rules rounds)) (last_rules rounds)
-      (protocol_rules answer) old new (λ s c h. protocol_valid w closed (last_rules rounds) are s c h) (λ s c h. protocol_shown w closed (last_rules rounds) are s c h) a judged
+      builds_judged limits (protocols_of w) (facts_of w) (protocol_sides w)
+      (IsShownSide (symbols_of w.lexicon) (facts_of w) (last_rules rounds)) (last_rules rounds)
+      (protocol_rules answer) old new (λ s c h. protocol_valid w closed (last_rules rounds) are s c h)
+      (λ s c h. protocol_shown w closed (last_rules rounds) are s c h) a judged
 
 -- ---- usable requirements
 
 pub build_usable : (w : TextWorld) → IsClosed w → (rules : List Rule) → AreRulesOf w rules → (answer : Result ProtocolsView Refused)
     → IfOk answer (λ p. TellEach w rules p.usable (length w.lexicon.protocols)) → IfOk answer (λ p. TellUsable w (facts_of w) p.usable)
-build_usable w closed rules are (Ok p) h = tell_usable w closed (facts_of w) refl (symbols_law w closed) (text_law w closed) rules are p.usable h
+build_usable w closed rules are (Ok p) h =
+    tell_usable w closed (facts_of w) refl (symbols_law w closed) (text_law w closed) rules are p.usable h
 build_usable w closed rules are (Err e) h = tt
 
-pub kept_usable : (w : TextWorld) → IsClosed w → (keep : List (List Bool)) (rules : List Rule) → AreProtocolRules (symbols_of w.lexicon) (kept_facts w keep) rules → (flags : List (List Bool))
+pub kept_usable : (w : TextWorld) → IsClosed w → (keep : List (List Bool)) (rules : List Rule)
+    → AreProtocolRules (symbols_of w.lexicon) (kept_facts w keep) rules → (flags : List (List Bool))
     → TellEach w rules flags (length w.lexicon.protocols) → TellUsable w (kept_facts w keep) flags
-kept_usable w closed keep rules are flags h = tell_usable w closed (kept_facts w keep) refl (symbols_law w closed) (kept_of_text w closed keep) rules are flags h
+kept_usable w closed keep rules are flags h =
+    tell_usable w closed (kept_facts w keep) refl (symbols_law w closed) (kept_of_text w closed keep) rules are flags h

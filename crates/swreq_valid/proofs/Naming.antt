@@ -43,11 +43,13 @@ module _ (x : LexiconView) (ids : AreIds x) (p : ProtoId) where
   same_proto q e = ap (λ (n : ℕ). let q : ProtoId = record { rank = n } in q) e
 
   -- a symbol of another protocol adds nothing
-  skip_at : (k : ℕ) (all v : List (Word × Word)) (s : ProtocolName) → slice_get x.symbols k ≡ Some s → (s.proto ≡ p → ⊥) → AreAll x p all v k → AreAll x p all v (k + 1)
+  skip_at : (k : ℕ) (all v : List (Word × Word)) (s : ProtocolName) → slice_get x.symbols k ≡ Some s → (s.proto ≡ p → ⊥)
+      → AreAll x p all v k → AreAll x p all v (k + 1)
   skip_at k all v s at other h = name_more p x.symbols k s v v all at (sym (append-nil v) ∙ ap (λ z. v ++ z) (sym none)) h
     where
       none : (if nat_eq s.proto.rank p.rank then named p (member_name s) k ∷ [] else []) ≡ []
-      none = ap (λ (b : Bool). if b then named p (member_name s) k ∷ [] else []) (ne_eqb s.proto.rank p.rank (λ e. other (same_proto s.proto e)))
+      none = ap (λ (b : Bool). if b then named p (member_name s) k ∷ [] else [])
+          (ne_eqb s.proto.rank p.rank (λ e. other (same_proto s.proto e)))
 
   skip_one : (k : ℕ) (all v : List (Word × Word)) → ((s : ProtocolName) → IsOwn x p k s → ⊥) → AreAll x p all v k → AreAll x p all v (k + 1)
   skip_one k all v none h = elim (slice_get_cases x.symbols k).1 [
@@ -57,7 +59,8 @@ module _ (x : LexiconView) (ids : AreIds x) (p : ProtoId) where
         ap (λ z. v ++ named_from p (k + 1) z) (drop_all (k + 1) (ms x p) (omega (arith, past))) ∙ append-nil v ∙ now)
   ]
 
-  skip_to : (n k : ℕ) (all v : List (Word × Word)) → ((i : ℕ) (s : ProtocolName) → IsOwn x p i s → k ≤ i → i < k + n → ⊥) → AreAll x p all v k → AreAll x p all v (k + n)
+  skip_to : (n k : ℕ) (all v : List (Word × Word)) → ((i : ℕ) (s : ProtocolName) → IsOwn x p i s → k ≤ i → i < k + n → ⊥)
+      → AreAll x p all v k → AreAll x p all v (k + n)
   skip_to zero k all v none h = subst (AreAll x p all v) (omega arith) h
   skip_to (suc n) k all v none h =
       subst (AreAll x p all v) (omega arith)
@@ -67,7 +70,8 @@ module _ (x : LexiconView) (ids : AreIds x) (p : ProtoId) where
   -- ---- one name
 
   -- symbols of P go by their names
-  at_most : (i k : ℕ) (s t : ProtocolName) → slice_get x.symbols i ≡ Some s → slice_get x.symbols k ≡ Some t → i ≤ k → s.name.rank ≤ t.name.rank
+  at_most : (i k : ℕ) (s t : ProtocolName) → slice_get x.symbols i ≡ Some s → slice_get x.symbols k ≡ Some t → i ≤ k
+      → s.name.rank ≤ t.name.rank
   at_most i k s t e f l = elim (cases_lt t.name.rank s.name.rank) [
     | inl m ↦ absurd (let back = ids.symbols_by_name k i t s f e m in omega (arith, back, l))
     | inr m ↦ m
@@ -79,7 +83,8 @@ module _ (x : LexiconView) (ids : AreIds x) (p : ProtoId) where
       ∙ ap (λ (n : ℕ). let d : ProtocolName = record { proto = p; name = record { rank = n } } in d) f
 
   -- a name that is not a member name of P
-  pub name_absent : (a : NameId) (done : ℕ) → (Contains x.symbols (pair p a) → ⊥) → AreNamesPast x p a.rank done → AreNamesPast x p (a.rank + 1) done
+  pub name_absent : (a : NameId) (done : ℕ) → (Contains x.symbols (pair p a) → ⊥) → AreNamesPast x p a.rank done
+      → AreNamesPast x p (a.rank + 1) done
   name_absent a done absent h = record {
     before = λ k s own l. omega (arith, h.before k s own l);
     behind = λ k s own l. elim (cases_eq s.name.rank a.rank) [
@@ -115,10 +120,12 @@ module _ (x : LexiconView) (ids : AreIds x) (p : ProtoId) where
       ];
     }
 
-    pub equation_present : (all v w : List (Word × Word)) → w ≡ v ++ named p (record { proto = p; name = a }) at ∷ [] → AreAll x p all v done → AreAll x p all w (at + 1)
+    pub equation_present : (all v w : List (Word × Word)) → w ≡ v ++ named p (record { proto = p; name = a }) at ∷ []
+        → AreAll x p all v done → AreAll x p all w (at + 1)
     equation_present all v w put so_far =
         name_more p x.symbols at (pair p a) v w all found
-        (put ∙ ap (λ (b : Bool). v ++ (if b then named p (record { proto = p; name = a }) at ∷ [] else [])) (sym (eq-eqb p.rank p.rank refl)))
+        (put
+        ∙ ap (λ (b : Bool). v ++ (if b then named p (record { proto = p; name = a }) at ∷ [] else [])) (sym (eq-eqb p.rank p.rank refl)))
         (skipped (at - done) (omega (arith, from_there)))
       where
         skipped : (n : ℕ) → done + n ≡ at → AreAll x p all v at
@@ -129,7 +136,8 @@ module _ (x : LexiconView) (ids : AreIds x) (p : ProtoId) where
   pub none_named : (old : List (Word × Word)) → AreNamedTo x p (old ++ named_from p 0 (ms x p)) old 0
   none_named old = (0, record { before = λ k s own l. absurd (omega (arith, l)); behind = λ k s own l. omega arith }, refl)
 
-  pub named_more : (all v w : List (Word × Word)) (a : NameId) → IsNameAdded x p a v w → AreNamedTo x p all v a.rank → AreNamedTo x p all w (a.rank + 1)
+  pub named_more : (all v w : List (Word × Word)) (a : NameId) → IsNameAdded x p a v w → AreNamedTo x p all v a.rank
+      → AreNamedTo x p all w (a.rank + 1)
   named_more all v w a (inl (absent, same)) (done, past, so_far) =
       (done, name_absent a done absent past, subst (λ z. AreAll x p all z done) (sym same) so_far)
   named_more all v w a (inr (at, found, put)) (done, past, so_far) =
@@ -139,7 +147,8 @@ module _ (x : LexiconView) (ids : AreIds x) (p : ProtoId) where
       → AreNamedTo x p all v r → v ≡ all
   named_all all v r above (done, past, so_far) =
       names_all p (ms x p) (done + length x.symbols) v all (omega (arith, length-map x.symbols member_name))
-      (skip_to (length x.symbols) done all v (λ k s own l m. (let least = past.behind k s own l in let less = above k s own.0 in omega (arith, least, less))) so_far)
+      (skip_to (length x.symbols) done all v
+      (λ k s own l m. (let least = past.behind k s own l in let less = above k s own.0 in omega (arith, least, less))) so_far)
 
   -- the last symbol has the greatest name
   pub last_above : (count : ℕ) (s : ProtocolName) → length x.symbols ≡ count + 1 → slice_get x.symbols count ≡ Some s

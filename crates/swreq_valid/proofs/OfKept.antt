@@ -73,7 +73,8 @@ module _ (w : IdWorld) (terms : List Term) (keep : List (List Bool)) where
       ∙ chosen_map (requirement_of terms) (bare (requirements_of w p)) flags
 
   kept_items : (rs : List TermRequirement) (ps : List ProtoId) (ks : List (List Bool)) → length ks ≡ length ps
-      → ((k : ℕ) (p : ProtoId) (flags : List Bool) → slice_get ps k ≡ Some p → slice_get ks k ≡ Some flags → flags_of w.lexicon.written_order keep p ≡ flags)
+      → ((k : ℕ) (p : ProtoId) (flags : List Bool) → slice_get ps k ≡ Some p → slice_get ks k ≡ Some flags
+      → flags_of w.lexicon.written_order keep p ≡ flags)
       → map (item_of terms rs) (kept_in w ps ks) ≡ items_from g ps
   kept_items rs [] ks l each = refl
   kept_items rs (p ∷ ps) [] l each = absurd (omega (arith, l))
@@ -99,13 +100,15 @@ module _ (w : IdWorld) (terms : List Term) (keep : List (List Bool)) where
     kept_wanted : (ps : List ProtoId) (ks : List (List Bool)) → AreWanted terms w.lexicon (kept_in w ps ks)
     kept_wanted [] ks x c = no_member x c
     kept_wanted (p ∷ ps) [] x c = no_member x c
-    kept_wanted (p ∷ ps) (flags ∷ ks) x c = elim (Contains-append_cases (map (in_protocol p) (chosen (bare (requirements_of w p)) flags)) (kept_in w ps ks) x c) [
-      | inl k ↦ (let r = contains_of_map (in_protocol p) (chosen (bare (requirements_of w p)) flags) x k in
-          let q = contains_of_map (λ (z : Written). z.requirement) (requirements_of w p) r.0 (chosen_in (bare (requirements_of w p)) flags r.0 r.1) in
-          subst (λ (z : RoundRequirement). IsRequirementIn terms w.lexicon z.requirement) (sym r.2)
-          (subst (IsRequirementIn terms w.lexicon) (sym q.2) (protocol_written w terms text p q.0 q.1)))
-      | inr k ↦ kept_wanted ps ks x k
-    ]
+    kept_wanted (p ∷ ps) (flags ∷ ks) x c =
+        elim (Contains-append_cases (map (in_protocol p) (chosen (bare (requirements_of w p)) flags)) (kept_in w ps ks) x c) [
+          | inl k ↦ (let r = contains_of_map (in_protocol p) (chosen (bare (requirements_of w p)) flags) x k in
+              let q = contains_of_map (λ (z : Written). z.requirement) (requirements_of w p) r.0
+              (chosen_in (bare (requirements_of w p)) flags r.0 r.1) in
+              subst (λ (z : RoundRequirement). IsRequirementIn terms w.lexicon z.requirement) (sym r.2)
+              (subst (IsRequirementIn terms w.lexicon) (sym q.2) (protocol_written w terms text p q.0 q.1)))
+          | inr k ↦ kept_wanted ps ks x k
+        ]
 
     pub kept_all_wanted : (all : List RoundRequirement) → all ≡ kept_in w w.lexicon.written_order keep → AreWanted terms w.lexicon all
     kept_all_wanted all e = subst (AreWanted terms w.lexicon) (sym e) (kept_wanted w.lexicon.written_order keep)
@@ -117,25 +120,30 @@ kept_of_text w closed keep =
     let law = text_law w closed in record {
       owners = λ p r c. law.owners p r (chosen_in ((facts_of w).of_protocol p) (flags_of w.lexicon.written_order keep p) r c);
       members = law.members;
-      protocols = λ p t q c. law.protocols p t q (chosen_in ((facts_of w).of_protocol p) (flags_of w.lexicon.written_order keep p) (Conforms t q) c);
+      protocols = λ p t q c.
+          law.protocols p t q (chosen_in ((facts_of w).of_protocol p) (flags_of w.lexicon.written_order keep p) (Conforms t q) c);
     }
 
-pub kept_rules : (w : TextWorld) → IsClosed w → (keep : List (List Bool)) (limits : Limits) (old new : Option (List Event)) (answer : Result (List RoundView) Failed)
+pub kept_rules : (w : TextWorld) → IsClosed w
+    → (keep : List (List Bool)) (limits : Limits) (old new : Option (List Event)) (answer : Result (List RoundView) Failed)
     → Answers limits (kept_plan w keep) old new (rules_of answer)
     → IfOk answer (λ rounds. AreProtocolRules (symbols_of w.lexicon) (kept_facts w keep) (last_rules rounds))
 kept_rules w closed keep limits old new (Ok rounds) a =
-    protocols_law (symbols_of w.lexicon) (kept_facts w keep) (symbols_law w closed) (kept_of_text w closed keep) limits a.1.0 (last_rules rounds) a.0 a.1.1
+    protocols_law (symbols_of w.lexicon) (kept_facts w keep) (symbols_law w closed) (kept_of_text w closed keep) limits a.1.0
+    (last_rules rounds) a.0 a.1.1
 kept_rules w closed keep limits old new (Err failed) a = tt
 
 -- ---- usable requirements
 
-tells_at : {A : Type 0} (P : A → Type 0) (xs : List A) (bs : List Bool) (n : ℕ) (x : A) → Tells P xs bs → slice_get xs n ≡ Some x → Decides (get_or bs n false) (P x)
+tells_at : {A : Type 0} (P : A → Type 0) (xs : List A) (bs : List Bool) (n : ℕ) (x : A) → Tells P xs bs → slice_get xs n ≡ Some x
+    → Decides (get_or bs n false) (P x)
 tells_at P [] bs n x t e = absurd cc
 tells_at P (y ∷ xs) [] n x t e = absurd t
 tells_at P (y ∷ xs) (b ∷ bs) zero x t e = let same : y ≡ x = cc in subst (λ z. Decides b (P z)) same t.0
 tells_at P (y ∷ xs) (b ∷ bs) (suc n) x t e = tells_at P xs bs n x t.1 e
 
-module _ (m : Symbols) (g : TermFacts) (fit : AreSymbolsOf m g) (ranges : AreOfText m g) (rules : List Rule) (are : AreProtocolRules m g rules) (p : ProtoId) (h : IsOfText m p) where
+module _ (m : Symbols) (g : TermFacts) (fit : AreSymbolsOf m g) (ranges : AreOfText m g) (rules : List Rule)
+    (are : AreProtocolRules m g rules) (p : ProtoId) (h : IsOfText m p) where
   to_derivable : (r : TermRequirement) → ShowsUsable m g (SelfOf p) (Links rules) r → HasValidSides g (SelfOf p) r
   to_derivable (Conforms t q) s = self_derivable m g fit ranges rules are p h t s
   to_derivable (IsAnyObject t) s = self_derivable m g fit ranges rules are p h t s
@@ -147,14 +155,18 @@ module _ (m : Symbols) (g : TermFacts) (fit : AreSymbolsOf m g) (ranges : AreOfT
   to_shown (Equals t u) s = (self_shown m g fit ranges rules are p h t s.0, self_shown m g fit ranges rules are p h u s.1)
 
 -- where the rules are those of these facts, the flags that tell what they show tell what is usable
-pub tell_usable : (w : TextWorld) → IsClosed w → (g : TermFacts) → (facts_of w).associated_types ≡ g.associated_types → AreSymbolsOf (symbols_of w.lexicon) g
-    → AreOfText (symbols_of w.lexicon) g → (rules : List Rule) → AreProtocolRules (symbols_of w.lexicon) g rules → (flags : List (List Bool))
+pub tell_usable : (w : TextWorld) → IsClosed w → (g : TermFacts) → (facts_of w).associated_types ≡ g.associated_types
+    → AreSymbolsOf (symbols_of w.lexicon) g
+    → AreOfText (symbols_of w.lexicon) g → (rules : List Rule) → AreProtocolRules (symbols_of w.lexicon) g rules
+    → (flags : List (List Bool))
     → TellEach w rules flags (length w.lexicon.protocols) → TellUsable w g flags
 tell_usable w closed g same fit ranges rules are flags each p zero r e = absurd e
 tell_usable w closed g same fit ranges rules are flags each p (suc n) r e =
     let m = symbols_of w.lexicon in
-    let of : IsOfText m p = (text_law w closed).owners p r (n, slice_get_within ((facts_of w).of_protocol p) n r e, get_or_from_slice_get ((facts_of w).of_protocol p) n r r e) in
-    let told = tells_at (IsUsableBy w rules p) ((facts_of w).of_protocol p) (get_or flags p.rank []) n r (each p.rank ((closed.ids.written_order p).0 of)) e in (
+    let of : IsOfText m p = (text_law w closed).owners p r
+    (n, slice_get_within ((facts_of w).of_protocol p) n r e, get_or_from_slice_get ((facts_of w).of_protocol p) n r r e) in
+    let told = tells_at (IsUsableBy w rules p) ((facts_of w).of_protocol p) (get_or flags p.rank []) n r
+    (each p.rank ((closed.ids.written_order p).0 of)) e in (
       (λ t. to_derivable m g fit ranges rules are p of r (usable_over m (facts_of w) g same (SelfOf p) (Links rules) r (told.0 t))),
       λ v. told.1 (usable_over m g (facts_of w) (sym same) (SelfOf p) (Links rules) r (to_shown m g fit ranges rules are p of r v)),
     )
@@ -162,7 +174,8 @@ tell_usable w closed g same fit ranges rules are flags each p (suc n) r e =
 -- ---- flags, one by one
 
 module _ {A : Type 0} (P : A → Type 0) (xs : List A) where
-  pub told_here : (k : ℕ) (d : A) (bs cs : List Bool) (b : Bool) → k < length xs → cs ≡ bs ++ b ∷ [] → Tells P (take k xs) bs → Decides b (P (get_or xs k d)) → Tells P (take (k + 1) xs) cs
+  pub told_here : (k : ℕ) (d : A) (bs cs : List Bool) (b : Bool) → k < length xs → cs ≡ bs ++ b ∷ [] → Tells P (take k xs) bs
+      → Decides b (P (get_or xs k d)) → Tells P (take (k + 1) xs) cs
   told_here k d bs cs b l f t h =
       let one : suc k ≡ k + 1 = omega arith in
       let cut : take (k + 1) xs ≡ take k xs ++ get_or xs k d ∷ [] =
@@ -179,18 +192,23 @@ module _ {A : Type 0} (P : A → Type 0) (xs : List A) where
       take_past (y ∷ ys) (suc n) h = ap (λ z. y ∷ z) (take_past ys n (omega (arith, h)))
 
 -- the flags of the requirements of a protocol, over ids
-pub told_of : (w : IdWorld) (terms : List Term) (rules : List Rule) (p : ProtoId) (list : List Requirement) (flags : List Bool) → list ≡ bare (requirements_of w p)
+pub told_of : (w : IdWorld) (terms : List Term) (rules : List Rule) (p : ProtoId) (list : List Requirement) (flags : List Bool)
+    → list ≡ bare (requirements_of w p)
     → Tells (λ r. IsUsableBy (world_by terms w) rules p (requirement_of terms r)) list flags
     → Tells (IsUsableBy (world_by terms w) rules p) ((facts_of (world_by terms w)).of_protocol p) flags
 told_of w terms rules p list flags e t =
-    subst (λ z. Tells (IsUsableBy (world_by terms w) rules p) z flags) (sym (own_requirements w terms p ∙ ap (map (requirement_of terms)) (sym e)))
+    subst (λ z. Tells (IsUsableBy (world_by terms w) rules p) z flags)
+    (sym (own_requirements w terms p ∙ ap (map (requirement_of terms)) (sym e)))
     (tells_map (IsUsableBy (world_by terms w) rules p) (requirement_of terms) list flags t)
 
-pub tell_more : (w : TextWorld) (rules : List Rule) (k : ℕ) (old new : List (List Bool)) (flags : List Bool) → length old ≡ k → new ≡ old ++ flags ∷ [] → TellEach w rules old k
+pub tell_more : (w : TextWorld) (rules : List Rule) (k : ℕ) (old new : List (List Bool)) (flags : List Bool) → length old ≡ k
+    → new ≡ old ++ flags ∷ [] → TellEach w rules old k
     → Tells (IsUsableBy w rules (record { rank = k })) ((facts_of w).of_protocol (record { rank = k })) flags → TellEach w rules new (k + 1)
 tell_more w rules k old new flags n e each t j l = elim (cases_eq j k) [
-  | inl s ↦ subst (λ (z : ℕ). Tells (IsUsableBy w rules (record { rank = z })) ((facts_of w).of_protocol (record { rank = z })) (get_or new z [])) (sym s)
-      (subst (λ z. Tells (IsUsableBy w rules (record { rank = k })) ((facts_of w).of_protocol (record { rank = k })) z) (sym (ap (λ z. get_or z k []) e ∙ at_end old flags k n)) t)
+  | inl s ↦ subst (λ (z : ℕ).
+      Tells (IsUsableBy w rules (record { rank = z })) ((facts_of w).of_protocol (record { rank = z })) (get_or new z [])) (sym s)
+      (subst (λ z. Tells (IsUsableBy w rules (record { rank = k })) ((facts_of w).of_protocol (record { rank = k })) z)
+      (sym (ap (λ z. get_or z k []) e ∙ at_end old flags k n)) t)
   | inr d ↦ subst (λ z. Tells (IsUsableBy w rules (record { rank = j })) ((facts_of w).of_protocol (record { rank = j })) z)
       (sym (ap (λ z. get_or z j []) e ∙ before_end old flags j (omega (arith, n, l, d)))) (each j (omega (arith, l, d)))
 ]
@@ -208,7 +226,8 @@ tell_more w rules k old new flags n e each t j l = elim (cases_eq j k) [
 
 -- ---- kept requirements, one by one
 
-pub one_kept : {A B : Type 0} (g : A → B) (xs : List A) (bs : List Bool) (k : ℕ) (d : A) (c : Bool) (v w all : List B) → k < length xs → k < length bs
+pub one_kept : {A B : Type 0} (g : A → B) (xs : List A) (bs : List Bool) (k : ℕ) (d : A) (c : Bool) (v w all : List B)
+    → k < length xs → k < length bs
     → w ≡ v ++ (if get_or bs k c then g (get_or xs k d) ∷ [] else []) → v ++ map g (chosen (drop k xs) (drop k bs)) ≡ all
     → w ++ map g (chosen (drop (k + 1) xs) (drop (k + 1) bs)) ≡ all
 one_kept g xs bs k d c v w all l m f h =
@@ -223,10 +242,12 @@ one_kept g xs bs k d c v w all l m f h =
     ∙ ap (map g) (sym (chosen_from xs bs k x d b c l m refl refl)))
     ∙ h
 
-pub all_kept : {A B : Type 0} (g : A → B) (xs : List A) (bs : List Bool) (k : ℕ) (v all : List B) → length xs ≤ k → v ++ map g (chosen (drop k xs) (drop k bs)) ≡ all → v ≡ all
+pub all_kept : {A B : Type 0} (g : A → B) (xs : List A) (bs : List Bool) (k : ℕ) (v all : List B) → length xs ≤ k
+    → v ++ map g (chosen (drop k xs) (drop k bs)) ≡ all → v ≡ all
 all_kept g xs bs k v all l h = sym (append-nil v) ∙ ap (λ z. v ++ map g (chosen z (drop k bs))) (sym (drop_all k xs l)) ∙ h
 
-pub one_list : (w : IdWorld) (ps : List ProtoId) (ks : List (List Bool)) (k : ℕ) (p : ProtoId) (flags : List Bool) (v u all : List RoundRequirement)
+pub one_list : (w : IdWorld) (ps : List ProtoId) (ks : List (List Bool)) (k : ℕ) (p : ProtoId) (flags : List Bool)
+    (v u all : List RoundRequirement)
     → slice_get ps k ≡ Some p → slice_get ks k ≡ Some flags → u ≡ v ++ map (in_protocol p) (chosen (bare (requirements_of w p)) flags)
     → v ++ kept_in w (drop k ps) (drop k ks) ≡ all → u ++ kept_in w (drop (k + 1) ps) (drop (k + 1) ks) ≡ all
 one_list w ps ks k p flags v u all e h f i =
@@ -236,5 +257,6 @@ one_list w ps ks k p flags v u all e h f i =
     ∙ ap (λ z. v ++ z) (sym (ap₂ (kept_in w) (drop_at ps k p e) (drop_at ks k flags h)))
     ∙ i
 
-pub all_lists : (w : IdWorld) (ps : List ProtoId) (ks : List (List Bool)) (k : ℕ) (v all : List RoundRequirement) → length ps ≤ k → v ++ kept_in w (drop k ps) (drop k ks) ≡ all → v ≡ all
+pub all_lists : (w : IdWorld) (ps : List ProtoId) (ks : List (List Bool)) (k : ℕ) (v all : List RoundRequirement) → length ps ≤ k
+    → v ++ kept_in w (drop k ps) (drop k ks) ≡ all → v ≡ all
 all_lists w ps ks k v all l h = sym (append-nil v) ∙ ap (λ z. v ++ kept_in w z (drop k ks)) (sym (drop_all k ps l)) ∙ h

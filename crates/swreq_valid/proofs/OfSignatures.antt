@@ -44,7 +44,8 @@ module _ (terms : List Term) (w : IdWorld) (f : FuncId) (params : Params) (list 
 
   -- so what is built of the read ones is built of the signature
   pub builds : (limits : Limits) (base : List Rule) (old new : Option (List Event)) (answer : Result (List Rule) Refused)
-      → Builds limits (machine_plan terms w base params (bare list)) (facts_of (world_by terms w)) (list_sides terms params list) old new answer
+      → Builds limits (machine_plan terms w base params (bare list)) (facts_of (world_by terms w))
+      (list_sides terms params list) old new answer
       → Builds limits (signature_plan (world_by terms w) base meant) (facts_of (world_by terms w)) (signature_sides meant) old new answer
   builds limits base old new answer = as_meant (λ p rs qs. Builds limits (list_of (world_by terms w) base p rs)
       (facts_of (world_by terms w)) (sides (WrittenList (generic_params p) rs) qs) old new answer)

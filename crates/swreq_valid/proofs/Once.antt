@@ -26,7 +26,8 @@ length-without [] j l = absurd (omega (arith, l))
 length-without (x ∷ xs) zero l = refl
 length-without (x ∷ xs) (suc j) l = ap suc (length-without xs j (omega (arith, l)))
 
-kept_place : {A : Type 0} (xs : List A) (j k : ℕ) (q : A) → slice_get xs k ≡ Some q → (k ≡ j → ⊥) → (i : ℕ) × (slice_get (without j xs) i ≡ Some q)
+kept_place : {A : Type 0} (xs : List A) (j k : ℕ) (q : A) → slice_get xs k ≡ Some q → (k ≡ j → ⊥)
+    → (i : ℕ) × (slice_get (without j xs) i ≡ Some q)
 kept_place [] j k q e n = absurd cc
 kept_place (x ∷ xs) zero zero q e n = absurd (n refl)
 kept_place (x ∷ xs) zero (suc k) q e n = (k, e)
@@ -42,7 +43,8 @@ module _ (x : LexiconView) (ids : AreIds x) where
   rank_at : (k : ℕ) (p : ProtoId) → slice_get x.written_order k ≡ Some p → slice_get ranks k ≡ Some p.rank
   rank_at k p e = slice_get-map (λ (z : ProtoId). z.rank) x.written_order k ∙ ap (option_map (λ (z : ProtoId). z.rank)) e
 
-  pub once : (i j : ℕ) (p q : ProtoId) → i < j → slice_get x.written_order i ≡ Some p → slice_get x.written_order j ≡ Some q → p.rank ≡ q.rank → ⊥
+  pub once : (i j : ℕ) (p q : ProtoId) → i < j → slice_get x.written_order i ≡ Some p
+      → slice_get x.written_order j ≡ Some q → p.rank ≡ q.rank → ⊥
   once i j p q l e h same =
       let long : length ranks ≡ length x.protocols = length-map x.written_order (λ (z : ProtoId). z.rank) ∙ ids.each_once in
       let within : j < length ranks = slice_get_within ranks j q.rank (rank_at j q h) in
@@ -58,7 +60,8 @@ module _ (x : LexiconView) (ids : AreIds x) where
       each : (r : ℕ) → r < length x.protocols → list_any (nat_eq r) (without j ranks) ≡ true
       each r m =
           let c = (ids.written_order (record { rank = r })).1 m in
-          let at : slice_get x.written_order c.0 ≡ Some (record { rank = r }) = slice_get_read x.written_order (length x.written_order) c.0 (record { rank = r }) refl c.1 (sym c.2) in
+          let at : slice_get x.written_order c.0 ≡ Some (record { rank = r }) =
+          slice_get_read x.written_order (length x.written_order) c.0 (record { rank = r }) refl c.1 (sym c.2) in
           let rank : slice_get ranks c.0 ≡ Some r = rank_at c.0 (record { rank = r }) at in
           elim (cases_eq c.0 j) [
             | inr n ↦ (let (k, g) = kept_place ranks j c.0 r rank n in there r k g)

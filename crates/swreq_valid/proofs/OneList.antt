@@ -13,10 +13,12 @@ use Rattle.swreq_valid.proofs.Flagged.{by_item, more_told, one_telling}
 use Rattle.swreq_valid.proofs.Turned.{begun_by, more_by_item}
 
 module _ (limits : Limits) (plan : Plan) where
-  same_end : (used : List Bool) (r s : List Rule) → Ends limits plan (chosen plan.all used) r → Ends limits plan (chosen plan.all used) s → r ≡ s
+  same_end : (used : List Bool) (r s : List Rule) → Ends limits plan (chosen plan.all used) r
+      → Ends limits plan (chosen plan.all used) s → r ≡ s
   same_end used r s e f = one_end limits plan (chosen plan.all used) r s e f
 
-  same_flags : (bs cs : List Bool) (r s : List Rule) → r ≡ s → Tells (AreShown plan r) plan.all bs → Tells (AreShown plan s) plan.all cs → bs ≡ cs
+  same_flags : (bs cs : List Bool) (r s : List Rule) → r ≡ s → Tells (AreShown plan r) plan.all bs
+      → Tells (AreShown plan s) plan.all cs → bs ≡ cs
   same_flags bs cs r s e t u = one_telling (AreShown plan s) plan.all bs cs (subst (λ z. Tells (AreShown plan z) plan.all bs) e t) u
 
   module _ (used : List Bool) (flags : AreByItem plan.all used) where
@@ -28,7 +30,8 @@ module _ (limits : Limits) (plan : Plan) where
         let e = same_rules r s bs cs j k in
         one_telling (λ x. Contains (chosen plan.all used) x ⊎ AreShownByReduction plan s x) plan.all bs cs
         (subst (λ z. Tells (λ x. Contains (chosen plan.all used) x ⊎ AreShownByReduction plan z x) plan.all bs) e
-        (more_told (AreShownByReduction plan r) plan.all used bs flags j.joins)) (more_told (AreShownByReduction plan s) plan.all used cs flags k.joins)
+        (more_told (AreShownByReduction plan r) plan.all used bs flags j.joins))
+        (more_told (AreShownByReduction plan s) plan.all used cs flags k.joins)
 
     due_not_joined : {B : Type 0} (p : Passed) (r : List Rule) (more : List Bool) → IsDue limits plan (chosen plan.all used) (Some p)
         → AreJoined limits plan used r more → B
@@ -60,7 +63,8 @@ module _ (limits : Limits) (plan : Plan) where
       not_both limits plan (chosen plan.all used) r p.which p.trace e s
   rounds_from_are_one {used = used} by (begun_anew p s j h) (before_others {rules = r} d e t n k) =
       not_both limits plan (chosen plan.all used) r p.which p.trace e s
-  rounds_from_are_one {used = used} by (begun_anew {more = v} {rules = r} p s j h) (begun_anew {more = w} {rules = q} {others = later} o u k l) =
+  rounds_from_are_one {used = used} by (begun_anew {more = v} {rules = r} p s j h)
+      (begun_anew {more = w} {rules = q} {others = later} o u k l) =
       let same = one_stop limits plan (chosen plan.all used) p o s u in
       let rest : AreRoundsFrom limits plan v (Some p) later = subst (λ z. AreRoundsFrom limits plan v (Some z) later) (sym same)
       (subst (λ z. AreRoundsFrom limits plan z (Some o) later) (sym (same_more used by r q v w j k)) l) in
@@ -70,7 +74,8 @@ module _ (limits : Limits) (plan : Plan) where
       due_not_joined used by p s more d j
   rounds_from_are_one {used = used} by (once_more {more = more} {passed = p} {rules = s} j h) (before_others d e t n k) =
       due_not_joined used by p s more d j
-  rounds_from_are_one {used = used} by (once_more {more = v} {passed = p} {rules = r} j h) (once_more {more = w} {rules = q} {others = later} k l) =
+  rounds_from_are_one {used = used} by (once_more {more = v} {passed = p} {rules = r} j h)
+      (once_more {more = w} {rules = q} {others = later} k l) =
       ap₂ (λ x zs. short_round used x ∷ zs) (same_rules used by r q v w j k)
       (rounds_from_are_one (more_by_item limits plan used by r v j) h
       (subst (λ z. AreRoundsFrom limits plan z (Some p) later) (sym (same_more used by r q v w j k)) l))

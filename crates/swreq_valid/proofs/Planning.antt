@@ -74,7 +74,8 @@ module _ (w : IdWorld) (terms : List Term) where
       → Tells (AreShown (plan_of w terms base start) rules) (items_of terms start.all.items) bs
   told_shown start rules base bs t = told_by start (Links rules) bs t
 
-  pub told_reduced : (start : RoundStart) (rules base : List Rule) (bs : List Bool) → Tells (IsToldBy (ReduceAlike rules)) start.all.items bs
+  pub told_reduced : (start : RoundStart) (rules base : List Rule) (bs : List Bool)
+      → Tells (IsToldBy (ReduceAlike rules)) start.all.items bs
       → Tells (AreShownByReduction (plan_of w terms base start) rules) (items_of terms start.all.items) bs
   told_reduced start rules base bs t = told_by start (ReduceAlike rules) bs t
 
@@ -106,19 +107,23 @@ module _ (w : IdWorld) (terms : List Term) where
       ∙ map-map (equation_of m) (item_of terms rs) (chosen start.all.items used))
 
   -- past the end nothing is left
-  pub none_left : (start : RoundStart) (used : List Bool) (k : ℕ) (v : List (Word × Word)) → length start.all.items ≤ k → v ≡ v ++ left_from start used k
+  pub none_left : (start : RoundStart) (used : List Bool) (k : ℕ) (v : List (Word × Word)) → length start.all.items ≤ k
+      → v ≡ v ++ left_from start used k
   none_left start used k v l =
       sym (ap (λ z. v ++ map (equation_for start) (chosen z (drop k used))) (drop_all k start.all.items l) ∙ append-nil v)
 
 -- flags of one more, and of all
-pub told_more : (P : RoundRequirement → Type 0) (xs : List RoundRequirement) (k : ℕ) (x : RoundRequirement) (bs cs : List Bool) (b : Bool) → k < length xs → x ≡ get_or xs k x
+pub told_more : (P : RoundRequirement → Type 0) (xs : List RoundRequirement) (k : ℕ) (x : RoundRequirement) (bs cs : List Bool) (b : Bool)
+    → k < length xs → x ≡ get_or xs k x
     → cs ≡ bs ++ b ∷ [] → Tells P (take k xs) bs → Decides b (P x) → Tells P (take (k + 1) xs) cs
 told_more P xs k x bs cs b l e f t d =
     let one : suc k ≡ k + 1 = omega arith in
-    let g : take (k + 1) xs ≡ take k xs ++ x ∷ [] = subst (λ n. take n xs ≡ take k xs ++ x ∷ []) one (take_one xs k x (slice_get_read xs (length xs) k x refl l e)) in
+    let g : take (k + 1) xs ≡ take k xs ++ x ∷ [] =
+    subst (λ n. take n xs ≡ take k xs ++ x ∷ []) one (take_one xs k x (slice_get_read xs (length xs) k x refl l e)) in
     subst₂ (Tells P) (sym g) (sym f) (tells_one_more P (take k xs) bs x b t d)
 
-pub told_all : (P : RoundRequirement → Type 0) (xs : List RoundRequirement) (k : ℕ) (bs : List Bool) → length xs ≤ k → Tells P (take k xs) bs → Tells P xs bs
+pub told_all : (P : RoundRequirement → Type 0) (xs : List RoundRequirement) (k : ℕ) (bs : List Bool) → length xs ≤ k
+    → Tells P (take k xs) bs → Tells P xs bs
 told_all P xs k bs l t = subst (λ z. Tells P z bs) (take_past xs k l) t
   where
     take_past : (ys : List RoundRequirement) (n : ℕ) → length ys ≤ n → take n ys ≡ ys

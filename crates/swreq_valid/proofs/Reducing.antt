@@ -83,7 +83,8 @@ module _ (w : TextWorld) (closed : IsClosed w) (machine : MachineView) (list : L
   by_rules (Generic g) rest u h = h
   by_rules (Member t (Name a)) rest u h = h
   by_rules (Member t (Bound d)) rest u (k, c, i, h) =
-      let (pre, e, stands) = front m f (generic_params machine.params) list (symbols_law w closed) (text_law w closed) is.in_text (ranks_law w closed) t (MemberSymbol k ∷ rest) u h in
+      let (pre, e, stands) = front m f (generic_params machine.params) list (symbols_law w closed) (text_law w closed) is.in_text
+      (ranks_law w closed) t (MemberSymbol k ∷ rest) u h in
       let v = valid_sides f L (Conforms t i.proto) i.conforms in
       (k, pre, e, c.0, (first_behind pre t stands v (name_of m k) d).0 i, by_rules t (MemberSymbol k ∷ rest) u h)
 
@@ -103,4 +104,5 @@ module _ (w : TextWorld) (closed : IsClosed w) (machine : MachineView) (list : L
       reduced_is r same =
           let (q, h) = type_of in
           subst (λ z. IsReducedIn w machine list t z) (sym (same q (by_rules q [] u h)))
-          (type_is_reduced m f (generic_params machine.params) list (symbols_law w closed) (text_law w closed) is.in_text (ranks_law w closed) t q u v least_in.1 least_in.0 h)
+          (type_is_reduced m f (generic_params machine.params) list (symbols_law w closed) (text_law w closed) is.in_text
+          (ranks_law w closed) t q u v least_in.1 least_in.0 h)

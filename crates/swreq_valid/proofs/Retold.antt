@@ -41,7 +41,8 @@ use Rattle.swreq_valid.proofs.Turned.{begun_by, more_by_item}
 -- ---- a front of a reached trace is reached
 
 module _ (base : ℕ) (given : List (List Symbol × List Symbol)) (t : List Rule) (n : ℕ) where
-  sides_in_front : (m : Birth) (l r : List Symbol) → greater_number m ≤ n → HasSides base given t m l r → HasSides base given (take n t) m l r
+  sides_in_front : (m : Birth) (l r : List Symbol) → greater_number m ≤ n → HasSides base given t m l r
+      → HasSides base given (take n t) m l r
   sides_in_front (Given k) l r le s = s
   sides_in_front (Pair i j at) l r le s =
       let p = s.1 in let a = p.first_at in let b = p.second_at in (
@@ -91,7 +92,8 @@ module _ (base : ℕ) (given : List (List Symbol × List Symbol)) (t : List Rule
       right_reduces = same_front r h.right_end h.right_reduces;
       outcome = elim h.outcome [
         | inl o ↦ inl (o.0, λ k rule lo e i. o.1 k rule lo (in_whole t n k rule e) i)
-        | inr b ↦ inr (record { rule = b.rule; is_next = in_front t n count b.rule below b.is_next; birth_is = b.birth_is; sides = b.sides })
+        | inr b ↦
+            inr (record { rule = b.rule; is_next = in_front t n count b.rule below b.is_next; birth_is = b.birth_is; sides = b.sides })
       ];
     }
 
@@ -104,7 +106,8 @@ module _ (base : ℕ) (given : List (List Symbol × List Symbol)) (t : List Rule
           left = b.left;
           right = b.right;
           sides = sides_in_front rule.birth b.left b.right (let g = b.settled.rules_at.knows in omega (arith, g, below)) b.sides;
-          settled = settled_in_front rule.birth b.left b.right k below (let w = slice_get_within (take n t) k rule e in omega (arith, w)) b.settled;
+          settled = settled_in_front rule.birth b.left b.right k below
+              (let w = slice_get_within (take n t) k rule e in omega (arith, w)) b.settled;
         };
     settled = λ k rule lo e m l r sides before.
         let (count, s) = h.settled k rule lo (in_whole t n k rule e) m l r (sides_in_whole m l r sides) before in
@@ -181,7 +184,8 @@ module _ (limits : Limits) (plan : Plan) where
   abbrev base : ℕ
   base = length plan.base
 
-  last_of_others : {used : List Bool} {first : Option Passed} {others : List RoundView} (r : RoundView) → AreRoundsFrom limits plan used first others
+  last_of_others : {used : List Bool} {first : Option Passed} {others : List RoundView} (r : RoundView)
+      → AreRoundsFrom limits plan used first others
       → last_rules (r ∷ others) ≡ last_rules others
   last_of_others r (the_last due e t) = refl
   last_of_others r (before_others due e t n rest) = refl
@@ -231,8 +235,10 @@ module _ (limits : Limits) (plan : Plan) where
       → IsOutcome limits plan (Ok (last_rules others)) ((before ++ round_events base r) ++ events_of base others)
       → IsOutcome limits plan (Ok (last_rules (r ∷ others))) (before ++ events_of base (r ∷ others))
   on_again r more later before others rest h =
-      subst (λ (end : List Rule). IsOutcome limits plan (Ok end) (before ++ (round_events base r ++ events_of base others))) (sym (last_of_others r rest))
-      (subst (λ (es : List Event). IsOutcome limits plan (Ok (last_rules others)) es) (append_assoc before (round_events base r) (events_of base others)) h)
+      subst (λ (end : List Rule). IsOutcome limits plan (Ok end) (before ++ (round_events base r ++ events_of base others)))
+      (sym (last_of_others r rest))
+      (subst (λ (es : List Event). IsOutcome limits plan (Ok (last_rules others)) es)
+      (append_assoc before (round_events base r) (events_of base others)) h)
 
   later_part : (r : RoundView) (before : List Event) (others : List RoundView) (k : ℕ) (part : List Event)
       → ComesTo limits plan ((before ++ round_events base r) ++ (events_of base (take k others) ++ part))
@@ -303,7 +309,8 @@ module _ (limits : Limits) (plan : Plan) where
   part_again used first before at _ (the_last due end t) (suc k) d part w is = absurd (omega (arith, w))
   part_again used first before at _ (before_others {rules = rules} due end t n rest) zero d part w is =
       front_comes (chosen plan.all used) first before part at.1 due rules end.0 (ended_within (chosen plan.all used) rules end) is
-  part_again used first before at _ (before_others {usable = usable} {rules = rules} {others = others} due end t n rest) (suc k) d part w is =
+  part_again used first before at _
+      (before_others {usable = usable} {rules = rules} {others = others} due end t n rest) (suc k) d part w is =
       later_part (ended_round used rules) before others k part
       (part_again usable None (before ++ events base rules) (next_round used usable first before at rules due end t n) others rest k d part
       (omega (arith, w)) is)
@@ -311,7 +318,8 @@ module _ (limits : Limits) (plan : Plan) where
       front_comes (chosen plan.all used) None before part at.1 tt p.trace s.0 s.1.within is
   part_again used first before at _ (begun_anew {more = more} {rules = rules} {others = others} p s j rest) (suc k) d part w is =
       later_part (stopped_round used p.trace rules) before others k part
-      (part_again more (Some p) (before ++ events base p.trace) (anew_round used more before at rules p s j) others rest k d part (omega (arith, w)) is)
+      (part_again more (Some p) (before ++ events base p.trace)
+      (anew_round used more before at rules p s j) others rest k d part (omega (arith, w)) is)
   part_again used first before at _ (once_more {passed = p} j rest) zero d part w is = record {
     used = chosen plan.all used;
     first = Some p;
@@ -338,7 +346,8 @@ module _ (limits : Limits) (plan : Plan) where
       grew,
     )
 
-    pub lost_again : (k : ℕ) (d : RoundView) (mid : Option (List Event)) → k < length rounds → GrewBy old mid (events_of base (take k rounds))
+    pub lost_again : (k : ℕ) (d : RoundView) (mid : Option (List Event)) → k < length rounds
+        → GrewBy old mid (events_of base (take k rounds))
         → TellsRound base (get_or rounds k d) mid new → Answers limits plan old new (Err Memory)
     lost_again k d mid l grew (part, is, more) = (
       events_of base (take k rounds) ++ part,
@@ -351,7 +360,8 @@ module _ (limits : Limits) (plan : Plan) where
       abbrev last : RoundView
       last = ended_round used (last_rules rounds)
 
-      pub front_lost : (k : ℕ) (d : RoundView) (mid : Option (List Event)) → k < length front → GrewBy old mid (events_of base (take k front))
+      pub front_lost : (k : ℕ) (d : RoundView) (mid : Option (List Event)) → k < length front
+          → GrewBy old mid (events_of base (take k front))
           → TellsRound base (get_or front k d) mid new → Answers limits plan old new (Err Memory)
       front_lost k d mid l grew part =
           let long = ap length split ∙ length-append front (last ∷ []) in

@@ -27,11 +27,13 @@ use Rattle.swreq_valid.specs.Rounds.{AreRounds, AreRoundsFrom, RoundView, last_r
 use Rattle.swreq_valid.specs.Underway.{ComesTo, IsPart, IsTaken, IsUnderway, first_of, used_by}
 use Rattle.swreq_valid.proofs.Flagged.{chosen_unset, none_by_item}
 
-pub same_answer : (limits : Limits) (base other : List Rule) (eqs more : List (Word × Word)) (r : Result (List Rule) Failed) → other ≡ base → eqs ≡ more
+pub same_answer : (limits : Limits) (base other : List Rule) (eqs more : List (Word × Word)) (r : Result (List Rule) Failed)
+    → other ≡ base → eqs ≡ more
     → IsAnswer limits other eqs r → IsAnswer limits base more r
 same_answer limits base other eqs more r e f h = subst₂ (λ b g. IsAnswer limits b g r) e f h
 
-pub same_told : (limits : Limits) (base other : List Rule) (eqs more : List (Word × Word)) (old new : Option (List Event)) (r : Result (List Rule) Failed)
+pub same_told : (limits : Limits) (base other : List Rule) (eqs more : List (Word × Word)) (old new : Option (List Event))
+    (r : Result (List Rule) Failed)
     → other ≡ base → eqs ≡ more → TellsEvents limits other eqs old new r → TellsEvents limits base more old new r
 same_told limits base other eqs more old new r e f h = subst₂ (λ b g. TellsEvents limits b g old new r) e f h
 
@@ -41,7 +43,8 @@ module _ (limits : Limits) (plan : Plan) where
 
   -- an answer is the only one
   pub only : (old new : Option (List Event)) (a : Result (List Rule) Failed) → Answers limits plan old new a → IsOnlyOutcome limits plan a
-  only old new (Ok rules) h other told k = elim (outcomes_are_one limits plan (Ok rules) other h.0 told h.1 k) [ inl e ↦ inl e.0 | inr e ↦ inr e ]
+  only old new (Ok rules) h other told k =
+      elim (outcomes_are_one limits plan (Ok rules) other h.0 told h.1 k) [ inl e ↦ inl e.0 | inr e ↦ inr e ]
   only old new (Err (Limit which trace)) h other told k =
       elim (outcomes_are_one limits plan (Err (Limit which trace)) other h.0 told h.1 k) [ inl e ↦ inl e.0 | inr e ↦ inr e ]
   only old new (Err Memory) h other told k = inr (inl refl)
@@ -63,13 +66,15 @@ pub record IsBefore (limits : Limits) (plan : Plan) (old : Option (List Event)) 
       → AreRounds limits plan (u.before.items ++ others)
 
 module _ (limits : Limits) (plan : Plan) (old : Option (List Event)) where
-  pub is_first : (u : Underway) → u.used.items ≡ replicate (length plan.all) false → u.first ≡ None → u.before.items ≡ [] → IsBefore limits plan old u old
+  pub is_first : (u : Underway) → u.used.items ≡ replicate (length plan.all) false → u.first ≡ None → u.before.items ≡ []
+      → IsBefore limits plan old u old
   is_first u e f g =
       let none = ap first_of f in record {
         told = [];
         underway = record {
           flags = none_by_item plan.all u.used.items e;
-          round = subst₂ (λ z o. IsRound limits plan z o []) (sym (ap (chosen plan.all) e ∙ chosen_unset plan.all (length plan.all))) (sym none) begin;
+          round = subst₂ (λ z o. IsRound limits plan z o [])
+              (sym (ap (chosen plan.all) e ∙ chosen_unset plan.all (length plan.all))) (sym none) begin;
         };
         grew = grew_none old;
         lead = λ others h. subst (λ z. AreRounds limits plan (z ++ others)) (sym g)
@@ -119,7 +124,8 @@ module _ (limits : Limits) (plan : Plan) (old : Option (List Event)) where
     failed_taken (Limit which trace) (now, c, g) = limit_taken which trace now c g
     failed_taken Memory (part, p, g) = memory_taken part p g
 
-    pub last_taken : (rounds : List RoundView) → IsTaken limits plan u mid new (Ok (Lasts rounds)) → Answers limits plan old new (Ok (last_rules rounds))
+    pub last_taken : (rounds : List RoundView) → IsTaken limits plan u mid new (Ok (Lasts rounds))
+        → Answers limits plan old new (Ok (last_rules rounds))
     last_taken rounds (now, l, g) =
         let end = lasts l.turns in (
           is.told ++ now,
@@ -147,7 +153,8 @@ module _ (limits : Limits) (plan : Plan) (old : Option (List Event)) where
       underway = record { flags = t.flags; round = after is.underway.round t.turns refl };
       grew = grew_on old mid new is.told now is.grew g;
       lead = λ others h. subst (λ z. AreRounds limits plan (z ++ others)) (sym t.noted)
-          (subst (AreRounds limits plan) (sym (append_assoc u.before.items (t.round ∷ []) others)) (is.lead (t.round ∷ others) (t.lead others h)));
+          (subst (AreRounds limits plan) (sym (append_assoc u.before.items (t.round ∷ []) others))
+          (is.lead (t.round ∷ others) (t.lead others h)));
     }
 
     pub fewer_left : (v : Underway) → IsTaken limits plan u mid new (Ok (Goes v)) → unset v.used.items < unset u.used.items

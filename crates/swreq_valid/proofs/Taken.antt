@@ -16,14 +16,16 @@ use Rattle.swreq_valid.specs.Underway.{FailsWith, IsDueNow, IsPart, IsTaken, Tur
 
 module _ (limits : Limits) (plan : Plan) (u : Underway) (due : IsDueNow limits plan u) (old new : Option (List Event)) where
   -- the completion ended, and then memory ran out
-  pub ended_part : (rules : List Rule) → Ends limits plan (used_by limits plan u) rules → IsPart limits plan u (events (length plan.base) rules)
+  pub ended_part : (rules : List Rule) → Ends limits plan (used_by limits plan u) rules
+      → IsPart limits plan u (events (length plan.base) rules)
   ended_part rules end =
       inr (rules, due, end.0, record { reached = end.1.ended.reached; kept = λ k rule lo l e. end.1.kept k rule lo e }, refl)
 
   -- it passed a limit
   pub limit_taken : (passed : Passed) → Stops limits plan (used_by limits plan u) passed.which passed.trace
       → GrewBy old new (events (length plan.base) passed.trace) → (r : Result Turn Failed)
-      → MatchResult r (TurnsTo limits plan u (events (length plan.base) passed.trace)) (FailsWith limits plan u (events (length plan.base) passed.trace))
+      → MatchResult r (TurnsTo limits plan u (events (length plan.base) passed.trace))
+      (FailsWith limits plan u (events (length plan.base) passed.trace))
       → IsTaken limits plan u old new r
   limit_taken passed stop grew (Ok t) h = (events (length plan.base) passed.trace, h, grew)
   limit_taken passed stop grew (Err (Limit which trace)) h = (events (length plan.base) passed.trace, h, grew)
@@ -31,7 +33,8 @@ module _ (limits : Limits) (plan : Plan) (u : Underway) (due : IsDueNow limits p
       (events (length plan.base) passed.trace, inr (passed.trace, due, stop.0, stop.1.within, refl), grew)
 
   -- memory ran out on the way
-  pub memory_taken : TellsEvents limits plan.base (given plan (used_by limits plan u)) old new (Err Memory) → IsTaken limits plan u old new (Err Memory)
+  pub memory_taken : TellsEvents limits plan.base (given plan (used_by limits plan u)) old new (Err Memory)
+      → IsTaken limits plan u old new (Err Memory)
   memory_taken (inl g) = ([], inl refl, g)
   memory_taken (inr (trace, b, w, g)) = (events (length plan.base) trace, inr (trace, due, b, w, refl), g)
 

@@ -29,15 +29,18 @@ use Rattle.swreq_valid.proofs.Flagged.{more_to, tells_to}
 module _ (m : Symbols) (f g : TermFacts) (same : f.associated_types ≡ g.associated_types) (s : Source) (C : Word → Word → Type 0) where
   pub valid_over : (t : Term) → ShowsValid m f s C t → ShowsValid m g s C t
   valid_over (Generic i) h = h
-  valid_over (Member t (Name a)) (h, (p, d, k, c)) = (valid_over t h, (p, d, subst (λ z. Contains z (record { proto = p; name = a; assoc = d })) same k, c))
-  valid_over (Member t (Bound d)) (h, (p, a, k, c)) = (valid_over t h, (p, a, subst (λ z. Contains z (record { proto = p; name = a; assoc = d })) same k, c))
+  valid_over (Member t (Name a)) (h, (p, d, k, c)) =
+      (valid_over t h, (p, d, subst (λ z. Contains z (record { proto = p; name = a; assoc = d })) same k, c))
+  valid_over (Member t (Bound d)) (h, (p, a, k, c)) =
+      (valid_over t h, (p, a, subst (λ z. Contains z (record { proto = p; name = a; assoc = d })) same k, c))
 
   pub usable_over : (r : TermRequirement) → ShowsUsable m f s C r → ShowsUsable m g s C r
   usable_over (Conforms t p) h = valid_over t h
   usable_over (IsAnyObject t) h = valid_over t h
   usable_over (Equals t u) h = (valid_over t h.0, valid_over u h.1)
 
-selects_over : {A : Type 0} {P Q : A → Type 0} → ((x : A) → P x → Q x) → ((x : A) → Q x → P x) → {xs ys : List A} → Selects P xs ys → Selects Q xs ys
+selects_over : {A : Type 0} {P Q : A → Type 0} → ((x : A) → P x → Q x) → ((x : A) → Q x → P x) → {xs ys : List A}
+    → Selects P xs ys → Selects Q xs ys
 selects_over to back none = none
 selects_over to back (takes {x = x} p h) = takes (to x p) (selects_over to back h)
 selects_over to back (leaves {x = x} n h) = leaves (λ q. n (back x q)) (selects_over to back h)
@@ -96,7 +99,8 @@ module _ (limits : Limits) (plan : Plan) (g : TermFacts) (same : plan.facts.asso
   turn_over : {used : List Item} {first : Option Passed} {told : List Event} {n : Next} → Turns limits plan used first told n
       → Turns limits other used first told n
   turn_over {used = used} {n = n} (joins p e b t) = joins p e (begun_over used p n b) t
-  turn_over {used = used} {first = first} (ends rules d e t (usable, l, h)) = ends rules (due_over used first d) e t (usable, usable_left rules usable l, h)
+  turn_over {used = used} {first = first} (ends rules d e t (usable, l, h)) =
+      ends rules (due_over used first d) e t (usable, usable_left rules usable l, h)
   turn_over {used = used} {first = first} {n = n} (stops p d e t c) = stops p (due_over used first d) e t (limit_over used first p n c)
 
   round_over : {used : List Item} {first : Option Passed} {told : List Event} → IsRound limits plan used first told
@@ -104,7 +108,8 @@ module _ (limits : Limits) (plan : Plan) (g : TermFacts) (same : plan.facts.asso
   round_over begin = begin
   round_over (after r turn t) = after (round_over r) (turn_over turn) t
 
-  last_over : (used : List Item) (rules : List Rule) (told : List Event) → IsLastRound limits plan used rules told → IsLastRound limits other used rules told
+  last_over : (used : List Item) (rules : List Rule) (told : List Event) → IsLastRound limits plan used rules told
+      → IsLastRound limits other used rules told
   last_over used rules told l = record {
     first = l.first;
     before = l.before;
@@ -115,7 +120,8 @@ module _ (limits : Limits) (plan : Plan) (g : TermFacts) (same : plan.facts.asso
     told_is = l.told_is;
   }
 
-  pub outcome_over : (answer : Result (List Rule) Failed) (told : List Event) → IsOutcome limits plan answer told → IsOutcome limits other answer told
+  pub outcome_over : (answer : Result (List Rule) Failed) (told : List Event) → IsOutcome limits plan answer told
+      → IsOutcome limits other answer told
   outcome_over (Ok rules) told (used, l) = (used, last_over used rules told l)
   outcome_over (Err (Limit which trace)) told s = record {
     used = s.used;
@@ -137,18 +143,22 @@ module _ (limits : Limits) (plan : Plan) (g : TermFacts) (same : plan.facts.asso
     part = elim c.part [ inl e ↦ inl e | inr p ↦ inr (p.0, due_over c.used c.first p.1, p.2, p.3, p.4) ];
   }
 
-  pub answers_over : (old new : Option (List Event)) (answer : Result (List Rule) Failed) → Answers limits plan old new answer → Answers limits other old new answer
+  pub answers_over : (old new : Option (List Event)) (answer : Result (List Rule) Failed) → Answers limits plan old new answer
+      → Answers limits other old new answer
   answers_over old new (Ok rules) a = (a.0, outcome_over (Ok rules) a.0 a.1, a.2)
   answers_over old new (Err (Limit which trace)) a = (a.0, outcome_over (Err (Limit which trace)) a.0 a.1, a.2)
   answers_over old new (Err Memory) a = (a.0, comes_over a.0 a.1, a.2)
 
-  told_over : (rules : List Rule) (flags : List Bool) → Tells (AreShown plan rules) plan.all flags → Tells (AreShown other rules) plan.all flags
+  told_over : (rules : List Rule) (flags : List Bool) → Tells (AreShown plan rules) plan.all flags
+      → Tells (AreShown other rules) plan.all flags
   told_over rules flags t = tells_to (AreShown plan rules) (AreShown other rules) (shown_over rules) (shown_back rules) plan.all flags t
 
-  joined_over : (used : List Bool) (rules : List Rule) (more : List Bool) → AreJoined limits plan used rules more → AreJoined limits other used rules more
+  joined_over : (used : List Bool) (rules : List Rule) (more : List Bool) → AreJoined limits plan used rules more
+      → AreJoined limits other used rules more
   joined_over used rules more j = record {
     bears = j.bears;
-    joins = more_to (AreShownByReduction plan rules) (AreShownByReduction other rules) (reduced_over rules) (reduced_back rules) plan.all used more j.joins;
+    joins = more_to (AreShownByReduction plan rules) (AreShownByReduction other rules) (reduced_over rules)
+        (reduced_back rules) plan.all used more j.joins;
     others = j.others;
   }
 
@@ -158,17 +168,20 @@ module _ (limits : Limits) (plan : Plan) (g : TermFacts) (same : plan.facts.asso
       the_last (due_over (chosen plan.all used) first d) e (told_over rules used t)
   rounds_from {used = used} {first = first} (before_others {usable = usable} {rules = rules} d e t n h) =
       before_others (due_over (chosen plan.all used) first d) e (told_over rules usable t) n (rounds_from h)
-  rounds_from {used = used} (begun_anew {more = more} {rules = rules} p s j h) = begun_anew p s (joined_over used rules more j) (rounds_from h)
+  rounds_from {used = used} (begun_anew {more = more} {rules = rules} p s j h) =
+      begun_anew p s (joined_over used rules more j) (rounds_from h)
   rounds_from {used = used} (once_more {more = more} {rules = rules} j h) = once_more (joined_over used rules more j) (rounds_from h)
 
   pub rounds_over : (rounds : List RoundView) → AreRounds limits plan rounds → AreRounds limits other rounds
   rounds_over rounds h = rounds_from h
 
-pub only_over : (limits : Limits) (plan : Plan) (g : TermFacts) → plan.facts.associated_types ≡ g.associated_types → (answer : Result (List Rule) Failed)
+pub only_over : (limits : Limits) (plan : Plan) (g : TermFacts) → plan.facts.associated_types ≡ g.associated_types
+    → (answer : Result (List Rule) Failed)
     → IsOnlyOutcome limits plan answer → IsOnlyOutcome limits (with_facts plan g) answer
 only_over limits plan g same answer only b told k = only b told (outcome_over limits (with_facts plan g) plan.facts (sym same) b told k)
 
-pub ok_rounds_over : (limits : Limits) (plan : Plan) (g : TermFacts) → plan.facts.associated_types ≡ g.associated_types → (answer : Result (List RoundView) Failed)
+pub ok_rounds_over : (limits : Limits) (plan : Plan) (g : TermFacts) → plan.facts.associated_types ≡ g.associated_types
+    → (answer : Result (List RoundView) Failed)
     → IfOk answer (AreRounds limits plan) → IfOk answer (AreRounds limits (with_facts plan g))
 ok_rounds_over limits plan g same (Ok rounds) h = rounds_over limits plan g same rounds h
 ok_rounds_over limits plan g same (Err failed) h = tt

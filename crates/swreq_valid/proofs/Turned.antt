@@ -57,11 +57,13 @@ module _ (limits : Limits) (plan : Plan) (used : List Bool) (flags : AreByItem p
       next_is = refl;
     }
 
-pub flags_long : (terms : List Term) (xs : List RoundRequirement) (used : List Bool) → AreByItem (items_of terms xs) used → length used ≡ length xs
+pub flags_long : (terms : List Term) (xs : List RoundRequirement) (used : List Bool) → AreByItem (items_of terms xs) used
+    → length used ≡ length xs
 flags_long terms xs used flags =
     tells_length (Contains (chosen (items_of terms xs) used)) (items_of terms xs) used flags ∙ items_length terms xs
 
-pub same_borne : (limits : Limits) (base other : List Rule) (eqs more : List (Word × Word)) (r : Result (List Rule) Failed) → other ≡ base → eqs ≡ more
+pub same_borne : (limits : Limits) (base other : List Rule) (eqs more : List (Word × Word)) (r : Result (List Rule) Failed)
+    → other ≡ base → eqs ≡ more
     → IsBorneBy limits other eqs r → IsBorneBy limits base more r
 same_borne limits base other eqs more r e f h = subst₂ (λ b g. IsBorneBy limits b g r) e f h
 
@@ -126,20 +128,24 @@ module _ (limits : Limits) (plan : Plan) (u : Underway) (flags : AreByItem plan.
     pub stops_here : IsClosed limits plan (used_by limits plan u)
         → FailsWith limits plan u (events (length plan.base) passed.trace) (Limit passed.which passed.trace)
     stops_here c =
-        subst (λ o. Turns limits plan (used_by limits plan u) o (events (length plan.base) passed.trace) (ended (Err (Limit passed.which passed.trace))))
+        subst (λ o. Turns limits plan (used_by limits plan u) o (events (length plan.base) passed.trace)
+        (ended (Err (Limit passed.which passed.trace))))
         (sym none) (stops passed tt stop refl (inr (c, refl)))
 
-    pub begins_anew : (rules : List Rule) (v : Underway) → AreJoined limits plan u.used.items rules v.used.items → first_of v.first ≡ Some passed
+    pub begins_anew : (rules : List Rule) (v : Underway) → AreJoined limits plan u.used.items rules v.used.items
+        → first_of v.first ≡ Some passed
         → v.before.items ≡ u.before.items ++ stopped_round u.used.items passed.trace rules ∷ []
         → GoesTo limits plan u v (events (length plan.base) passed.trace)
     begins_anew rules v j f e = record {
-      turns = subst₂ (λ o p. Turns limits plan (used_by limits plan u) o (events (length plan.base) passed.trace) (going (used_by limits plan v) p))
+      turns = subst₂ (λ o p.
+          Turns limits plan (used_by limits plan u) o (events (length plan.base) passed.trace) (going (used_by limits plan v) p))
           (sym none) (sym f) (stops passed tt stop refl (inl (begun_by limits plan u.used.items flags rules v.used.items j passed)));
       flags = more_by_item limits plan u.used.items flags rules v.used.items j;
       fewer = fewer_by_more limits plan u.used.items flags rules v.used.items j;
       round = stopped_round u.used.items passed.trace rules;
       noted = e;
-      lead = λ others h. subst (λ o. AreRoundsFrom limits plan u.used.items o (stopped_round u.used.items passed.trace rules ∷ others)) (sym none)
+      lead = λ others h.
+          subst (λ o. AreRoundsFrom limits plan u.used.items o (stopped_round u.used.items passed.trace rules ∷ others)) (sym none)
           (begun_anew passed stop j (subst (λ o. AreRoundsFrom limits plan v.used.items o others) f h));
     }
 
@@ -149,7 +155,8 @@ module _ (limits : Limits) (plan : Plan) (u : Underway) (flags : AreByItem plan.
         → v.before.items ≡ u.before.items ++ short_round u.used.items rules ∷ [] → GoesTo limits plan u v []
     goes_once_more rules v j f e =
         let again = ap first_of f ∙ first in record {
-          turns = joins passed first (subst (λ o. IsBegunAnew limits plan (used_by limits plan u) passed (going (used_by limits plan v) o)) (sym again)
+          turns = joins passed first
+              (subst (λ o. IsBegunAnew limits plan (used_by limits plan u) passed (going (used_by limits plan v) o)) (sym again)
               (begun_by limits plan u.used.items flags rules v.used.items j passed)) refl;
           flags = more_by_item limits plan u.used.items flags rules v.used.items j;
           fewer = fewer_by_more limits plan u.used.items flags rules v.used.items j;
@@ -165,11 +172,13 @@ module _ (limits : Limits) (plan : Plan) (u : Underway) (flags : AreByItem plan.
       → FailsWith limits plan u (events (length plan.base) passed.trace) (Limit f.which f.trace)
   stops_first f passed e due stop =
       let is = ap first_of e in
-      subst (λ o. Turns limits plan (used_by limits plan u) o (events (length plan.base) passed.trace) (ended (Err (Limit f.which f.trace)))) (sym is)
+      subst (λ o.
+      Turns limits plan (used_by limits plan u) o (events (length plan.base) passed.trace) (ended (Err (Limit f.which f.trace)))) (sym is)
       (stops passed (subst (IsDue limits plan (used_by limits plan u)) is due) stop refl refl)
 
   -- so it ends in the limit that was passed first, where there was one
-  pub ends_in_first : (passed : Passed) (failed : Failed) → (u.first ≡ None → ⊥) → MatchOption u.first (Unit {0}) (λ f. failed ≡ Limit f.which f.trace)
+  pub ends_in_first : (passed : Passed) (failed : Failed) → (u.first ≡ None → ⊥)
+      → MatchOption u.first (Unit {0}) (λ f. failed ≡ Limit f.which f.trace)
       → IsDueNow limits plan u → Stops limits plan (used_by limits plan u) passed.which passed.trace
       → FailsWith limits plan u (events (length plan.base) passed.trace) failed
   ends_in_first passed failed some is due stop = go u.first refl is

@@ -51,7 +51,8 @@ module _ (x : LexiconView) (rules : List Rule) where
       d,
       ap (λ z. slice_get z k) e ∙ ap (slice_get (front ++ (MemberSymbol j ∷ rest))) s ∙ at_front front (MemberSymbol j) rest,
       r,
-      subst (λ z. IsFirstBehind x rules z (name_of m j) d) (sym (ap (take k) e ∙ ap (λ n. take n (front ++ (MemberSymbol j ∷ rest))) s ∙ take-append_seam front (MemberSymbol j ∷ rest))) i,
+      subst (λ z. IsFirstBehind x rules z (name_of m j) d)
+          (sym (ap (take k) e ∙ ap (λ n. take n (front ++ (MemberSymbol j ∷ rest))) s ∙ take-append_seam front (MemberSymbol j ∷ rest))) i,
     )
     | inr n ↦ (let l : length u ≡ length front + suc (length rest) = ap length e ∙ length-append front (MemberSymbol j ∷ rest) in
         at_place t (MemberSymbol j ∷ rest) u h k a (omega (arith, l, n, b)))
@@ -82,8 +83,10 @@ module _ (x : LexiconView) (rules : List Rule) where
       let l' : length u ≡ length front' + suc (length rest) = ap length e' ∙ length-append front' (MemberSymbol k' ∷ rest) in
       let (p, q) = same_cut front (MemberSymbol k ∷ rest) front' (MemberSymbol k' ∷ rest) (sym e ∙ e') (omega (arith, l, l')) in
       let one : k ≡ k' = same_members (same_heads q) in
-      let base : t ≡ s = one_type t s (MemberSymbol k ∷ rest) u b (subst (λ z. BeginsBy x rules s (MemberSymbol z ∷ rest) u) (sym one) b') in
-      let last : d ≡ c = one_first x rules front (name_of m k) d c i (subst₂ (λ y z. IsFirstBehind x rules y (name_of m z) c) (sym p) (sym one) i') in
+      let base : t ≡ s =
+      one_type t s (MemberSymbol k ∷ rest) u b (subst (λ z. BeginsBy x rules s (MemberSymbol z ∷ rest) u) (sym one) b') in
+      let last : d ≡ c =
+      one_first x rules front (name_of m k) d c i (subst₂ (λ y z. IsFirstBehind x rules y (name_of m z) c) (sym p) (sym one) i') in
       λ j. Member (base j) (Bound (last j))
 
   -- ---- the steps so far
@@ -96,15 +99,19 @@ module _ (x : LexiconView) (rules : List Rule) where
   none_made u steps e r b = subst (λ z. BeginsBy x rules (with_steps (Generic (head r)) z) (drop 1 u) u) (sym e) (begins_head r [] u b)
 
   pub one_made : (u : Word) (k : ℕ) (old new : List Step) → 1 ≤ k → k < length u → Made u k old
-      → ((s : Symbol) (j : ℕ) (d : AssocId) → slice_get u k ≡ Some s → s ≡ MemberSymbol j → IsRank m j → IsFirstBehind x rules (take k u) (name_of m j) d → new ≡ old ++ Bound d ∷ [])
+      → ((s : Symbol) (j : ℕ) (d : AssocId) → slice_get u k ≡ Some s → s ≡ MemberSymbol j → IsRank m j
+      → IsFirstBehind x rules (take k u) (name_of m j) d → new ≡ old ++ Bound d ∷ [])
       → Made u (k + 1) new
   one_made u k old new a b made adds r h =
       let (j, d, at, is, first) = at_place r [] u h k a (omega (arith, b)) in
       let cut : drop k u ≡ MemberSymbol j ∷ drop (k + 1) u = drop_at u k (MemberSymbol j) at in
       let whole : u ≡ take k u ++ (MemberSymbol j ∷ drop (k + 1) u) = sym (take-append-drop k u) ∙ ap (λ z. take k u ++ z) cut in
       let type : new ≡ old ++ Bound d ∷ [] = adds (MemberSymbol j) j d at refl is first in
-      subst (λ z. BeginsBy x rules z (drop (k + 1) u) u) (sym (ap (with_steps (Generic (head r))) type ∙ with_more (Generic (head r)) old (Bound d)))
+      subst (λ z. BeginsBy x rules z (drop (k + 1) u) u)
+      (sym (ap (with_steps (Generic (head r))) type ∙ with_more (Generic (head r)) old (Bound d)))
       (j, take k u, whole, is, first, subst (λ z. BeginsBy x rules (with_steps (Generic (head r)) old) z u) cut (made r h))
 
-  pub all_made : (u : Word) (k : ℕ) (steps : List Step) → drop k u ≡ [] → Made u k steps → (r : Term) → BeginsBy x rules r [] u → with_steps (Generic (head r)) steps ≡ r
-  all_made u k steps e made r h = one_type (with_steps (Generic (head r)) steps) r [] u (subst (λ z. BeginsBy x rules (with_steps (Generic (head r)) steps) z u) e (made r h)) h
+  pub all_made : (u : Word) (k : ℕ) (steps : List Step) → drop k u ≡ [] → Made u k steps → (r : Term) → BeginsBy x rules r [] u
+      → with_steps (Generic (head r)) steps ≡ r
+  all_made u k steps e made r h = one_type (with_steps (Generic (head r)) steps) r [] u
+      (subst (λ z. BeginsBy x rules (with_steps (Generic (head r)) steps) z u) e (made r h)) h

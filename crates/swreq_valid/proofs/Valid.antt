@@ -27,10 +27,11 @@ use Rattle.swreq_valid.proofs.Deriving.{derivable_shown, self_derivable, self_sh
 at_source : (s : Source) (r : TermRequirement) (left right : ℕ) (x : Side) → Contains (sides_at s r left right) x → x.source ≡ s
 at_source s (Conforms t p) left right x c = ap (λ z. z.source) (only_member (record { source = s; term = t; at = left }) x c)
 at_source s (IsAnyObject t) left right x c = ap (λ z. z.source) (only_member (record { source = s; term = t; at = left }) x c)
-at_source s (Equals t u) left right x c = elim (member_cases (record { source = s; term = t; at = left }) x (record { source = s; term = u; at = right } ∷ []) c) [
-  | inl e ↦ ap (λ z. z.source) e
-  | inr k ↦ ap (λ z. z.source) (only_member (record { source = s; term = u; at = right }) x k)
-]
+at_source s (Equals t u) left right x c =
+    elim (member_cases (record { source = s; term = t; at = left }) x (record { source = s; term = u; at = right } ∷ []) c) [
+      | inl e ↦ ap (λ z. z.source) e
+      | inr k ↦ ap (λ z. z.source) (only_member (record { source = s; term = u; at = right }) x k)
+    ]
 
 pub list_source : (s : Source) (rs : List PlacedRequirement) (x : Side) → Contains (sides s rs) x → x.source ≡ s
 list_source s [] x c = no_member x c
@@ -39,7 +40,8 @@ list_source s (r ∷ rs) x c = elim (Contains-append_cases (sides_of s r) (sides
   | inr k ↦ list_source s rs x k
 ]
 
-protocol_source : (w : TextWorld) (ps : List ProtoId) (x : Side) → Contains (sides_in w ps) x → (p : ProtoId) × Contains ps p × (x.source ≡ SelfOf p)
+protocol_source : (w : TextWorld) (ps : List ProtoId) (x : Side) → Contains (sides_in w ps) x
+    → (p : ProtoId) × Contains ps p × (x.source ≡ SelfOf p)
 protocol_source w [] x c = no_member x c
 protocol_source w (p ∷ ps) x c = elim (Contains-append_cases (sides (SelfOf p) (requirements_of w p)) (sides_in w ps) x c) [
   | inl k ↦ (p, first_member p ps, list_source (SelfOf p) (requirements_of w p) x k)
@@ -52,13 +54,17 @@ module _ (w : TextWorld) (closed : IsClosed w) (m : MachineView) (list : List Te
   abbrev L : Source
   L = Written (generic_params m.params) list
 
-  pub list_derivable : (t : Term) → ShowsValid (symbols_of w.lexicon) (facts_of w) L (Links (last_rules m.rounds)) t → Derivable (facts_of w) L (IsValid t)
+  pub list_derivable : (t : Term) → ShowsValid (symbols_of w.lexicon) (facts_of w) L (Links (last_rules m.rounds)) t
+      → Derivable (facts_of w) L (IsValid t)
   list_derivable t h =
-      shown_derivable (symbols_of w.lexicon) (facts_of w) (symbols_law w closed) (text_law w closed) (last_rules m.rounds) (generic_params m.params) list is.rules is.in_text t h
+      shown_derivable (symbols_of w.lexicon) (facts_of w) (symbols_law w closed) (text_law w closed) (last_rules m.rounds)
+      (generic_params m.params) list is.rules is.in_text t h
 
-  pub list_shown : (t : Term) → Derivable (facts_of w) L (IsValid t) → ShowsValid (symbols_of w.lexicon) (facts_of w) L (Links (last_rules m.rounds)) t
+  pub list_shown : (t : Term) → Derivable (facts_of w) L (IsValid t)
+      → ShowsValid (symbols_of w.lexicon) (facts_of w) L (Links (last_rules m.rounds)) t
   list_shown t e =
-      derivable_shown (symbols_of w.lexicon) (facts_of w) (symbols_law w closed) (text_law w closed) (last_rules m.rounds) (generic_params m.params) list is.rules is.in_text t e
+      derivable_shown (symbols_of w.lexicon) (facts_of w) (symbols_law w closed) (text_law w closed) (last_rules m.rounds)
+      (generic_params m.params) list is.rules is.in_text t e
 
   module _ (rs : List PlacedRequirement) (s : Side) (c : Contains (sides L rs) s) where
     pub side_valid : IsShownSide (symbols_of w.lexicon) (facts_of w) (last_rules m.rounds) s → IsValidSide (facts_of w) s
@@ -75,7 +81,8 @@ module _ (w : TextWorld) (closed : IsClosed w) (m : MachineView) (list : List Te
 
 -- ---- the protocols
 
-module _ (w : TextWorld) (closed : IsClosed w) (rules : List Rule) (are : AreRulesOf w rules) (s : Side) (c : Contains (protocol_sides w) s) where
+module _ (w : TextWorld) (closed : IsClosed w) (rules : List Rule) (are : AreRulesOf w rules) (s : Side)
+    (c : Contains (protocol_sides w) s) where
   pub protocol_valid : IsShownSide (symbols_of w.lexicon) (facts_of w) rules s → IsValidSide (facts_of w) s
   protocol_valid h =
       let (p, k, e) = protocol_source w w.lexicon.written_order s c in

@@ -8,8 +8,8 @@ use Rattle.swreq_rounds.specs.Plan.{AreShown, AreShownByReduction, Plan}
 use Rattle.swreq_rounds.specs.Rounds.{Bears, Ends, IsDue, Passed, Stops}
 use Rattle.swreq_valid.specs.Flags.{Tells, TellsMore, chosen}
 
--- A flag for each requirement, set where the round uses it; the rules that its completion told of, if it was completed; and the rules of the
--- round: those with which it ended, or those of the short round.
+-- A flag for each requirement, set where the round uses it; the rules that its completion told of, if it was completed; and the rules of
+-- the round: those with which it ended, or those of the short round.
 pub record RoundView : Type 0 where
   pub used : List Bool
   pub told : Option (List Rule)

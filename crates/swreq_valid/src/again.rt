@@ -35,7 +35,8 @@ fn tell_round<W: Watch>(
     rules: &CompleteRules<'_>,
     watch: &mut W,
 ) -> Result<(), AllocError>
-    ensures ok { OnOk result (GrewBy (W.told watch.old) (W.told watch.new) (events base rules.now)) }
+    ensures ok { OnOk result
+        (GrewBy (W.told watch.old) (W.told watch.new) (events base rules.now)) }
     ensures err { OnErr result (TellsFront base rules.now (W.told watch.old) (W.told watch.new)) }
 {
     let start = Event::Start { base };
@@ -48,7 +49,8 @@ fn tell_round<W: Watch>(
 
 /// Tells the events of a trace: the start over the first `base` rules, and the birth of each rule after them.
 fn tell_trace<W: Watch>(base: u32, trace: &[Rule], watch: &mut W) -> Result<(), AllocError>
-    ensures ok { OnOk result (GrewBy (W.told watch.old) (W.told watch.new) (events base trace.now)) }
+    ensures ok { OnOk result
+        (GrewBy (W.told watch.old) (W.told watch.new) (events base trace.now)) }
     ensures err { OnErr result (TellsFront base trace.now (W.told watch.old) (W.told watch.new)) }
 {
     let start = Event::Start { base };
@@ -61,7 +63,8 @@ fn tell_trace<W: Watch>(base: u32, trace: &[Rule], watch: &mut W) -> Result<(), 
 
 /// Tells what the completion of a round told that another one came after.
 fn tell_course<W: Watch>(base: u32, round: &Round<'_>, watch: &mut W) -> Result<(), AllocError>
-    ensures ok { OnOk result (GrewBy (W.told watch.old) (W.told watch.new) (round_events base round.now)) }
+    ensures ok { OnOk result
+        (GrewBy (W.told watch.old) (W.told watch.new) (round_events base round.now)) }
     ensures err { OnErr result (TellsRound base round.now (W.told watch.old) (W.told watch.new)) }
 {
     match round.course() {
@@ -86,8 +89,10 @@ impl<'b> Machine<'b> {
         protocols: &Protocols,
         watch: &mut W,
     ) -> Result<(), AllocError>
-        ensures { (limits : Limits) (plan : Plan) → plan.base ≡ last_rules protocols.now.rounds → AreRounds limits plan self.now.rounds
-            → Answers limits plan (W.told watch.old) (W.told watch.new) (rules_again self.now.rounds result) }
+        ensures { (limits : Limits) (plan : Plan) → plan.base ≡ last_rules protocols.now.rounds
+            → AreRounds limits plan self.now.rounds
+            → Answers limits plan (W.told watch.old) (W.told watch.new)
+            (rules_again self.now.rounds result) }
     {
         let base = count_of(protocols);
         let before = self.rounds().before();

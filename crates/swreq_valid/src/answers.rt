@@ -38,8 +38,10 @@ impl Machine<'_> {
         requires t { IsTypeIn table.now world.now.lexicon t }
         requires fits { member_count (term_at table.now t) + 2 ≤ vec_capacity word.old }
         requires fits_test { member_count (term_at table.now t) + 2 ≤ vec_capacity test.old }
-        ensures valid { IsTrue result ↔ IsShownBy (world_by table.now world.now) self.now (term_at table.now t) }
-        ensures least { OnTrue result (IsLeastWord (world_by table.now world.now) self.now (term_at table.now t) word.new.items) }
+        ensures valid { IsTrue result
+            ↔ IsShownBy (world_by table.now world.now) self.now (term_at table.now t) }
+        ensures least { OnTrue result (IsLeastWord (world_by table.now world.now) self.now
+            (term_at table.now t) word.new.items) }
         ensures short { OnTrue result (vec_len word.new ≤ member_count (term_at table.now t) + 1) }
         ensures room { vec_capacity word.old ≤ vec_capacity word.new }
         ensures room_test { vec_capacity test.old ≤ vec_capacity test.new }
@@ -64,8 +66,10 @@ impl Machine<'_> {
         requires text { IsTextOver table.now world.now }
         requires t { IsTypeIn table.now world.now.lexicon t }
         requires room { 4 * (member_count (term_at table.now t) + 2) ≤ scratch.old.room }
-        ensures answer { (list : List TermRequirement) → IsMachineOf (world_by table.now world.now) list self.now
-            → IsTrue result ↔ IsDerivable (world_by table.now world.now) self.now list (IsValid (term_at table.now t)) }
+        ensures answer { (list : List TermRequirement)
+            → IsMachineOf (world_by table.now world.now) list self.now
+            → IsTrue result ↔ IsDerivable (world_by table.now world.now) self.now list
+            (IsValid (term_at table.now t)) }
         ensures room { scratch.new.room ≡ scratch.old.room }
     {
         self.walk(world, table, t, &mut scratch.word, &mut scratch.test)
@@ -83,7 +87,8 @@ impl Machine<'_> {
         requires text { IsTextOver table.now world.now }
         requires t { IsTypeIn table.now world.now.lexicon t }
         requires room { 4 * (member_count (term_at table.now t) + 2) ≤ scratch.old.room }
-        ensures answer { IsTrue result ↔ IsBehind (world_by table.now world.now) self.now (term_at table.now t) x }
+        ensures answer { IsTrue result
+            ↔ IsBehind (world_by table.now world.now) self.now (term_at table.now t) x }
         ensures room { scratch.new.room ≡ scratch.old.room }
     {
         if self.walk(world, table, t, &mut scratch.word, &mut scratch.test) {
@@ -105,8 +110,10 @@ impl Machine<'_> {
         requires text { IsTextOver table.now world.now }
         requires t { IsTypeIn table.now world.now.lexicon t }
         requires room { 4 * (member_count (term_at table.now t) + 2) ≤ scratch.old.room }
-        ensures answer { (list : List TermRequirement) → IsMachineOf (world_by table.now world.now) list self.now
-            → IsTrue result ↔ IsDerivable (world_by table.now world.now) self.now list (Requires (Conforms (term_at table.now t) p)) }
+        ensures answer { (list : List TermRequirement)
+            → IsMachineOf (world_by table.now world.now) list self.now
+            → IsTrue result ↔ IsDerivable (world_by table.now world.now) self.now list
+            (Requires (Conforms (term_at table.now t) p)) }
         ensures room { scratch.new.room ≡ scratch.old.room }
     {
         self.is_behind(world, table, t, Symbol::Proto(p.rank), scratch)
@@ -123,8 +130,10 @@ impl Machine<'_> {
         requires text { IsTextOver table.now world.now }
         requires t { IsTypeIn table.now world.now.lexicon t }
         requires room { 4 * (member_count (term_at table.now t) + 2) ≤ scratch.old.room }
-        ensures answer { (list : List TermRequirement) → IsMachineOf (world_by table.now world.now) list self.now
-            → IsTrue result ↔ IsDerivable (world_by table.now world.now) self.now list (Requires (IsAnyObject (term_at table.now t))) }
+        ensures answer { (list : List TermRequirement)
+            → IsMachineOf (world_by table.now world.now) list self.now
+            → IsTrue result ↔ IsDerivable (world_by table.now world.now) self.now list
+            (Requires (IsAnyObject (term_at table.now t))) }
         ensures room { scratch.new.room ≡ scratch.old.room }
     {
         self.is_behind(world, table, t, Symbol::Layout, scratch)
@@ -143,8 +152,10 @@ impl Machine<'_> {
         requires b { IsTypeIn text.now.table.now text.now.world.now.lexicon b }
         requires room_a { 4 * (member_count (term_at text.now.table.now a) + 2) ≤ scratch.old.room }
         requires room_b { 4 * (member_count (term_at text.now.table.now b) + 2) ≤ scratch.old.room }
-        ensures answer { (list : List TermRequirement) → IsMachineOf (world_of text.now) list self.now
-            → TellsIfEqual (IsDerivable (world_of text.now) self.now list) (term_at text.now.table.now a)
+        ensures answer { (list : List TermRequirement)
+            → IsMachineOf (world_of text.now) list self.now
+            → TellsIfEqual (IsDerivable (world_of text.now) self.now list)
+            (term_at text.now.table.now a)
             (term_at text.now.table.now b) result }
         ensures room { scratch.new.room ≡ scratch.old.room }
     {
@@ -183,8 +194,10 @@ impl Machine<'_> {
         requires b { IsTypeIn table.now world.now.lexicon b }
         requires room_a { 4 * (member_count (term_at table.now a) + 2) ≤ scratch.old.room }
         requires room_b { 4 * (member_count (term_at table.now b) + 2) ≤ scratch.old.room }
-        ensures answer { (list : List TermRequirement) → IsMachineOf (world_by table.now world.now) list self.now
-            → IsTrue result ↔ IsDerivable (world_by table.now world.now) self.now list (Requires (Equals (term_at table.now a)
+        ensures answer { (list : List TermRequirement)
+            → IsMachineOf (world_by table.now world.now) list self.now
+            → IsTrue result ↔ IsDerivable (world_by table.now world.now) self.now list
+            (Requires (Equals (term_at table.now a)
             (term_at table.now b))) }
         ensures room { scratch.new.room ≡ scratch.old.room }
     {
@@ -204,8 +217,10 @@ impl Machine<'_> {
     ) -> Result<bool, AllocError>
         requires text { BelongTogether text.now }
         requires r { IsRequirementIn text.now.table.now text.now.world.now.lexicon r }
-        ensures { IfOk result (λ b. (list : List TermRequirement) → IsMachineOf (world_of text.now) list self.now
-            → IsTrue b ↔ IsDerivable (world_of text.now) self.now list (Requires (requirement_of text.now.table.now r))) }
+        ensures { IfOk result
+            (λ b. (list : List TermRequirement) → IsMachineOf (world_of text.now) list self.now
+            → IsTrue b ↔ IsDerivable (world_of text.now) self.now list
+            (Requires (requirement_of text.now.table.now r))) }
     {
         match r {
             Requirement::Conf { subject, proto } => {

@@ -36,8 +36,10 @@ fn doubled(alloc: Global, p: ProtoId) -> Result<(Word, Word), AllocError>
 
 /// `[P]·A = [P:A]`, where `[P:A]` has this rank.
 fn named(alloc: Global, p: ProtoId, a: NameId, rank: u64) -> Result<(Word, Word), AllocError>
-    ensures left { IfOk result (λ e. e.0 ≡ (given.named p (record { proto = p; name = a }) rank).0) }
-    ensures right { IfOk result (λ e. e.1 ≡ (given.named p (record { proto = p; name = a }) rank).1) }
+    ensures left { IfOk result
+        (λ e. e.0 ≡ (given.named p (record { proto = p; name = a }) rank).0) }
+    ensures right { IfOk result
+        (λ e. e.1 ≡ (given.named p (record { proto = p; name = a }) rank).1) }
 {
     let left = word_of(alloc, &[Symbol::Proto(p.rank), Symbol::Name(a.rank)])?;
     let right = word_of(alloc, &[Symbol::Member(rank)])?;
@@ -67,7 +69,8 @@ fn add_name(
 /// More than the rank of each member name.
 fn names_end(world: &World) -> u64
     requires { AreIds world.now.lexicon }
-    ensures above { (k : ℕ) (s : ProtocolName) → slice_get world.now.lexicon.symbols k ≡ Some s → s.name.rank < result }
+    ensures above { (k : ℕ) (s : ProtocolName) → slice_get world.now.lexicon.symbols k ≡ Some s
+        → s.name.rank < result }
     ensures within { result ≤ 4294967296 }
 {
     let count = world.members();
@@ -86,9 +89,11 @@ fn add_names(
     v: &mut Vec<(Word, Word)>,
 ) -> Result<(), AllocError>
     requires ids { AreIds world.now.lexicon }
-    requires above { (k : ℕ) (s : ProtocolName) → slice_get world.now.lexicon.symbols k ≡ Some s → s.name.rank < end }
+    requires above { (k : ℕ) (s : ProtocolName)
+        → slice_get world.now.lexicon.symbols k ≡ Some s → s.name.rank < end }
     requires within { end ≤ 4294967296 }
-    ensures { OnOk result (v.new.items ≡ v.old.items ++ given.named_from p 0 (symbols_of world.now.lexicon).members) }
+    ensures { OnOk result
+        (v.new.items ≡ v.old.items ++ given.named_from p 0 (symbols_of world.now.lexicon).members) }
 {
     for rank in 0..end {
         let a = NameId { rank: rank as u32 };
@@ -106,9 +111,11 @@ fn add_protocol(
     v: &mut Vec<(Word, Word)>,
 ) -> Result<(), AllocError>
     requires ids { AreIds world.now.lexicon }
-    requires above { (k : ℕ) (s : ProtocolName) → slice_get world.now.lexicon.symbols k ≡ Some s → s.name.rank < end }
+    requires above { (k : ℕ) (s : ProtocolName)
+        → slice_get world.now.lexicon.symbols k ≡ Some s → s.name.rank < end }
     requires within { end ≤ 4294967296 }
-    ensures { OnOk result (v.new.items ≡ v.old.items ++ (given.doubled p ∷ given.named_from p 0 (symbols_of world.now.lexicon).members)) }
+    ensures { OnOk result (v.new.items ≡ v.old.items
+        ++ (given.doubled p ∷ given.named_from p 0 (symbols_of world.now.lexicon).members)) }
 {
     let e = doubled(alloc, p)?;
     v.push(e)?;
@@ -136,7 +143,8 @@ pub(crate) fn first_basic(
     enough: u32,
 ) -> Result<Vec<(Word, Word)>, AllocError>
     requires { AreIds world.now.lexicon }
-    ensures { IfOk result (λ v. IsFront v.items (given.basic_equations (symbols_of world.now.lexicon))) }
+    ensures { IfOk result
+        (λ v. IsFront v.items (given.basic_equations (symbols_of world.now.lexicon))) }
 {
     let end = names_end(world);
     let mut v = Vec::new(alloc);

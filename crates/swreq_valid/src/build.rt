@@ -52,7 +52,8 @@ fn with_usable(
 ) -> Result<Protocols, AllocError>
     requires { IsTextOver table.now world.now }
     ensures same { IfOk result (λ p. p.rounds ≡ rounds.entry) }
-    ensures usable { IfOk result (λ p. TellEach (world_by table.now world.now) (last_rules rounds.entry) p.usable
+    ensures usable { IfOk result
+        (λ p. TellEach (world_by table.now world.now) (last_rules rounds.entry) p.usable
         (length world.now.lexicon.protocols)) }
 {
     let usable = usable_lists(alloc, world, table, rounds.last())?;
@@ -67,10 +68,12 @@ fn judge_protocols(
     rounds: Rounds<'static>,
 ) -> Result<Protocols, Refused>
     requires { IsTextOver table.now world.now }
-    ensures judged { Judges (IsShownIn (world_by table.now world.now) (last_rules rounds.entry)) (protocol_sides (world_by table.now world.now))
+    ensures judged { Judges (IsShownIn (world_by table.now world.now) (last_rules rounds.entry))
+        (protocol_sides (world_by table.now world.now))
         (last_rules rounds.entry) (protocol_rules result) }
     ensures same { IfOk result (λ p. p.rounds ≡ rounds.entry) }
-    ensures usable { IfOk result (λ p. TellEach (world_by table.now world.now) (last_rules rounds.entry) p.usable
+    ensures usable { IfOk result
+        (λ p. TellEach (world_by table.now world.now) (last_rules rounds.entry) p.usable
         (length world.now.lexicon.protocols)) }
 {
     let found = first_in_protocols(alloc, world, table, rounds.last())?;
@@ -93,8 +96,10 @@ fn judge_machine<'b>(
 ) -> Result<Machine<'b>, Refused>
     requires text { IsTextOver table.now world.now }
     requires written { AreWritten table.now world.now.lexicon written.now }
-    ensures judged { (rs : List TermRequirement) → Judges (IsShownIn (world_by table.now world.now) (last_rules machine.entry.rounds))
-        (sides (WrittenList (generic_params machine.entry.params) rs) (placed table.now written.now)) (last_rules machine.entry.rounds)
+    ensures judged { (rs : List TermRequirement)
+        → Judges (IsShownIn (world_by table.now world.now) (last_rules machine.entry.rounds))
+        (sides (WrittenList (generic_params machine.entry.params) rs)
+        (placed table.now written.now)) (last_rules machine.entry.rounds)
         (built_rules result) }
     ensures same { IfOk result (λ m. m ≡ machine.entry) }
 {
@@ -121,15 +126,20 @@ impl Protocols {
     ) -> Result<Protocols, Refused>
         requires text { IsTextOver table.now world.now }
         requires limits { AreInRange limits }
-        ensures answer { Builds limits (protocols_of (world_by table.now world.now)) (facts_of (world_by table.now world.now))
+        ensures answer { Builds limits (protocols_of (world_by table.now world.now))
+            (facts_of (world_by table.now world.now))
             (protocol_sides (world_by table.now world.now))
             (W.told watch.old) (W.told watch.new) (protocol_rules result) }
-        ensures only { IsOnlyBuilt limits (protocols_of (world_by table.now world.now)) (facts_of (world_by table.now world.now))
+        ensures only { IsOnlyBuilt limits (protocols_of (world_by table.now world.now))
+            (facts_of (world_by table.now world.now))
             (protocol_sides (world_by table.now world.now))
             (protocol_rules result) }
-        ensures rounds { IfOk result (λ p. AreRounds limits (protocols_of (world_by table.now world.now)) p.rounds) }
-        ensures rules { IfOk result (λ p. AreRulesOf (world_by table.now world.now) (last_rules p.rounds)) }
-        ensures usable { IfOk result (λ p. TellUsable (world_by table.now world.now) (facts_of (world_by table.now world.now)) p.usable) }
+        ensures rounds { IfOk result
+            (λ p. AreRounds limits (protocols_of (world_by table.now world.now)) p.rounds) }
+        ensures rules { IfOk result
+            (λ p. AreRulesOf (world_by table.now world.now) (last_rules p.rounds)) }
+        ensures usable { IfOk result (λ p. TellUsable (world_by table.now world.now)
+            (facts_of (world_by table.now world.now)) p.usable) }
     {
         let rounds = complete_protocols(alloc, world, table, limits, watch)?;
         judge_protocols(alloc, world, table, rounds)
@@ -152,11 +162,15 @@ impl Protocols {
         requires text { IsTextOver table.now world.now }
         requires keep { AreFlags world.now keep.now.lists }
         requires limits { AreInRange limits }
-        ensures answer { Answers limits (kept_plan (world_by table.now world.now) keep.now.lists) (W.told watch.old) (W.told watch.new)
+        ensures answer { Answers limits (kept_plan (world_by table.now world.now) keep.now.lists)
+            (W.told watch.old) (W.told watch.new)
             (kept_answer result) }
-        ensures only { IsOnlyOutcome limits (kept_plan (world_by table.now world.now) keep.now.lists) (kept_answer result) }
-        ensures rounds { IfOk result (λ p. AreRounds limits (kept_plan (world_by table.now world.now) keep.now.lists) p.rounds) }
-        ensures rules { IfOk result (λ p. AreProtocolRules (symbols_of world.now.lexicon) (kept_facts
+        ensures only { IsOnlyOutcome limits
+            (kept_plan (world_by table.now world.now) keep.now.lists) (kept_answer result) }
+        ensures rounds { IfOk result (λ p.
+            AreRounds limits (kept_plan (world_by table.now world.now) keep.now.lists) p.rounds) }
+        ensures rules { IfOk result
+            (λ p. AreProtocolRules (symbols_of world.now.lexicon) (kept_facts
             (world_by table.now world.now) keep.now.lists) (last_rules p.rounds)) }
         ensures usable { IfOk result (λ p. TellUsable (world_by table.now world.now) (kept_facts
             (world_by table.now world.now) keep.now.lists) p.usable) }
@@ -184,18 +198,24 @@ impl<'b> Machine<'b> {
         watch: &mut W,
     ) -> Result<Machine<'b>, Refused>
         requires text { IsTextOver table.now world.now }
-        requires protocols { AreRulesOf (world_by table.now world.now) (last_rules protocols.now.rounds) }
+        requires protocols { AreRulesOf (world_by table.now world.now)
+            (last_rules protocols.now.rounds) }
         requires written { AreWritten table.now world.now.lexicon written.now }
         requires limits { AreInRange limits }
-        ensures answer { Builds limits (machine_plan table.now world.now (last_rules protocols.entry.now.rounds) params (bare written.now))
+        ensures answer { Builds limits (machine_plan table.now world.now
+            (last_rules protocols.entry.now.rounds) params (bare written.now))
             (facts_of (world_by table.now world.now))
-            (list_sides table.now params written.now) (W.told watch.old) (W.told watch.new) (built_rules result) }
-        ensures only { IsOnlyBuilt limits (machine_plan table.now world.now (last_rules protocols.entry.now.rounds) params
+            (list_sides table.now params written.now) (W.told watch.old)
+            (W.told watch.new) (built_rules result) }
+        ensures only { IsOnlyBuilt limits
+            (machine_plan table.now world.now (last_rules protocols.entry.now.rounds) params
             (bare written.now)) (facts_of (world_by table.now world.now))
             (list_sides table.now params written.now) (built_rules result) }
-        ensures rounds { IfOk result (λ m. AreRounds limits (machine_plan table.now world.now (last_rules protocols.entry.now.rounds) params
+        ensures rounds { IfOk result (λ m. AreRounds limits
+            (machine_plan table.now world.now (last_rules protocols.entry.now.rounds) params
             (bare written.now)) m.rounds) }
-        ensures machine { IfOk result (IsMachineOf (world_by table.now world.now) (listed table.now (bare written.now))) }
+        ensures machine { IfOk result
+            (IsMachineOf (world_by table.now world.now) (listed table.now (bare written.now))) }
         ensures params { IfOk result (λ m. m.params ≡ params) }
     {
         let list = bare(alloc, written)?;

@@ -66,7 +66,8 @@ fn conforms(
     requires text { IsTextOver by.now.table.now by.now.world.now }
     requires t { IsTypeIn by.now.table.now by.now.world.now.lexicon t }
     requires proto { proto.rank < length by.now.world.now.lexicon.protocols }
-    ensures { IfOk result (λ b. IsTrue b ↔ ReducesConformance by.now.world.now.lexicon by.now.rules.now by.now.over
+    ensures { IfOk result
+        (λ b. IsTrue b ↔ ReducesConformance by.now.world.now.lexicon by.now.rules.now by.now.over
         (term_at by.now.table.now t) proto) }
 {
     let requirement = Requirement::Conf { subject: t, proto };
@@ -85,7 +86,8 @@ fn has_assoc(
     requires text { IsTextOver by.now.table.now by.now.world.now }
     requires t { IsTypeIn by.now.table.now by.now.world.now.lexicon t }
     requires d { d.rank < length by.now.world.now.lexicon.associated }
-    ensures { IfOk result (λ b. IsTrue b ↔ HasStepOf by.now.world.now.lexicon by.now.rules.now by.now.over
+    ensures { IfOk result
+        (λ b. IsTrue b ↔ HasStepOf by.now.world.now.lexicon by.now.rules.now by.now.over
         (term_at by.now.table.now t) (Bound d)) }
 {
     let declared = by.world.assoc(d);
@@ -103,7 +105,8 @@ fn is_given(
     requires text { IsTextOver by.now.table.now by.now.world.now }
     requires t { IsTypeIn by.now.table.now by.now.world.now.lexicon t }
     requires d { d.rank < length by.now.world.now.lexicon.associated }
-    ensures { IfOk result (λ b. IsTrue b ↔ IsGivenOf by.now.world.now.lexicon by.now.rules.now by.now.over
+    ensures { IfOk result
+        (λ b. IsTrue b ↔ IsGivenOf by.now.world.now.lexicon by.now.rules.now by.now.over
         (term_at by.now.table.now t) a d) }
 {
     let declared = by.world.assoc(d);
@@ -130,7 +133,8 @@ fn has_name(
 ) -> Result<bool, AllocError>
     requires text { IsTextOver by.now.table.now by.now.world.now }
     requires t { IsTypeIn by.now.table.now by.now.world.now.lexicon t }
-    ensures { IfOk result (λ b. IsTrue b ↔ HasStepOf by.now.world.now.lexicon by.now.rules.now by.now.over
+    ensures { IfOk result
+        (λ b. IsTrue b ↔ HasStepOf by.now.world.now.lexicon by.now.rules.now by.now.over
         (term_at by.now.table.now t) (Name a)) }
 {
     for rank in 0..associated(by.world) {
@@ -151,7 +155,8 @@ fn has_step(
     requires text { IsTextOver by.now.table.now by.now.world.now }
     requires t { IsTypeIn by.now.table.now by.now.world.now.lexicon t }
     requires step { IsStepOf by.now.world.now.lexicon step }
-    ensures { IfOk result (λ b. IsTrue b ↔ HasStepOf by.now.world.now.lexicon by.now.rules.now by.now.over
+    ensures { IfOk result
+        (λ b. IsTrue b ↔ HasStepOf by.now.world.now.lexicon by.now.rules.now by.now.over
         (term_at by.now.table.now t) step) }
 {
     match step {
@@ -164,7 +169,8 @@ fn has_step(
 fn is_valid(alloc: Global, by: &ByReduction<'_, '_>, t: TermId) -> Result<bool, AllocError>
     requires text { IsTextOver by.now.table.now by.now.world.now }
     requires t { IsTypeIn by.now.table.now by.now.world.now.lexicon t }
-    ensures { IfOk result (λ b. IsTrue b ↔ ReducesValid (world_by by.now.table.now by.now.world.now) by.now.rules.now by.now.over
+    ensures { IfOk result (λ b. IsTrue b
+        ↔ ReducesValid (world_by by.now.table.now by.now.world.now) by.now.rules.now by.now.over
         (term_at by.now.table.now t)) }
 {
     match by.table.split(t) {
@@ -187,7 +193,8 @@ pub(crate) fn is_usable(
 ) -> Result<bool, AllocError>
     requires text { IsTextOver by.now.table.now by.now.world.now }
     requires want { IsRequirementIn by.now.table.now by.now.world.now.lexicon r }
-    ensures { IfOk result (λ b. IsTrue b ↔ ReducesUsable (world_by by.now.table.now by.now.world.now) by.now.rules.now by.now.over
+    ensures { IfOk result (λ b. IsTrue b
+        ↔ ReducesUsable (world_by by.now.table.now by.now.world.now) by.now.rules.now by.now.over
         (requirement_of by.now.table.now r)) }
 {
     match r {

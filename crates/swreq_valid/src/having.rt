@@ -56,9 +56,12 @@ impl Machine<'_> {
         requires property { IsProperty map.now.protocols x }
         requires room { 4 * (member_count (term_at text.now.table.now t) + 2) ≤ scratch.old.room }
         ensures answer { MatchOption result
-            (IsShownBy (world_by text.now.table.now text.now.world.now) self.now (term_at text.now.table.now t) → ⊥)
-            (λ b. IsShownBy (world_by text.now.table.now text.now.world.now) self.now (term_at text.now.table.now t)
-            × (IsTrue b ↔ IsBehind (world_by text.now.table.now text.now.world.now) self.now (term_at text.now.table.now t) x)) }
+            (IsShownBy (world_by text.now.table.now text.now.world.now) self.now
+            (term_at text.now.table.now t) → ⊥)
+            (λ b. IsShownBy (world_by text.now.table.now text.now.world.now) self.now
+            (term_at text.now.table.now t)
+            × (IsTrue b ↔ IsBehind (world_by text.now.table.now text.now.world.now) self.now
+            (term_at text.now.table.now t) x)) }
         ensures room { scratch.new.room ≡ scratch.old.room }
     {
         if self.walk(
@@ -88,8 +91,10 @@ impl Machine<'_> {
         requires map { IsMapOf (last_rules self.now.rounds) map.now }
         requires property { IsBelow map.now.protocols property }
         requires room { 4 * (member_count (term_at text.now.table.now t) + 2) ≤ scratch.old.room }
-        ensures answer { (list : List TermRequirement) → IsMachineOf (world_by text.now.table.now text.now.world.now) list self.now
-            → TellsIfHas (IsDerivable (world_by text.now.table.now text.now.world.now) self.now list) (term_at text.now.table.now t) property result }
+        ensures answer { (list : List TermRequirement)
+            → IsMachineOf (world_by text.now.table.now text.now.world.now) list self.now
+            → TellsIfHas (IsDerivable (world_by text.now.table.now text.now.world.now) self.now
+            list) (term_at text.now.table.now t) property result }
         ensures room { scratch.new.room ≡ scratch.old.room }
     {
         self.vanishing(text, map, t, property.symbol(), scratch)

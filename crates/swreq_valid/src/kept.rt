@@ -42,7 +42,8 @@ fn add_kept(
     v: &mut Vec<RoundRequirement>,
 ) -> Result<(), AllocError>
     requires { length flags.now ≡ length list.now }
-    ensures { OnOk result (v.new.items ≡ v.old.items ++ map (in_protocol p) (chosen list.now flags.now)) }
+    ensures { OnOk result
+        (v.new.items ≡ v.old.items ++ map (in_protocol p) (chosen list.now flags.now)) }
 {
     for k in 0..list.len() {
         let requirement = list[k];
@@ -58,7 +59,8 @@ fn add_one(
     kept: bool,
     v: &mut Vec<RoundRequirement>,
 ) -> Result<(), AllocError>
-    ensures { OnOk result (v.new.items ≡ v.old.items ++ (if kept then in_protocol p requirement ∷ [] else [])) }
+    ensures { OnOk result
+        (v.new.items ≡ v.old.items ++ (if kept then in_protocol p requirement ∷ [] else [])) }
 {
     if kept {
         v.push(RoundRequirement {
@@ -77,7 +79,8 @@ fn kept_requirements(
 ) -> Result<Vec<RoundRequirement>, AllocError>
     requires ids { AreIds world.now.lexicon }
     requires keep { AreFlags world.now keep.now.lists }
-    ensures { IfOk result (λ v. v.items ≡ kept_in world.now world.now.lexicon.written_order keep.now.lists) }
+    ensures { IfOk result
+        (λ v. v.items ≡ kept_in world.now world.now.lexicon.written_order keep.now.lists) }
 {
     let mut v = Vec::new(alloc);
     let lists = keep.lists.items();
@@ -102,11 +105,15 @@ fn run_kept<W: Watch>(
     requires text { IsTextOver table.now world.now }
     requires keep { AreFlags world.now keep.now.lists }
     requires limits { AreInRange limits }
-    ensures answer { Answers limits (kept_plan (world_by table.now world.now) keep.now.lists) (W.told watch.old) (W.told watch.new)
+    ensures answer { Answers limits (kept_plan (world_by table.now world.now) keep.now.lists)
+        (W.told watch.old) (W.told watch.new)
         (rules_of result) }
-    ensures only { IsOnlyOutcome limits (kept_plan (world_by table.now world.now) keep.now.lists) (rules_of result) }
-    ensures rounds { IfOk result (AreRounds limits (kept_plan (world_by table.now world.now) keep.now.lists)) }
-    ensures rules { IfOk result (λ rounds. AreProtocolRules (symbols_of world.now.lexicon) (kept_facts
+    ensures only { IsOnlyOutcome limits
+        (kept_plan (world_by table.now world.now) keep.now.lists) (rules_of result) }
+    ensures rounds { IfOk result
+        (AreRounds limits (kept_plan (world_by table.now world.now) keep.now.lists)) }
+    ensures rules { IfOk result
+        (λ rounds. AreProtocolRules (symbols_of world.now.lexicon) (kept_facts
         (world_by table.now world.now) keep.now.lists) (last_rules rounds)) }
 {
     let basic = basic(alloc, world)?;
@@ -127,11 +134,15 @@ pub(crate) fn complete_kept<W: Watch>(
     requires text { IsTextOver table.now world.now }
     requires keep { AreFlags world.now keep.now.lists }
     requires limits { AreInRange limits }
-    ensures answer { Answers limits (kept_plan (world_by table.now world.now) keep.now.lists) (W.told watch.old) (W.told watch.new)
+    ensures answer { Answers limits (kept_plan (world_by table.now world.now) keep.now.lists)
+        (W.told watch.old) (W.told watch.new)
         (rules_of result) }
-    ensures only { IsOnlyOutcome limits (kept_plan (world_by table.now world.now) keep.now.lists) (rules_of result) }
-    ensures rounds { IfOk result (AreRounds limits (kept_plan (world_by table.now world.now) keep.now.lists)) }
-    ensures rules { IfOk result (λ rounds. AreProtocolRules (symbols_of world.now.lexicon) (kept_facts
+    ensures only { IsOnlyOutcome limits
+        (kept_plan (world_by table.now world.now) keep.now.lists) (rules_of result) }
+    ensures rounds { IfOk result
+        (AreRounds limits (kept_plan (world_by table.now world.now) keep.now.lists)) }
+    ensures rules { IfOk result
+        (λ rounds. AreProtocolRules (symbols_of world.now.lexicon) (kept_facts
         (world_by table.now world.now) keep.now.lists) (last_rules rounds)) }
 {
     match limit_of_basic(alloc, world, limits, watch) {
@@ -150,7 +161,8 @@ fn usable_of(
 ) -> Result<Vec<bool>, AllocError>
     requires text { IsTextOver table.now world.now }
     requires p { p.rank < length world.now.lexicon.protocols }
-    ensures { IfOk result (λ v. Tells (IsUsableBy (world_by table.now world.now) rules.now p) ((facts_of
+    ensures { IfOk result
+        (λ v. Tells (IsUsableBy (world_by table.now world.now) rules.now p) ((facts_of
         (world_by table.now world.now)).of_protocol p) v.items) }
 {
     let mut flags = Vec::new(alloc);
@@ -171,7 +183,8 @@ pub(crate) fn usable_lists(
     rules: &CompleteRules<'_>,
 ) -> Result<Vec<Seq<bool>>, AllocError>
     requires { IsTextOver table.now world.now }
-    ensures { IfOk result (λ v. TellEach (world_by table.now world.now) rules.now v.items (length world.now.lexicon.protocols)) }
+    ensures { IfOk result (λ v. TellEach (world_by table.now world.now) rules.now v.items
+        (length world.now.lexicon.protocols)) }
 {
     let mut lists: Vec<Seq<bool>> = Vec::new(alloc);
     for rank in 0..world.protocols() {

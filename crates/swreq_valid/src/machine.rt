@@ -100,16 +100,20 @@ pub fn core<'b, W: Watch>(
     watch: &mut W,
 ) -> Result<Machine<'b>, Failed>
     requires text { IsTextOver table.now world.now }
-    requires protocols { AreRulesOf (world_by table.now world.now) (last_rules protocols.now.rounds) }
+    requires protocols { AreRulesOf (world_by table.now world.now)
+        (last_rules protocols.now.rounds) }
     requires list { AreKnown table.now world.now.lexicon list.now }
     requires limits { AreInRange limits }
-    ensures answer { Answers limits (machine_plan table.now world.now (last_rules protocols.entry.now.rounds) params list.now)
+    ensures answer { Answers limits
+        (machine_plan table.now world.now (last_rules protocols.entry.now.rounds) params list.now)
         (W.told watch.old) (W.told watch.new) (machine_rules result) }
-    ensures only { IsOnlyOutcome limits (machine_plan table.now world.now (last_rules protocols.entry.now.rounds) params list.now)
+    ensures only { IsOnlyOutcome limits
+        (machine_plan table.now world.now (last_rules protocols.entry.now.rounds) params list.now)
         (machine_rules result) }
     ensures rounds { IfOk result (λ m. AreRounds limits (machine_plan table.now world.now
         (last_rules protocols.entry.now.rounds) params list.now) m.rounds) }
-    ensures machine { IfOk result (IsMachineOf (world_by table.now world.now) (listed table.now list.now)) }
+    ensures machine { IfOk result
+        (IsMachineOf (world_by table.now world.now) (listed table.now list.now)) }
     ensures params { IfOk result (λ m. m.params ≡ params) }
 {
     let all = in_signature(alloc, params, list)?;

@@ -36,14 +36,18 @@ impl<'b> Machine<'b> {
         requires f { f.place < length text.now.world.now.signatures }
         requires limits { AreInRange limits }
         ensures answer { Builds limits
-            (signature_plan (world_of text.now) (last_rules protocols.entry.now.rounds) (signature_at (world_of text.now) f))
+            (signature_plan (world_of text.now) (last_rules protocols.entry.now.rounds)
+            (signature_at (world_of text.now) f))
             (facts_of (world_of text.now)) (signature_sides (signature_at (world_of text.now) f))
             (W.told watch.old) (W.told watch.new) (built_rules result) }
         ensures only { IsOnlyBuilt limits
-            (signature_plan (world_of text.now) (last_rules protocols.entry.now.rounds) (signature_at (world_of text.now) f))
-            (facts_of (world_of text.now)) (signature_sides (signature_at (world_of text.now) f)) (built_rules result) }
+            (signature_plan (world_of text.now) (last_rules protocols.entry.now.rounds)
+            (signature_at (world_of text.now) f))
+            (facts_of (world_of text.now))
+            (signature_sides (signature_at (world_of text.now) f)) (built_rules result) }
         ensures rounds { IfOk result (λ m. AreRounds limits
-            (signature_plan (world_of text.now) (last_rules protocols.entry.now.rounds) (signature_at (world_of text.now) f)) m.rounds) }
+            (signature_plan (world_of text.now) (last_rules protocols.entry.now.rounds)
+            (signature_at (world_of text.now) f)) m.rounds) }
         ensures machine { IfOk result (IsMachineOf (world_of text.now)
             (written_list (signature_at (world_of text.now) f))) }
         ensures params { IfOk result (λ m. m.params ≡ (signature_at (world_of text.now) f).params) }

@@ -62,7 +62,8 @@ impl Protocols {
     /// requirements of which the rules were made. It is false where there is no such requirement.
     pub fn usable(&self, p: ProtoId, n: u32) -> bool
         ensures flag { result ≡ flag_at self.now.usable p n }
-        ensures usable { (w : TextWorld) (f : TermFacts) (r : TermRequirement) → TellUsable w f self.now.usable → HasNumber w p n r
+        ensures usable { (w : TextWorld) (f : TermFacts) (r : TermRequirement)
+            → TellUsable w f self.now.usable → HasNumber w p n r
             → IsTrue result ↔ HasValidSides f (SelfOf p) r }
     {
         match self.usable.items().get(p.rank as usize) {
@@ -109,10 +110,13 @@ fn run_protocols<W: Watch>(
 ) -> Result<Rounds<'static>, Failed>
     requires text { IsTextOver table.now world.now }
     requires limits { AreInRange limits }
-    ensures answer { Answers limits (protocols_of (world_by table.now world.now)) (W.told watch.old) (W.told watch.new) (rules_of result) }
-    ensures only { IsOnlyOutcome limits (protocols_of (world_by table.now world.now)) (rules_of result) }
+    ensures answer { Answers limits (protocols_of (world_by table.now world.now)) (W.told watch.old)
+        (W.told watch.new) (rules_of result) }
+    ensures only { IsOnlyOutcome limits
+        (protocols_of (world_by table.now world.now)) (rules_of result) }
     ensures rounds { IfOk result (AreRounds limits (protocols_of (world_by table.now world.now))) }
-    ensures rules { IfOk result (λ rounds. AreRulesOf (world_by table.now world.now) (last_rules rounds)) }
+    ensures rules { IfOk result
+        (λ rounds. AreRulesOf (world_by table.now world.now) (last_rules rounds)) }
 {
     let basic = basic(alloc, world)?;
     let all = requirements(alloc, world)?;
@@ -130,10 +134,13 @@ pub(crate) fn complete_protocols<W: Watch>(
 ) -> Result<Rounds<'static>, Failed>
     requires text { IsTextOver table.now world.now }
     requires limits { AreInRange limits }
-    ensures answer { Answers limits (protocols_of (world_by table.now world.now)) (W.told watch.old) (W.told watch.new) (rules_of result) }
-    ensures only { IsOnlyOutcome limits (protocols_of (world_by table.now world.now)) (rules_of result) }
+    ensures answer { Answers limits (protocols_of (world_by table.now world.now)) (W.told watch.old)
+        (W.told watch.new) (rules_of result) }
+    ensures only { IsOnlyOutcome limits
+        (protocols_of (world_by table.now world.now)) (rules_of result) }
     ensures rounds { IfOk result (AreRounds limits (protocols_of (world_by table.now world.now))) }
-    ensures rules { IfOk result (λ rounds. AreRulesOf (world_by table.now world.now) (last_rules rounds)) }
+    ensures rules { IfOk result
+        (λ rounds. AreRulesOf (world_by table.now world.now) (last_rules rounds)) }
 {
     match limit_of_basic(alloc, world, limits, watch) {
         Some(failed) => Err(failed),

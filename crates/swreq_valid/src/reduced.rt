@@ -31,7 +31,8 @@ use swreq_world::World;
 fn member_name(world: &World, x: Symbol) -> Option<NameId>
     ensures { MatchOption result
         ((k : ℕ) → x ≡ MemberSymbol k → IsRank (symbols_of world.now.lexicon) k → ⊥)
-        (λ a. (k : ℕ) × (x ≡ MemberSymbol k) × IsRank (symbols_of world.now.lexicon) k × (name_of (symbols_of world.now.lexicon) k ≡ a)) }
+        (λ a. (k : ℕ) × (x ≡ MemberSymbol k) × IsRank (symbols_of world.now.lexicon) k
+        × (name_of (symbols_of world.now.lexicon) k ≡ a)) }
 {
     match x {
         Symbol::Member(rank) => name_at(world, rank),
@@ -60,8 +61,10 @@ fn add_step(
     requires least { IsLeastBy rules.now before.now }
     requires fits { length before.now + 1 ≤ vec_capacity test.old }
     requires fits_step { vec_len steps.old < vec_capacity steps.old }
-    ensures step { (k : ℕ) (d : AssocId) → x ≡ MemberSymbol k → IsRank (symbols_of world.now.lexicon) k
-        → IsFirstBehind world.now.lexicon rules.now before.now (name_of (symbols_of world.now.lexicon) k) d → steps.new.items
+    ensures step { (k : ℕ) (d : AssocId) → x ≡ MemberSymbol k
+        → IsRank (symbols_of world.now.lexicon) k
+        → IsFirstBehind world.now.lexicon rules.now before.now
+        (name_of (symbols_of world.now.lexicon) k) d → steps.new.items
         ≡ steps.old.items ++ Bound d ∷ [] }
     ensures few { vec_len steps.new ≤ vec_len steps.old + 1 }
     ensures room { vec_capacity steps.old ≤ vec_capacity steps.new }
@@ -85,7 +88,8 @@ fn add_first(
     requires least { IsLeastBy rules.now before.now }
     requires fits { length before.now + 1 ≤ vec_capacity test.old }
     requires fits_step { vec_len steps.old < vec_capacity steps.old }
-    ensures step { (d : AssocId) → IsFirstBehind world.now.lexicon rules.now before.now name d → steps.new.items
+    ensures step { (d : AssocId)
+        → IsFirstBehind world.now.lexicon rules.now before.now name d → steps.new.items
         ≡ steps.old.items ++ Bound d ∷ [] }
     ensures few { vec_len steps.new ≤ vec_len steps.old + 1 }
     ensures room { vec_capacity steps.old ≤ vec_capacity steps.new }
@@ -108,7 +112,8 @@ fn read_steps(
     requires least { IsLeastBy rules.now word.now }
     requires fits { length word.now ≤ vec_capacity test.old }
     requires fits_steps { length word.now ≤ vec_capacity steps.old }
-    ensures steps { (r : Term) → BeginsBy world.now.lexicon rules.now r [] word.now → with_steps (Generic (head r)) steps.new.items ≡ r }
+    ensures steps { (r : Term) → BeginsBy world.now.lexicon rules.now r [] word.now
+        → with_steps (Generic (head r)) steps.new.items ≡ r }
     ensures room { vec_capacity steps.old ≤ vec_capacity steps.new }
     ensures room_test { vec_capacity test.old ≤ vec_capacity test.new }
 {
@@ -121,7 +126,8 @@ fn read_steps(
 
 /// The generic parameter with which a word begins.
 fn head_of(word: &[Symbol]) -> ParamId
-    ensures { (d i : ℕ) (rest : List Symbol) → word.now ≡ Param d i ∷ rest → result ≡ record { depth = d; index = i } }
+    ensures { (d i : ℕ) (rest : List Symbol) → word.now ≡ Param d i ∷ rest
+        → result ≡ record { depth = d; index = i } }
 {
     match word.first() {
         Some(Symbol::Param(depth, index)) => ParamId {
@@ -138,15 +144,19 @@ impl Machine<'_> {
         requires text { BelongTogether text.now }
         requires t { IsTypeIn text.now.table.now text.now.world.now.lexicon t }
         requires room { 4 * (member_count (term_at text.now.table.now t) + 2) ≤ scratch.old.room }
-        ensures valid { (list : List TermRequirement) → IsMachineOf (world_of text.now) list self.now
-            → IsTrue result ↔ IsDerivable (world_of text.now) self.now list (IsValid (term_at text.now.table.now t)) }
-        ensures reduced { (list : List TermRequirement) → IsMachineOf (world_of text.now) list self.now
+        ensures valid { (list : List TermRequirement)
+            → IsMachineOf (world_of text.now) list self.now
+            → IsTrue result ↔ IsDerivable (world_of text.now) self.now list
+            (IsValid (term_at text.now.table.now t)) }
+        ensures reduced { (list : List TermRequirement)
+            → IsMachineOf (world_of text.now) list self.now
             → IsDerivable (world_of text.now) self.now list (IsValid (term_at text.now.table.now t))
             → IsReducedIn (world_of text.now) self.now list (term_at text.now.table.now t)
             (with_steps (Generic scratch.new.head) scratch.new.steps) }
         ensures word { (list : List TermRequirement) → IsMachineOf (world_of text.now) list self.now
             → IsDerivable (world_of text.now) self.now list (IsValid (term_at text.now.table.now t))
-            → IsLeastOf (world_of text.now) self.now list (term_at text.now.table.now t) scratch.new.word }
+            → IsLeastOf (world_of text.now) self.now list
+            (term_at text.now.table.now t) scratch.new.word }
         ensures room { scratch.new.room ≡ scratch.old.room }
     {
         let rules = self.rules();
@@ -176,12 +186,18 @@ impl Machine<'_> {
         requires text { IsTextOver table.now world.now }
         requires t { IsTypeIn table.now world.now.lexicon t }
         requires room { 4 * (member_count (term_at table.now t) + 2) ≤ scratch.old.room }
-        ensures reduced { (list : List TermRequirement) → IsMachineOf (world_by table.now world.now) list self.now
-            → IsDerivable (world_by table.now world.now) self.now list (IsValid (term_at table.now t))
-            → IsReducedIn (world_by table.now world.now) self.now list (term_at table.now t) (with_steps (Generic scratch.new.head) scratch.new.steps) }
-        ensures word { (list : List TermRequirement) → IsMachineOf (world_by table.now world.now) list self.now
-            → IsDerivable (world_by table.now world.now) self.now list (IsValid (term_at table.now t))
-            → IsLeastOf (world_by table.now world.now) self.now list (term_at table.now t) scratch.new.word }
+        ensures reduced { (list : List TermRequirement)
+            → IsMachineOf (world_by table.now world.now) list self.now
+            → IsDerivable (world_by table.now world.now) self.now list
+            (IsValid (term_at table.now t))
+            → IsReducedIn (world_by table.now world.now) self.now list (term_at table.now t)
+            (with_steps (Generic scratch.new.head) scratch.new.steps) }
+        ensures word { (list : List TermRequirement)
+            → IsMachineOf (world_by table.now world.now) list self.now
+            → IsDerivable (world_by table.now world.now) self.now list
+            (IsValid (term_at table.now t))
+            → IsLeastOf (world_by table.now world.now) self.now list
+            (term_at table.now t) scratch.new.word }
         ensures room { scratch.new.room ≡ scratch.old.room }
     {
         let text = Text { world, table };

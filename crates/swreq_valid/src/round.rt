@@ -138,7 +138,8 @@ impl<'b> Rounds<'b> {
 
     /// The rounds before the last.
     pub(crate) fn before(&self) -> &[Round<'b>]
-        ensures { (used : List Bool) × (self.now ≡ result.now ++ ended_round used (last_rules self.now) ∷ []) }
+        ensures { (used : List Bool)
+            × (self.now ≡ result.now ++ ended_round used (last_rules self.now) ∷ []) }
     {
         self.before.items()
     }
@@ -166,7 +167,8 @@ impl<'b> Rounds<'b> {
     /// round.
     pub fn written_out(&self, alloc: Global, k: usize) -> Result<Vec<Rule>, AllocError>
         requires { k < length self.now }
-        ensures items { (r : RoundView) → slice_get self.now k ≡ Some r → IfOk result (λ v. v.items ≡ r.rules) }
+        ensures items { (r : RoundView) → slice_get self.now k ≡ Some r
+            → IfOk result (λ v. v.items ≡ r.rules) }
         ensures few { IfOk result (λ v. length v.items < 2 ^ 32 - 1) }
     {
         match self.before.items().get(k) {

@@ -61,7 +61,8 @@ fn join(
     requires text { IsTextOver table.now world.now }
     requires want { IsRequirementIn table.now world.now.lexicon want.now.requirement }
     ensures { OnOk result ((rs : List TermRequirement) → v.new.items
-        ≡ v.old.items ++ (if used then equation_of (symbols_of world.now.lexicon) (item_of table.now rs want.now) ∷ [] else [])) }
+        ≡ v.old.items ++ (if used then equation_of (symbols_of world.now.lexicon)
+        (item_of table.now rs want.now) ∷ [] else [])) }
 {
     if used {
         let e = equation(alloc, world, table, want.over.owner(), &want.requirement)?;
@@ -81,7 +82,8 @@ fn given_by(
     requires text { IsTextOver table.now world.now }
     requires wanted { AreWanted table.now world.now.lexicon start.now.all.items }
     requires flags { length used.now ≡ vec_len start.now.all }
-    ensures { (base : List Rule) → IfOk result (λ v. v.items ≡ given (plan_of world.now table.now base start.now) (chosen
+    ensures { (base : List Rule)
+        → IfOk result (λ v. v.items ≡ given (plan_of world.now table.now base start.now) (chosen
         (items_of table.now start.now.all.items) used.now)) }
 {
     let mut v = copies(alloc, &start.basic)?;
@@ -118,9 +120,11 @@ fn complete<'b, W: Watch>(
     requires limits { AreInRange start.now.limits }
     requires wanted { AreWanted text.now.table.now text.now.world.now.lexicon start.now.all.items }
     requires flags { length used.now ≡ vec_len start.now.all }
-    ensures answer { IsAnswer start.now.limits (first_rules below.entry) (given (plan_of text.now.world.now text.now.table.now (first_rules below.entry) start.now)
+    ensures answer { IsAnswer start.now.limits (first_rules below.entry)
+        (given (plan_of text.now.world.now text.now.table.now (first_rules below.entry) start.now)
         (chosen (items_of text.now.table.now start.now.all.items) used.now)) result }
-    ensures told { TellsEvents start.now.limits (first_rules below.entry) (given (plan_of text.now.world.now text.now.table.now (first_rules below.entry) start.now)
+    ensures told { TellsEvents start.now.limits (first_rules below.entry)
+        (given (plan_of text.now.world.now text.now.table.now (first_rules below.entry) start.now)
         (chosen (items_of text.now.table.now start.now.all.items) used.now))
         (W.told watch.old) (W.told watch.new) result }
 {
@@ -164,10 +168,12 @@ fn next_used(
     requires text { IsTextOver table.now world.now }
     requires wanted { AreWanted table.now world.now.lexicon start.now.all.items }
     requires flags { length used.now ≡ vec_len start.now.all }
-    requires shown { (x : Item) → Contains (chosen (items_of table.now start.now.all.items) used.now) x → AreShown
+    requires shown { (x : Item)
+        → Contains (chosen (items_of table.now start.now.all.items) used.now) x → AreShown
         (plan_of world.now table.now [] start.now) rules.now x }
     ensures { IfOk result (λ next. MatchOption next
-        (Tells (AreShown (plan_of world.now table.now [] start.now) rules.now) (items_of table.now start.now.all.items) used.now)
+        (Tells (AreShown (plan_of world.now table.now [] start.now) rules.now)
+        (items_of table.now start.now.all.items) used.now)
         (λ flags. Tells (AreShown (plan_of world.now table.now [] start.now) rules.now)
         (items_of table.now start.now.all.items) flags.items × (flags.items ≡ used.now → ⊥))) }
 {
@@ -191,7 +197,8 @@ fn shown_by_reduction(
 ) -> Result<Vec<bool>, AllocError>
     requires text { IsTextOver text.now.table.now text.now.world.now }
     requires wanted { AreWanted text.now.table.now text.now.world.now.lexicon start.now.all.items }
-    ensures { (base : List Rule) → IfOk result (λ v. Tells (AreShownByReduction (plan_of text.now.world.now text.now.table.now base start.now) rules.now)
+    ensures { (base : List Rule) → IfOk result (λ v. Tells (AreShownByReduction
+        (plan_of text.now.world.now text.now.table.now base start.now) rules.now)
         (items_of text.now.table.now start.now.all.items) v.items) }
 {
     let mut flags = Vec::new(alloc);
@@ -241,10 +248,12 @@ fn joined_by<'b>(
     requires wanted { AreWanted text.now.table.now text.now.world.now.lexicon start.now.all.items }
     requires flags { length used.now ≡ vec_len start.now.all }
     ensures { (base : List Rule) → IfOk result (λ o. MatchOption o
-        (TellsMore (AreShownByReduction (plan_of text.now.world.now text.now.table.now base start.now) rules.entry)
+        (TellsMore (AreShownByReduction (plan_of text.now.world.now text.now.table.now
+        base start.now) rules.entry)
         (items_of text.now.table.now start.now.all.items) used.now used.now)
         (λ j. (j.rules ≡ rules.entry) × (j.more.items ≡ used.now → ⊥)
-        × TellsMore (AreShownByReduction (plan_of text.now.world.now text.now.table.now base start.now) rules.entry)
+        × TellsMore (AreShownByReduction (plan_of text.now.world.now text.now.table.now
+        base start.now) rules.entry)
         (items_of text.now.table.now start.now.all.items) used.now j.more.items)) }
 {
     let shown = shown_by_reduction(alloc, text, start, &rules)?;
@@ -270,9 +279,11 @@ fn joined<'b>(
     requires wanted { AreWanted text.now.table.now text.now.world.now.lexicon start.now.all.items }
     requires flags { AreByItem (items_of text.now.table.now start.now.all.items) used.now }
     ensures { IfOk result (λ o. MatchOption o
-        (IsClosed start.now.limits (plan_of text.now.world.now text.now.table.now (first_rules below.entry) start.now)
+        (IsClosed start.now.limits
+        (plan_of text.now.world.now text.now.table.now (first_rules below.entry) start.now)
         (chosen (items_of text.now.table.now start.now.all.items) used.now))
-        (λ j. AreJoined start.now.limits (plan_of text.now.world.now text.now.table.now (first_rules below.entry) start.now) used.now j.rules j.more.items)) }
+        (λ j. AreJoined start.now.limits (plan_of text.now.world.now text.now.table.now
+        (first_rules below.entry) start.now) used.now j.rules j.more.items)) }
 {
     let equations = given_by(alloc, text.world, text.table, start, used)?;
     let first = first_rules(alloc, below)?;
@@ -305,13 +316,17 @@ fn after_end<'b>(
     requires text { IsTextOver text.now.table.now text.now.world.now }
     requires wanted { AreWanted text.now.table.now text.now.world.now.lexicon start.now.all.items }
     requires flags { AreByItem (items_of text.now.table.now start.now.all.items) state.used.items }
-    requires shown { (x : Item) → Contains (chosen (items_of text.now.table.now start.now.all.items) state.used.items) x → AreShown
+    requires shown { (x : Item) → Contains (chosen (items_of text.now.table.now start.now.all.items)
+        state.used.items) x → AreShown
         (plan_of text.now.world.now text.now.table.now [] start.now) rules x }
     ensures { (base : List Rule)
-        → IsDueNow start.now.limits (plan_of text.now.world.now text.now.table.now base start.now) state.entry
+        → IsDueNow start.now.limits
+        (plan_of text.now.world.now text.now.table.now base start.now) state.entry
         → Ends start.now.limits (plan_of text.now.world.now text.now.table.now base start.now)
-        (used_by start.now.limits (plan_of text.now.world.now text.now.table.now base start.now) state.entry) rules.entry
-        → IfOk result (TurnsTo start.now.limits (plan_of text.now.world.now text.now.table.now base start.now) state.entry
+        (used_by start.now.limits
+        (plan_of text.now.world.now text.now.table.now base start.now) state.entry) rules.entry
+        → IfOk result (TurnsTo start.now.limits
+        (plan_of text.now.world.now text.now.table.now base start.now) state.entry
         (events (length base) rules.entry)) }
 {
     let next = next_used(alloc, text.world, text.table, start, &state.used, &rules)?;
@@ -346,7 +361,8 @@ fn anew<'b>(
     found: Joined<'b>,
     passed: Passed,
 ) -> Result<Turn<'b>, AllocError>
-    ensures { (limits : Limits) (plan : Plan) → state.entry.first ≡ None → AreByItem plan.all state.entry.used.items
+    ensures { (limits : Limits) (plan : Plan) → state.entry.first ≡ None
+        → AreByItem plan.all state.entry.used.items
         → Stops limits plan (used_by limits plan state.entry) passed.which passed.trace
         → AreJoined limits plan state.entry.used.items found.entry.rules found.entry.more.items
         → IfOk result (TurnsTo limits plan state.entry (events (length plan.base) passed.trace)) }
@@ -362,7 +378,8 @@ fn anew<'b>(
 
 /// The next round after a short one by which others join.
 fn once_more<'b>(state: Underway<'b>, found: Joined<'b>) -> Result<Turn<'b>, AllocError>
-    ensures { (limits : Limits) (plan : Plan) (passed : PassedLimit) → first_of state.entry.first ≡ Some passed
+    ensures { (limits : Limits) (plan : Plan) (passed : PassedLimit)
+        → first_of state.entry.first ≡ Some passed
         → AreByItem plan.all state.entry.used.items
         → AreJoined limits plan state.entry.used.items found.entry.rules found.entry.more.items
         → IfOk result (TurnsTo limits plan state.entry []) }
@@ -389,12 +406,16 @@ fn after_first_limit<'b>(
     requires wanted { AreWanted text.now.table.now text.now.world.now.lexicon start.now.all.items }
     requires flags { AreByItem (items_of text.now.table.now start.now.all.items) state.used.items }
     requires first { state.first ≡ None }
-    requires stops { Stops start.now.limits (plan_of text.now.world.now text.now.table.now (first_rules below) start.now)
-        (chosen (items_of text.now.table.now start.now.all.items) state.used.items) passed.which passed.trace }
+    requires stops { Stops start.now.limits
+        (plan_of text.now.world.now text.now.table.now (first_rules below) start.now)
+        (chosen (items_of text.now.table.now start.now.all.items) state.used.items)
+        passed.which passed.trace }
     ensures { MatchResult result
-        (TurnsTo start.now.limits (plan_of text.now.world.now text.now.table.now (first_rules below.entry) start.now) state.entry
+        (TurnsTo start.now.limits (plan_of text.now.world.now text.now.table.now
+        (first_rules below.entry) start.now) state.entry
         (events (length (first_rules below.entry)) passed.trace))
-        (FailsWith start.now.limits (plan_of text.now.world.now text.now.table.now (first_rules below.entry) start.now) state.entry
+        (FailsWith start.now.limits (plan_of text.now.world.now text.now.table.now
+        (first_rules below.entry) start.now) state.entry
         (events (length (first_rules below.entry)) passed.trace)) }
 {
     match joined(alloc, text, below, start, &state.used)? {
@@ -436,13 +457,18 @@ fn after_limit<'b>(
     requires limits { AreInRange start.now.limits }
     requires wanted { AreWanted text.now.table.now text.now.world.now.lexicon start.now.all.items }
     requires flags { AreByItem (items_of text.now.table.now start.now.all.items) state.used.items }
-    requires due { IsDueNow start.now.limits (plan_of text.now.world.now text.now.table.now (first_rules below) start.now) state }
-    requires stops { Stops start.now.limits (plan_of text.now.world.now text.now.table.now (first_rules below) start.now)
-        (chosen (items_of text.now.table.now start.now.all.items) state.used.items) passed.which passed.trace }
+    requires due { IsDueNow start.now.limits
+        (plan_of text.now.world.now text.now.table.now (first_rules below) start.now) state }
+    requires stops { Stops start.now.limits
+        (plan_of text.now.world.now text.now.table.now (first_rules below) start.now)
+        (chosen (items_of text.now.table.now start.now.all.items) state.used.items)
+        passed.which passed.trace }
     ensures { MatchResult result
-        (TurnsTo start.now.limits (plan_of text.now.world.now text.now.table.now (first_rules below.entry) start.now) state.entry
+        (TurnsTo start.now.limits (plan_of text.now.world.now text.now.table.now
+        (first_rules below.entry) start.now) state.entry
         (events (length (first_rules below.entry)) passed.trace))
-        (FailsWith start.now.limits (plan_of text.now.world.now text.now.table.now (first_rules below.entry) start.now) state.entry
+        (FailsWith start.now.limits (plan_of text.now.world.now text.now.table.now
+        (first_rules below.entry) start.now) state.entry
         (events (length (first_rules below.entry)) passed.trace)) }
 {
     if state.first.is_none() {
@@ -464,9 +490,12 @@ fn completed<'b, W: Watch>(
     requires limits { AreInRange start.now.limits }
     requires wanted { AreWanted text.now.table.now text.now.world.now.lexicon start.now.all.items }
     requires underway { (told : List Event)
-        × IsUnderway start.now.limits (plan_of text.now.world.now text.now.table.now (first_rules below) start.now) state told }
-    requires due { IsDueNow start.now.limits (plan_of text.now.world.now text.now.table.now (first_rules below) start.now) state }
-    ensures { IsTaken start.now.limits (plan_of text.now.world.now text.now.table.now (first_rules below.entry) start.now) state.entry
+        × IsUnderway start.now.limits
+        (plan_of text.now.world.now text.now.table.now (first_rules below) start.now) state told }
+    requires due { IsDueNow start.now.limits
+        (plan_of text.now.world.now text.now.table.now (first_rules below) start.now) state }
+    ensures { IsTaken start.now.limits (plan_of text.now.world.now text.now.table.now
+        (first_rules below.entry) start.now) state.entry
         (W.told watch.old) (W.told watch.new) result }
 {
     match complete(alloc, text, below, start, &state.used, watch) {
@@ -494,8 +523,10 @@ fn turn<'b, W: Watch>(
     requires limits { AreInRange start.now.limits }
     requires wanted { AreWanted text.now.table.now text.now.world.now.lexicon start.now.all.items }
     requires underway { (told : List Event)
-        × IsUnderway start.now.limits (plan_of text.now.world.now text.now.table.now (first_rules below) start.now) state told }
-    ensures { IsTaken start.now.limits (plan_of text.now.world.now text.now.table.now (first_rules below.entry) start.now) state.entry
+        × IsUnderway start.now.limits
+        (plan_of text.now.world.now text.now.table.now (first_rules below) start.now) state told }
+    ensures { IsTaken start.now.limits (plan_of text.now.world.now text.now.table.now
+        (first_rules below.entry) start.now) state.entry
         (W.told watch.old) (W.told watch.new) result }
 {
     if state.first.is_none() {
@@ -522,10 +553,13 @@ pub(crate) fn run<'b, W: Watch>(
     requires text { IsTextOver table.now world.now }
     requires limits { AreInRange start.now.limits }
     requires wanted { AreWanted table.now world.now.lexicon start.now.all.items }
-    ensures answer { Answers start.now.limits (plan_of world.now table.now (first_rules below.entry) start.now) (W.told watch.old) (W.told watch.new)
+    ensures answer { Answers start.now.limits (plan_of world.now table.now
+        (first_rules below.entry) start.now) (W.told watch.old) (W.told watch.new)
         (rules_of result) }
-    ensures only { IsOnlyOutcome start.now.limits (plan_of world.now table.now (first_rules below.entry) start.now) (rules_of result) }
-    ensures rounds { IfOk result (AreRounds start.now.limits (plan_of world.now table.now (first_rules below.entry) start.now)) }
+    ensures only { IsOnlyOutcome start.now.limits
+        (plan_of world.now table.now (first_rules below.entry) start.now) (rules_of result) }
+    ensures rounds { IfOk result (AreRounds start.now.limits
+        (plan_of world.now table.now (first_rules below.entry) start.now)) }
 {
     let text = Text { world, table };
     let used = none_used(alloc, start.all.len())?;

@@ -27,9 +27,19 @@ fn fails_at(
     requires text { IsTextOver reading.now.table.now reading.now.world.now }
     requires t { IsTypeIn reading.now.table.now reading.now.world.now.lexicon t }
     ensures { (rs : List TermRequirement) → IfOk result (λ r. MatchOption r
-        (IsShownIn (world_by reading.now.table.now reading.now.world.now) reading.now.rules.now (record { source = within rs reading.now.over; term = term_at reading.now.table.now t; at = at }))
-        (λ a. (IsShownIn (world_by reading.now.table.now reading.now.world.now) reading.now.rules.now
-        (record { source = within rs reading.now.over; term = term_at reading.now.table.now t; at = at }) → ⊥) × (a ≡ at))) }
+        (IsShownIn (world_by reading.now.table.now reading.now.world.now) reading.now.rules.now
+        (record {
+          source = within rs reading.now.over;
+          term = term_at reading.now.table.now t;
+          at = at;
+        }))
+        (λ a.
+        (IsShownIn (world_by reading.now.table.now reading.now.world.now) reading.now.rules.now
+        (record {
+          source = within rs reading.now.over;
+          term = term_at reading.now.table.now t;
+          at = at;
+        }) → ⊥) × (a ≡ at))) }
 {
     let shown = is_shown(
         alloc,
@@ -49,10 +59,15 @@ fn first_of(
     r: &Written,
 ) -> Result<Option<u32>, AllocError>
     requires text { IsTextOver reading.now.table.now reading.now.world.now }
-    requires r { IsRequirementIn reading.now.table.now reading.now.world.now.lexicon r.now.requirement }
+    requires r { IsRequirementIn reading.now.table.now
+        reading.now.world.now.lexicon r.now.requirement }
     ensures { (rs : List TermRequirement) → IfOk result (λ first. MatchOption first
-        (HoldsOfEach (IsShownIn (world_by reading.now.table.now reading.now.world.now) reading.now.rules.now) (sides_of (within rs reading.now.over) (placed_by reading.now.table.now r.now)))
-        (FailsFirst (IsShownIn (world_by reading.now.table.now reading.now.world.now) reading.now.rules.now) (sides_of (within rs reading.now.over) (placed_by reading.now.table.now r.now)))) }
+        (HoldsOfEach (IsShownIn (world_by reading.now.table.now reading.now.world.now)
+        reading.now.rules.now)
+        (sides_of (within rs reading.now.over) (placed_by reading.now.table.now r.now)))
+        (FailsFirst (IsShownIn (world_by reading.now.table.now reading.now.world.now)
+        reading.now.rules.now)
+        (sides_of (within rs reading.now.over) (placed_by reading.now.table.now r.now)))) }
 {
     match r.requirement {
         Requirement::Conf { subject, .. } => fails_at(alloc, reading, subject, r.left_at),
@@ -76,8 +91,10 @@ pub(crate) fn first_invalid(
     requires text { IsTextOver table.now world.now }
     requires list { AreWritten table.now world.now.lexicon list.now }
     ensures { (rs : List TermRequirement) → IfOk result (λ first. MatchOption first
-        (HoldsOfEach (IsShownIn (world_by table.now world.now) rules.now) (sides (within rs over) (placed table.now list.now)))
-        (FailsFirst (IsShownIn (world_by table.now world.now) rules.now) (sides (within rs over) (placed table.now list.now)))) }
+        (HoldsOfEach (IsShownIn (world_by table.now world.now) rules.now)
+        (sides (within rs over) (placed table.now list.now)))
+        (FailsFirst (IsShownIn (world_by table.now world.now) rules.now)
+        (sides (within rs over) (placed table.now list.now)))) }
 {
     let reading = Reading {
         world,
@@ -105,8 +122,10 @@ pub(crate) fn first_in_protocols(
 ) -> Result<Option<u32>, AllocError>
     requires text { IsTextOver table.now world.now }
     ensures { IfOk result (λ first. MatchOption first
-        (HoldsOfEach (IsShownIn (world_by table.now world.now) rules.now) (protocol_sides (world_by table.now world.now)))
-        (FailsFirst (IsShownIn (world_by table.now world.now) rules.now) (protocol_sides (world_by table.now world.now)))) }
+        (HoldsOfEach (IsShownIn (world_by table.now world.now) rules.now)
+        (protocol_sides (world_by table.now world.now)))
+        (FailsFirst (IsShownIn (world_by table.now world.now) rules.now)
+        (protocol_sides (world_by table.now world.now)))) }
 {
     for k in 0..world.protocols() {
         let p = world.proto_at(k);

@@ -74,7 +74,8 @@ fn stop<W: Watch>(
     requires limits { AreInRange limits }
     requires stops { StopsAmong limits equations.now }
     ensures answer { IsAnswer limits [] equations.now (Err result) }
-    ensures told { TellsEvents limits [] equations.now (W.told watch.old) (W.told watch.new) (Err result) }
+    ensures told { TellsEvents limits [] equations.now (W.told watch.old)
+        (W.told watch.new) (Err result) }
 {
     match extend(alloc, CompleteRules::empty(alloc), equations, limits, watch) {
         Ok(_) => unreachable!(),
@@ -120,7 +121,8 @@ pub(crate) fn limit_of_basic<W: Watch>(
     requires limits { AreInRange limits }
     ensures { MatchOption result
         (W.told watch.new ≡ W.told watch.old)
-        (λ failed. (plan : Plan) → plan.base ≡ [] → plan.basic ≡ basic_equations (symbols_of world.now.lexicon)
+        (λ failed.
+        (plan : Plan) → plan.base ≡ [] → plan.basic ≡ basic_equations (symbols_of world.now.lexicon)
         → Answers limits plan (W.told watch.old) (W.told watch.new) (Err failed)) }
 {
     if are_few(world, limits) {

@@ -33,7 +33,8 @@ pub(crate) fn is_shown(
 ) -> Result<bool, AllocError>
     requires text { IsTextOver table.now world.now }
     requires t { IsTypeIn table.now world.now.lexicon t }
-    ensures { IfOk result (λ b. IsTrue b ↔ ShowsValid (symbols_of world.now.lexicon) (facts_of (world_by table.now world.now))
+    ensures { IfOk result (λ b. IsTrue b
+        ↔ ShowsValid (symbols_of world.now.lexicon) (facts_of (world_by table.now world.now))
         (source_over over) (Links rules.now) (term_at table.now t)) }
 {
     let room = table.members(t).checked_add(2).ok_or(AllocError)?;
@@ -59,7 +60,8 @@ pub fn is_usable(
 ) -> Result<bool, AllocError>
     requires text { IsTextOver table.now world.now }
     requires want { IsRequirementIn table.now world.now.lexicon r }
-    ensures { IfOk result (λ b. IsTrue b ↔ ShowsUsable (symbols_of world.now.lexicon) (facts_of (world_by table.now world.now))
+    ensures { IfOk result (λ b. IsTrue b
+        ↔ ShowsUsable (symbols_of world.now.lexicon) (facts_of (world_by table.now world.now))
         (source_over over) (Links rules.now) (requirement_of table.now r)) }
 {
     match r {
@@ -85,7 +87,8 @@ pub(crate) fn usable(
 ) -> Result<Vec<bool>, AllocError>
     requires text { IsTextOver table.now world.now }
     requires wanted { AreWanted table.now world.now.lexicon start.now.all.items }
-    ensures { (base : List Rule) → IfOk result (λ v. Tells (AreShown (plan_of world.now table.now base start.now) rules.now)
+    ensures { (base : List Rule)
+        → IfOk result (λ v. Tells (AreShown (plan_of world.now table.now base start.now) rules.now)
         (items_of table.now start.now.all.items) v.items) }
 {
     let mut flags = Vec::new(alloc);

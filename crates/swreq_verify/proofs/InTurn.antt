@@ -20,7 +20,8 @@ use Rattle.swreq_verify.specs.Turns.{AreTurns, HasTurn}
 pub no_turns : AreTurns [] 0
 no_turns = record { within = λ t h. no_member t h; all = λ k l. absurd (omega (arith, l)) }
 
-pub one_turn_more : (turns more : List Turn) (t : Turn) (k : ℕ) → AreTurns turns k → t.query ≡ k → more ≡ turns ++ (t ∷ []) → AreTurns more (k + 1)
+pub one_turn_more : (turns more : List Turn) (t : Turn) (k : ℕ) → AreTurns turns k → t.query ≡ k
+    → more ≡ turns ++ (t ∷ []) → AreTurns more (k + 1)
 one_turn_more turns more t k are is e = subst (λ z. AreTurns z (k + 1)) (sym e) (record { within = within; all = all })
   where
     within : (u : Turn) → Contains (turns ++ (t ∷ [])) u → u.query < k + 1
@@ -58,7 +59,8 @@ module _ (w : TextWorld) (ss : List TermSection) where
   -- There is a judgement for each query, and those on the queries that had their turns before this one are right.
   pub record AreJudgedBefore (turns : List Turn) (js : List Judgement) (n : ℕ) : Type 0 where
     pub count : length js ≡ length w.queries
-    pub each : (m : ℕ) (t : Turn) (j : Judgement) → m < n → slice_get turns m ≡ Some t → slice_get js t.query ≡ Some j → IsSaidAt w ss t.query j
+    pub each : (m : ℕ) (t : Turn) (j : Judgement) → m < n → slice_get turns m ≡ Some t → slice_get js t.query ≡ Some j
+        → IsSaidAt w ss t.query j
 
   pub none_before : (turns : List Turn) (js : List Judgement) → length js ≡ length w.queries → AreJudgedBefore turns js 0
   none_before turns js e = record { count = e; each = λ m t j l. absurd (omega (arith, l)) }

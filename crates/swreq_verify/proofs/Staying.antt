@@ -13,7 +13,8 @@ use Rattle.swreq_verify.specs.SecondParts.{IsSection, TermSection}
 module _ (old new : List Term) (extends : Extends old new) (x : LexiconView) where
   section_stays : (s : Section) → IsSectionOver x old s → section_of new s ≡ section_of old s
   section_stays s h =
-      ap (λ (ls : List TermLine). record { heading = s.heading.now; derivation = ls }) (lines_still old new extends x s.derivation.items h.ids)
+      ap (λ (ls : List TermLine). record { heading = s.heading.now; derivation = ls })
+      (lines_still old new extends x s.derivation.items h.ids)
 
   over_stays : (s : Section) → IsSectionOver x old s → IsSectionOver x new s
   over_stays s h = record {

@@ -19,8 +19,10 @@ pub(crate) struct Question {
 
 /// What a query asks, or None for a query of a type or of a signature.
 pub(crate) fn question_of(query: Query) -> Option<Question>
-    ensures asked { (terms : List Term) → asked (query_by terms query) ≡ option_map (asked_by terms) result }
-    ensures over { (terms : List Term) (w : IdWorld) → IsQueryOver terms w query → IfSome result (IsQuestionOver terms w) }
+    ensures asked { (terms : List Term)
+        → asked (query_by terms query) ≡ option_map (asked_by terms) result }
+    ensures over { (terms : List Term) (w : IdWorld) → IsQueryOver terms w query
+        → IfSome result (IsQuestionOver terms w) }
 {
     match query {
         Query::Signature { f: _ } => None,

@@ -41,7 +41,8 @@ pub enum Judgement {
 fn last_statement(lines: &[Line]) -> Option<Statement>
     ensures { MatchOption result
         (lines.now ≡ [])
-        (λ st. (before : List Line) × (last : Line) × (lines.now ≡ before ++ last ∷ []) × (last.statement ≡ st)) }
+        (λ st. (before : List Line) × (last : Line) × (lines.now ≡ before ++ last ∷ [])
+        × (last.statement ≡ st)) }
 {
     match lines {
         [] => None,
@@ -59,7 +60,8 @@ fn is_same(a: Statement, b: Statement) -> bool
 fn ends_in(world: &World, table: &ParamTable, asked: Question, section: &Section) -> bool
     requires asked { IsQuestionOver table.now world.now asked }
     requires section { IsSectionOver world.now.lexicon table.now section.now }
-    ensures { IsTrue result ↔ EndsIn (section_of table.now section.now).derivation (Requires (requirement_of table.now asked.requirement)) }
+    ensures { IsTrue result ↔ EndsIn (section_of table.now section.now).derivation
+        (Requires (requirement_of table.now asked.requirement)) }
 {
     // Where two type parameters are equal, so are their ids.
     let _count = table.len();
@@ -84,9 +86,11 @@ fn judge(
 ) -> Judgement
     requires text { IsTextOver table.now world.now }
     requires asked { IsQuestionOver table.now world.now asked }
-    requires list { list.now ≡ map (λ r. r.requirement) (signature_at world.now asked.signature).requirements }
+    requires list { list.now
+        ≡ map (λ r. r.requirement) (signature_at world.now asked.signature).requirements }
     requires section { IsSectionOver world.now.lexicon table.now section.now }
-    ensures { IsFound (world_by table.now world.now) (asked_by table.now asked) (section_of table.now section.now).derivation result }
+    ensures { IsFound (world_by table.now world.now) (asked_by table.now asked)
+        (section_of table.now section.now).derivation result }
 {
     let facts = FunctionFacts::of(world, asked.signature, list);
     match check(&facts, table, &section.derivation) {
@@ -122,7 +126,8 @@ fn answer(
     requires section { IsSectionOver world.now.lexicon table.now section.now }
     requires kept { IfSome kept (IsListOf world.now) }
     ensures said { IfOk result (λ s.
-        IsFound (world_by table.now world.now) (asked_by table.now asked) (section_of table.now section.now).derivation s.judgement) }
+        IsFound (world_by table.now world.now) (asked_by table.now asked)
+        (section_of table.now section.now).derivation s.judgement) }
     ensures kept { IfOk result (λ s. IfSome s.kept (IsListOf world.now)) }
 {
     let of = list_of(alloc, world, kept, asked.signature)?;
@@ -147,7 +152,8 @@ fn judgement_of(
     requires section { IsSectionOver world.now.lexicon table.now section.now }
     requires kept { IfSome kept (IsListOf world.now) }
     ensures said { IfOk result (λ s.
-        IsJudged (world_by table.now world.now) (query_by table.now query) (section_of table.now section.now) s.judgement) }
+        IsJudged (world_by table.now world.now) (query_by table.now query)
+        (section_of table.now section.now) s.judgement) }
     ensures kept { IfOk result (λ s. IfSome s.kept (IsListOf world.now)) }
 {
     match question_of(query) {
@@ -182,7 +188,8 @@ fn judgement_at(
     requires each { AllByRecursion (IsSectionOver world.now.lexicon table.now) sections.now }
     requires k { k < length world.now.queries }
     requires kept { IfSome kept (IsListOf world.now) }
-    ensures said { IfOk result (λ s. IsSaidAt (world_by table.now world.now) (map (section_of table.now) sections.now) k s.judgement) }
+    ensures said { IfOk result (λ s. IsSaidAt (world_by table.now world.now)
+        (map (section_of table.now) sections.now) k s.judgement) }
     ensures kept { IfOk result (λ s. IfSome s.kept (IsListOf world.now)) }
 {
     let queries = world.queries();
@@ -201,7 +208,8 @@ pub(crate) fn judgements(
     requires text { IsTextOver table.now world.now }
     requires count { length sections.now ≡ length world.now.queries }
     requires each { AllByRecursion (IsSectionOver world.now.lexicon table.now) sections.now }
-    ensures { IfOk result (λ v. AreJudged (world_by table.now world.now) (map (section_of table.now) sections.now) v.items) }
+    ensures { IfOk result (λ v. AreJudged (world_by table.now world.now)
+        (map (section_of table.now) sections.now) v.items) }
 {
     let queries = world.queries();
     let turns = turns_of(alloc, queries)?;

@@ -17,7 +17,8 @@ ghost use Rattle.swreq_verify.specs.SecondParts.{AreSections, IsFirstMisfit, Ter
 /// lines under the query are such a derivation.
 pub fn ok_says_derivable()
     ensures { (w : TextWorld) (q : TermQuery) (s : TermSection) → IsJudged w q s Derived
-        → (a : Asked) × IsToDerive q s a × BookDerivable (facts_of w) (source_of (signature_at w a.signature)) (Requires a.requirement) }
+        → (a : Asked) × IsToDerive q s a × BookDerivable (facts_of w)
+        (source_of (signature_at w a.signature)) (Requires a.requirement) }
 {}
 
 /// Where a first line does not fit, the lines are no such sections.
@@ -28,6 +29,7 @@ pub fn misfits_are_no_sections()
 
 /// A second part has at most one output, where names tell ids apart.
 pub fn one_output()
-    ensures { (w : TextWorld) (second out other : Text) → TellsApart w.lexicon → IsOutput w second out → IsOutput w second other
+    ensures { (w : TextWorld) (second out other : Text) → TellsApart w.lexicon
+        → IsOutput w second out → IsOutput w second other
         → out ≡ other }
 {}

@@ -7,7 +7,8 @@ use std::alloc::AllocError;
 use swreq_text::{append_bytes, append_number};
 
 fn put_bad_line(line: usize, out: &mut Vec<u8>) -> Result<(), AllocError>
-    ensures { OnOk result (out.new.items ≡ out.old.items ++ judgement_text (Judgement.BadLine line)) }
+    ensures { OnOk result
+        (out.new.items ≡ out.old.items ++ judgement_text (Judgement.BadLine line)) }
 {
     append_bytes(out, b"bad line ")?;
     append_number(out, line as u64)

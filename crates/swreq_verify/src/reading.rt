@@ -59,10 +59,12 @@ fn read_under<'a>(
     ensures extends { Extends table.old table.new }
     ensures section { IfOk result (λ n. IsSectionOver names.now table.new n.section) }
     ensures front { IfOk result (λ n.
-        IsFront names.now (heading.now ∷ lines text.now) (section_of table.new n.section) (lines n.rest.now)) }
+        IsFront names.now (heading.now ∷ lines text.now)
+        (section_of table.new n.section) (lines n.rest.now)) }
     ensures less { IfOk result (λ n. length n.rest.now ≤ length text.now) }
     ensures misfit { (n : ℕ) → result ≡ Err (Syntax n)
-        → (k : ℕ) × IsNoSection names.now (heading.now ∷ lines text.now) k × (n ≡ before + (k + 1)) }
+        → (k : ℕ) × IsNoSection names.now (heading.now ∷ lines text.now) k
+        × (n ≡ before + (k + 1)) }
 {
     let body = cut_body(text);
     match read_lines(alloc, names, table, body.under) {
@@ -91,9 +93,11 @@ fn next_section<'a>(
     requires before { before ≤ 1048576 }
     ensures extends { Extends table.old table.new }
     ensures section { IfOk result (λ n. IsSectionOver names.now table.new n.section) }
-    ensures front { IfOk result (λ n. IsFront names.now (lines text.now) (section_of table.new n.section) (lines n.rest.now)) }
+    ensures front { IfOk result (λ n.
+        IsFront names.now (lines text.now) (section_of table.new n.section) (lines n.rest.now)) }
     ensures less { IfOk result (λ n. length n.rest.now ≤ length text.now) }
-    ensures misfit { (n : ℕ) → result ≡ Err (Syntax n) → (k : ℕ) × IsNoSection names.now (lines text.now) k × (n ≡ before + (k + 1)) }
+    ensures misfit { (n : ℕ) → result ≡ Err (Syntax n)
+        → (k : ℕ) × IsNoSection names.now (lines text.now) k × (n ≡ before + (k + 1)) }
 {
     match first_line(text) {
         None => Err(LinesErr::Syntax { line: before + 1 }),
@@ -132,8 +136,10 @@ pub(crate) fn read_sections<'a>(
     requires short { length text.now ≤ 1048576 }
     ensures extends { Extends table.old table.new }
     ensures each { IfOk result (λ v. AllByRecursion (IsSectionOver names.now table.new) v.items) }
-    ensures sections { IfOk result (λ v. AreSections names.now count (lines text.now) (map (section_of table.new) v.items)) }
-    ensures misfit { (n : ℕ) → result ≡ Err (Syntax n) → IsFirstMisfit names.now count (lines text.now) n }
+    ensures sections { IfOk result
+        (λ v. AreSections names.now count (lines text.now) (map (section_of table.new) v.items)) }
+    ensures misfit { (n : ℕ) → result ≡ Err (Syntax n)
+        → IsFirstMisfit names.now count (lines text.now) n }
 {
     let mut sections: Vec<Section<'a>> = Vec::new(alloc);
     let mut before: u32 = 0;

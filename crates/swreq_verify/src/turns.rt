@@ -18,7 +18,8 @@ pub(crate) struct Turn {
 
 /// The place of the signature from whose list a query asks a requirement, or 0 where it asks none.
 fn signature_of(query: Query) -> u32
-    ensures { (terms : List Term) (a : Asked) → asked (query_by terms query) ≡ Some a → result ≡ a.signature.place }
+    ensures { (terms : List Term) (a : Asked) → asked (query_by terms query) ≡ Some a
+        → result ≡ a.signature.place }
 {
     match question_of(query) {
         Some(asked) => asked.signature.place,

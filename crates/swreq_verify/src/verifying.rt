@@ -32,7 +32,8 @@ fn append_judgements(
     requires count { length sections.now ≡ length world.now.queries }
     requires each { AllByRecursion (IsSectionOver world.now.lexicon table.now) sections.now }
     ensures ok { OnOk result
-        (AppendsJudgements (world_by table.now world.now) (map (section_of table.now) sections.now) out.old.items out.new.items) }
+        (AppendsJudgements (world_by table.now world.now)
+        (map (section_of table.now) sections.now) out.old.items out.new.items) }
     ensures err { OnErr result (out.new.items ≡ out.old.items) }
 {
     let found = judgements(alloc, world, table, sections)?;
@@ -56,8 +57,10 @@ pub fn verify(
     requires text { IsTextOver table.old world.now }
     requires names { TellsApart world.now.lexicon }
     requires short { length text.now ≤ 1048576 }
-    ensures output { OnOk result (AppendsOutput (world_by table.old world.now) text.now out.old.items out.new.items) }
-    ensures misfit { (n : ℕ) → result ≡ Err (Syntax n) → IsFirstMisfit world.now.lexicon (length world.now.queries) (lines text.now) n }
+    ensures output { OnOk result
+        (AppendsOutput (world_by table.old world.now) text.now out.old.items out.new.items) }
+    ensures misfit { (n : ℕ) → result ≡ Err (Syntax n)
+        → IsFirstMisfit world.now.lexicon (length world.now.queries) (lines text.now) n }
     ensures err { OnErr result (out.new.items ≡ out.old.items) }
     ensures extends { Extends table.old table.new }
 {

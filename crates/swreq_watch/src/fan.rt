@@ -64,8 +64,10 @@ impl Watch for Fan {
 
     /// Tells each member in order, up to the first that runs out of memory.
     fn tell(&mut self, event: &Event) -> Result<(), AllocError>
-        ensures each { OnOk result (EachGrewBy (map told (members self.old)) (map told (members self.new)) (event.now ∷ [])) }
-        ensures up_to_one { OnErr result (GrewUpToOne (map told (members self.old)) (map told (members self.new)) (event.now ∷ [])) }
+        ensures each { OnOk result (EachGrewBy (map told (members self.old))
+            (map told (members self.new)) (event.now ∷ [])) }
+        ensures up_to_one { OnErr result (GrewUpToOne (map told (members self.old))
+            (map told (members self.new)) (event.now ∷ [])) }
     {
         for place in 0..self.members.len() {
             tell_member(&mut self.members[place], event)?;

@@ -22,7 +22,8 @@ nat_cmp_less m n h = go (nat_cmp m n) refl
     go : (o : Ordering) → nat_cmp m n ≡ o → nat_cmp m n ≡ Less
     go Less e = e
     go Equal e = absurd (let k = nat_equal m n e in omega (arith, k))
-    go Greater e = absurd (let k = subst (λ o. MatchOrdering o (m < n) (m ≡ n) (n < m)) e (ranked m n (nat_cmp m n) refl) in omega (arith, k))
+    go Greater e =
+        absurd (let k = subst (λ o. MatchOrdering o (m < n) (m ≡ n) (n < m)) e (ranked m n (nat_cmp m n) refl) in omega (arith, k))
 
 pub by_length : (u v : List Symbol) → length u < length v → WordLess u v
 by_length u v h = rw (nat_cmp_less (length u) (length v) h) refl
@@ -39,7 +40,8 @@ symbols_before : (x u v : List Symbol) → slice_cmp symbol_cmp (x ++ u) (x ++ v
 symbols_before [] u v = refl
 symbols_before (a ∷ x) u v = rw (tied_itself symbol_total a) (symbols_before x u v)
 
-symbols_after : (z u v : List Symbol) → length u ≡ length v → slice_cmp symbol_cmp u v ≡ Less → slice_cmp symbol_cmp (u ++ z) (v ++ z) ≡ Less
+symbols_after : (z u v : List Symbol) → length u ≡ length v → slice_cmp symbol_cmp u v ≡ Less
+    → slice_cmp symbol_cmp (u ++ z) (v ++ z) ≡ Less
 symbols_after z [] [] e h = cc
 symbols_after z [] (b ∷ v) e h = absurd (omega (arith, e))
 symbols_after z (a ∷ u) [] e h = absurd (omega (arith, e))

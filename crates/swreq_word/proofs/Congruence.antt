@@ -28,10 +28,12 @@ Replaced-whole {l} {r} = record { before = []; after = []; source = sym (append-
 
 module _ (equations : List (List Symbol × List Symbol)) where
   replaces_before : (x u v : List Symbol) → Replaces equations u v → Replaces equations (x ++ u) (x ++ v)
-  replaces_before x u v s = record { number = s.number; left = s.left; right = s.right; is_equation = s.is_equation; at = Replaced-before x s.at }
+  replaces_before x u v s =
+      record { number = s.number; left = s.left; right = s.right; is_equation = s.is_equation; at = Replaced-before x s.at }
 
   replaces_after : (z u v : List Symbol) → Replaces equations u v → Replaces equations (u ++ z) (v ++ z)
-  replaces_after z u v s = record { number = s.number; left = s.left; right = s.right; is_equation = s.is_equation; at = Replaced-after z s.at }
+  replaces_after z u v s =
+      record { number = s.number; left = s.left; right = s.right; is_equation = s.is_equation; at = Replaced-after z s.at }
 
   pub congruent_before : (x : List Symbol) {u v : List Symbol} → Congruent equations u v → Congruent equations (x ++ u) (x ++ v)
   congruent_before x = linked_by (λ u. x ++ u) (λ a b r. forth (replaces_before x a b r) here)

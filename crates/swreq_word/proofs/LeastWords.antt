@@ -6,11 +6,13 @@ use Rattle.swreq_word.specs.Least.{IsLeast, EachFactor, IsMinimal}
 use Rattle.swreq_word.proofs.Comparing.{not_both_below}
 
 -- a class has one least word
-pub one_least : (Class : List Symbol → List Symbol → Type 0) (u v : List Symbol) → Class u v → Class v u → IsLeast Class u → IsLeast Class v → u ≡ v
+pub one_least : (Class : List Symbol → List Symbol → Type 0) (u v : List Symbol) → Class u v → Class v u → IsLeast Class u
+    → IsLeast Class v → u ≡ v
 one_least Class u v c d a b = elim (a v c) [ inl e ↦ sym e | inr l ↦ elim (b u d) [ inl e ↦ e | inr k ↦ absurd (not_both_below u v l k) ] ]
 
 -- what is least, and minimal, is so by each relation with the same classes
-module _ (C D : List Symbol → List Symbol → Type 0) (there : (u v : List Symbol) → C u v → D u v) (back : (u v : List Symbol) → D u v → C u v) where
+module _ (C D : List Symbol → List Symbol → Type 0) (there : (u v : List Symbol) → C u v → D u v)
+    (back : (u v : List Symbol) → D u v → C u v) where
   pub least_along : (w : List Symbol) → IsLeast C w → IsLeast D w
   least_along w l v d = l v (back w v d)
 
@@ -40,4 +42,5 @@ module _ (Holds : List Symbol → Type 0) where
       (rw length-drop (omega (arith, some)))
 
   pub front_of : (w : List Symbol) → 0 < length w → EachFactor w Holds → Holds (take (length w - 1) w)
-  front_of w some h = h [] (take (length w - 1) w) (drop (length w - 1) w) (sym (take-append-drop (length w - 1) w)) (rw length-take (omega (arith, some)))
+  front_of w some h =
+      h [] (take (length w - 1) w) (drop (length w - 1) w) (sym (take-append-drop (length w - 1) w)) (rw length-take (omega (arith, some)))

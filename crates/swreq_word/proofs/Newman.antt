@@ -10,7 +10,8 @@ use Rattle.swreq_orders.proofs.Induction.{by_below}
 
 module _ {A : Type 0} {R Below : A → A → Type 0} (down : (a b : A) → R a b → Below b a) (founded : IsWellFounded Below) where
   module _ (local : IsLocallyConfluent R) where
-    from_first : (a : A) → ((x : A) → Below x a → (b c : A) → Chain R x b → Chain R x c → Meet R b c) → (b c : A) → Chain R a b → Chain R a c → Meet R b c
+    from_first : (a : A) → ((x : A) → Below x a → (b c : A) → Chain R x b → Chain R x c → Meet R b c) → (b c : A) → Chain R a b
+        → Chain R a c → Meet R b c
     from_first a ih b c done k = (c, k, done)
     from_first a ih b c k done = (b, done, k)
     from_first a ih b c (more {b = x} s k) (more {b = y} t l) =

@@ -46,12 +46,15 @@ param_acc d i =
     (λ d ihd i. by_below (λ i. IsAccessible Symbol< (Param d i)) (λ i ihi. reached (below d ihd i ihi)) (numbers_founded i))
     (numbers_founded d) i
   where
-    below : (d : ℕ) → ((e : ℕ) → e < d → (j : ℕ) → IsAccessible Symbol< (Param e j)) → (i : ℕ) → ((j : ℕ) → j < i → IsAccessible Symbol< (Param d j))
+    below : (d : ℕ) → ((e : ℕ) → e < d → (j : ℕ) → IsAccessible Symbol< (Param e j)) → (i : ℕ)
+        → ((j : ℕ) → j < i → IsAccessible Symbol< (Param d j))
         → (a : Symbol) → Symbol< a (Param d i) → IsAccessible Symbol< a
     below d ihd i ihi (Proto m) l = proto_acc m
     below d ihd i ihi (Member m) l = member_acc m
-    below d ihd i ihi (Param e j) l = elim (then_less (nat_cmp e d) (nat_cmp j i) l)
-        [ inl h ↦ ihd e (nat_less e d h) j | inr h ↦ subst (λ x. IsAccessible Symbol< (Param x j)) (sym (nat_equal e d h.0)) (ihi j (nat_less j i h.1)) ]
+    below d ihd i ihi (Param e j) l = elim (then_less (nat_cmp e d) (nat_cmp j i) l) [
+      | inl h ↦ ihd e (nat_less e d h) j
+      | inr h ↦ subst (λ x. IsAccessible Symbol< (Param x j)) (sym (nat_equal e d h.0)) (ihi j (nat_less j i h.1))
+    ]
     below d ihd i ihi (Name m) l = cc
     below d ihd i ihi Layout l = cc
 

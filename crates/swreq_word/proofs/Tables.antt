@@ -16,7 +16,8 @@ use Rattle.swreq_word.proofs.Comparing.{symbols_decide}
 use Rattle.swreq_orders.proofs.Elements.{get_left, get_last}
 
 module _ {K : Type 0} (word_of : K → List Symbol) where
-  key_at : (keys : List K) (i : ℕ) (w : List Symbol) → slice_get (map word_of keys) i ≡ Some w → (k : K) × (slice_get keys i ≡ Some k) × (word_of k ≡ w)
+  key_at : (keys : List K) (i : ℕ) (w : List Symbol) → slice_get (map word_of keys) i ≡ Some w
+      → (k : K) × (slice_get keys i ≡ Some k) × (word_of k ≡ w)
   key_at [] i w h = cc
   key_at (k ∷ keys) zero w h = (k, refl, cc)
   key_at (k ∷ keys) (suc i) w h = key_at keys i w h
@@ -50,12 +51,14 @@ module _ {K : Type 0} (word_of : K → List Symbol) where
 
   -- keys of which no two are equal stand for different words
   module _ (eq : K → K → Bool) (is : (j k : K) → Decides (eq j k) (word_of j ≡ word_of k)) where
-    differs : (k : K) (keys : List K) (w : List Symbol) (j : ℕ) → AllByRecursion (λ y. eq k y ≡ false) keys → word_of k ≡ w → slice_get (map word_of keys) j ≡ Some w → ⊥
+    differs : (k : K) (keys : List K) (w : List Symbol) (j : ℕ) → AllByRecursion (λ y. eq k y ≡ false) keys → word_of k ≡ w
+        → slice_get (map word_of keys) j ≡ Some w → ⊥
     differs k [] w j d e h = cc
     differs k (x ∷ keys) w zero d e h = let f : word_of k ≡ word_of x = cc in true≢false (sym ((is k x).1 f) ∙ d.0)
     differs k (x ∷ keys) w (suc j) d e h = differs k keys w j d.1 e h
 
-    one_place : (keys : List K) (w : List Symbol) (i j : ℕ) → IsDistinct eq keys → slice_get (map word_of keys) i ≡ Some w → slice_get (map word_of keys) j ≡ Some w → i ≡ j
+    one_place : (keys : List K) (w : List Symbol) (i j : ℕ) → IsDistinct eq keys → slice_get (map word_of keys) i ≡ Some w
+        → slice_get (map word_of keys) j ≡ Some w → i ≡ j
     unfolding IsDistinct
     one_place [] w i j d p q = cc
     one_place (k ∷ keys) w zero zero d p q = refl
@@ -73,7 +76,8 @@ pub known : (words : List (List Symbol)) (w : List Symbol) (id : WordId) → Sta
 known words w id h = record { is_of = slice_get_within words id.place w h; stands = h; earlier = λ other v s. s; grown = inl refl }
 
 -- a new word comes last
-pub added : (old new : List (List Symbol)) (w : List Symbol) (id : WordId) → (Contains old w → ⊥) → new ≡ old ++ w ∷ [] → id.place ≡ length old → Interned old new w id
+pub added : (old new : List (List Symbol)) (w : List Symbol) (id : WordId) → (Contains old w → ⊥) → new ≡ old ++ w ∷ []
+    → id.place ≡ length old → Interned old new w id
 added old new w id none e at = record {
   is_of = let l = length-append old (w ∷ []) in rw e (omega arith);
   stands = rw (e, at) (get_last old w);
@@ -100,12 +104,15 @@ module _ {Z : Type 0} (keys : List (Vec Symbol Z)) (words : List (List Symbol)) 
   words_differ d = are_distinct (λ k. k.items) key_eq (λ j k. symbols_decide j.items k.items) keys words stand d
 
   -- the table after a word that it lacks was inserted by its key
-  pub inserted : (w : List Symbol) (key : Vec Symbol Z) (new : List (Vec Symbol Z)) (id : WordId) → key.items ≡ w → list_any (has_symbols w) keys ≡ false
-      → new ≡ (if list_any (key_eq key) keys then keys else keys ++ key ∷ []) → id.place ≡ position_or_len (key_eq key) keys → Interned words (map (λ k. k.items) new) w id
+  pub inserted : (w : List Symbol) (key : Vec Symbol Z) (new : List (Vec Symbol Z)) (id : WordId) → key.items ≡ w
+      → list_any (has_symbols w) keys ≡ false
+      → new ≡ (if list_any (key_eq key) keys then keys else keys ++ key ∷ []) → id.place ≡ position_or_len (key_eq key) keys
+      → Interned words (map (λ k. k.items) new) w id
   inserted w key new id e none n at =
       let none' : list_any (key_eq key) keys ≡ false = subst (λ x. list_any (has_symbols x) keys ≡ false) (sym e) none in
       let n' : new ≡ keys ++ key ∷ [] = n ∙ ap (λ b. if b then keys else keys ++ key ∷ []) none' in
-      let place : id.place ≡ length words = at ∙ first_of_none (λ k. k.items) (key_eq key) key.items (λ k. symbols_decide key.items k.items) keys none'
+      let place : id.place ≡ length words =
+      at ∙ first_of_none (λ k. k.items) (key_eq key) key.items (λ k. symbols_decide key.items k.items) keys none'
       ∙ sym (length-map keys (λ k. k.items)) ∙ ap length stand in
       added words (map (λ k. k.items) new) w id (lacks w none)
       (ap (map (λ k. k.items)) n' ∙ map_push (λ k. k.items) keys key ∙ (λ i. stand i ++ e i ∷ [])) place

@@ -15,7 +15,8 @@ use Rattle.swreq_word.proofs.SymbolsFounded.{Symbol<, symbol_acc}
 abbrev Same< : List Symbol → List Symbol → Type 0
 Same< u v = (length u ≡ length v) × (slice_cmp symbol_cmp u v ≡ Less)
 
-below_cons : (x : Symbol) (xs : List Symbol) → ((y : Symbol) → Symbol< y x → (ys : List Symbol) → length ys ≡ length xs → IsAccessible Same< (y ∷ ys))
+below_cons : (x : Symbol) (xs : List Symbol)
+    → ((y : Symbol) → Symbol< y x → (ys : List Symbol) → length ys ≡ length xs → IsAccessible Same< (y ∷ ys))
     → ((ys : List Symbol) → Same< ys xs → IsAccessible Same< (x ∷ ys)) → (w : List Symbol) → Same< w (x ∷ xs) → IsAccessible Same< w
 below_cons x xs hx hxs [] l = absurd (omega (arith, l.0))
 below_cons x xs hx hxs (y ∷ ys) l =
@@ -43,7 +44,8 @@ same_acc (suc n) (x ∷ xs) e =
 lt_along : {a b c : ℕ} → a < b → b ≡ c → a < c
 lt_along h e = omega arith
 
-of_length : (n : ℕ) → ((m : ℕ) → m < n → (u : List Symbol) → length u ≡ m → IsAccessible WordLess u) → (w : List Symbol) → length w ≡ n → IsAccessible WordLess w
+of_length : (n : ℕ) → ((m : ℕ) → m < n → (u : List Symbol) → length u ≡ m → IsAccessible WordLess u) → (w : List Symbol) → length w ≡ n
+    → IsAccessible WordLess w
 of_length n ih w = by_below (λ w. length w ≡ n → IsAccessible WordLess w)
     (λ w ihw e. reached (λ u l. elim (then_less (nat_cmp (length u) (length w)) (slice_cmp symbol_cmp u w) l) [
       | inl h ↦ ih (length u) (lt_along (nat_less (length u) (length w) h) e) u refl

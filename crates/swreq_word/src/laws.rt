@@ -25,10 +25,12 @@ pub fn words_are_ordered()
 /// The order of words is well-founded: no sequence of words goes down for ever.
 pub fn words_are_well_founded()
     ensures accessible { IsWellFounded WordLess }
-    ensures no_descent { (words : ℕ → List Symbol) → ((n : ℕ) → WordLess (words (n + 1)) (words n)) → ⊥ }
+    ensures no_descent { (words : ℕ → List Symbol)
+        → ((n : ℕ) → WordLess (words (n + 1)) (words n)) → ⊥ }
 {}
 
 /// A word that is less than another stays less where both stand within one longer word.
 pub fn order_stays_in_context()
-    ensures { (before u v after : List Symbol) → WordLess u v → WordLess (before ++ (u ++ after)) (before ++ (v ++ after)) }
+    ensures { (before u v after : List Symbol) → WordLess u v
+        → WordLess (before ++ (u ++ after)) (before ++ (v ++ after)) }
 {}

@@ -71,14 +71,16 @@ impl WordTable {
 
     /// The id of the word, or None if and only if the table does not have it.
     pub fn find(&self, word: &Word) -> Option<WordId>
-        ensures { MatchOption result (Contains self.now word.now → ⊥) (λ id. StandsFor self.now id word.now) }
+        ensures { MatchOption result (Contains self.now word.now → ⊥)
+            (λ id. StandsFor self.now id word.now) }
     {
         self.find_symbols(word.symbols())
     }
 
     /// The id of the word of these symbols, or None if and only if the table does not have it.
     pub fn find_symbols(&self, symbols: &[Symbol]) -> Option<WordId>
-        ensures { MatchOption result (Contains self.now symbols.now → ⊥) (λ id. StandsFor self.now id symbols.now) }
+        ensures { MatchOption result (Contains self.now symbols.now → ⊥)
+            (λ id. StandsFor self.now id symbols.now) }
     {
         match self.words.get_index_of(symbols) {
             Some(place) => Some(WordId { place }),

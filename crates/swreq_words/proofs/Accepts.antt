@@ -37,7 +37,8 @@ no_dash d low = search (arith, low)
 
 first_digit : (t : Text) → are_few_digits t ≡ true → (d : ℕ) × (ds : Text) × (t ≡ d ∷ ds) × ((d == 45) ≡ false)
 first_digit [] e = absurd (omega (arith, (few [] e).0))
-first_digit (d ∷ ds) e = (d, ds, refl, no_dash d (digit_low d (and_parts (is_ascii_digit d) (list_all is_ascii_digit ds) (few (d ∷ ds) e).2).0))
+first_digit (d ∷ ds) e =
+    (d, ds, refl, no_dash d (digit_low d (and_parts (is_ascii_digit d) (list_all is_ascii_digit ds) (few (d ∷ ds) e).2).0))
 
 plain_digit : (d : ℕ) (ds : Text) → (d == 45) ≡ false → IsPlainWord (d ∷ ds)
 plain_digit d ds e = (ap (λ b. if b then Some ds else None) e, ap (λ b. b && bytes_eq ds (45 ∷ [])) e)
@@ -63,7 +64,8 @@ plain (joined l t) e = tt
 plain trace e = tt
 plain (number t) e = number_plain greatest_count t e
 
-pub are_of : (may : Follows) (parts : List Part) → list_all (may_follow may) parts ≡ true → list_all is_in_range parts ≡ true → AreOf may parts
+pub are_of : (may : Follows) (parts : List Part) → list_all (may_follow may) parts ≡ true
+    → list_all is_in_range parts ≡ true → AreOf may parts
 are_of may [] f r = tt
 are_of may (p ∷ ps) f r =
     let f' = and_parts (may_follow may p) (list_all (may_follow may) ps) f in
@@ -92,7 +94,8 @@ put seen (number t) = record seen { waiting = None; number = true }
 abbrev calm : Seen → Seen
 calm seen = record seen { waiting = None }
 
-flag_holds : (seen : Seen) (before : List Text) (part : Part) → Holds seen before → flag seen part ≡ list_any (λ k. bytes_eq k (sets part)) before
+flag_holds : (seen : Seen) (before : List Text) (part : Part) → Holds seen before
+    → flag seen part ≡ list_any (λ k. bytes_eq k (sets part)) before
 flag_holds seen before (apart MaxRules t) h = h.0
 flag_holds seen before (apart MaxLength t) h = h.1
 flag_holds seen before (joined MaxRules t) h = h.0
@@ -108,7 +111,8 @@ put_holds seen before (joined MaxLength t) h = (h.0, refl, h.2, h.3)
 put_holds seen before trace h = (h.0, h.1, refl, h.3)
 put_holds seen before (number t) h = (h.0, h.1, h.2, refl)
 
-put_counts : (seen : Seen) (part : Part) (rest : Bool) → (seen.number || (bytes_eq (sets part) (codes "number") || rest)) ≡ true → ((put seen part).number || rest) ≡ true
+put_counts : (seen : Seen) (part : Part) (rest : Bool) → (seen.number || (bytes_eq (sets part) (codes "number") || rest)) ≡ true
+    → ((put seen part).number || rest) ≡ true
 put_counts seen (apart MaxRules t) rest e = e
 put_counts seen (apart MaxLength t) rest e = e
 put_counts seen (joined MaxRules t) rest e = e
@@ -125,17 +129,20 @@ put_waits seen trace = refl
 put_waits seen (number t) = refl
 
 -- reading a word, and then the rest
-steps : (may : Follows) (seen : Seen) (w : Text) (ws : List Text) (next : Seen) → with_next may seen w ≡ Some next → read_on may seen (w ∷ ws) ≡ read_on may next ws
+steps : (may : Follows) (seen : Seen) (w : Text) (ws : List Text) (next : Seen) → with_next may seen w ≡ Some next
+    → read_on may seen (w ∷ ws) ≡ read_on may next ws
 steps may seen w ws next e = read_more may seen w ws ∙ ap (option_and_then (λ n. read_on may n ws)) e
 
 new_is : (was may : Bool) (next : Seen) → was ≡ false → may ≡ true → if_new was may next ≡ Some next
 new_is was may next w m = rw (w, m) refl
 
-limit_sets : (seen : Seen) (l : Limit) (t : Text) → flag seen (apart l t) ≡ false → is_number (greatest l) t ≡ true → with_limit seen l t ≡ Some (put seen (apart l t))
+limit_sets : (seen : Seen) (l : Limit) (t : Text) → flag seen (apart l t) ≡ false → is_number (greatest l) t ≡ true
+    → with_limit seen l t ≡ Some (put seen (apart l t))
 limit_sets seen MaxRules t f r = new_is seen.max_rules _ _ f r
 limit_sets seen MaxLength t f r = new_is seen.max_length _ _ f r
 
-word_reads : (may : Follows) (seen : Seen) (w : Text) (next : Seen) → may_follow may trace ≡ true → with_word may seen w seen.waiting ≡ Some next → with_next may seen w ≡ Some next
+word_reads : (may : Follows) (seen : Seen) (w : Text) (next : Seen) → may_follow may trace ≡ true
+    → with_word may seen w seen.waiting ≡ Some next → with_next may seen w ≡ Some next
 word_reads Nothing seen w next f e = absurd (true≢false (sym f))
 word_reads Options seen w next f e = e
 word_reads OptionsAndNumber seen w next f e = e
@@ -145,29 +152,37 @@ options_follow Nothing part e = absurd (true≢false (sym e))
 options_follow Options part e = refl
 options_follow OptionsAndNumber part e = refl
 
-opens_is : (may : Follows) (seen : Seen) (l : Limit) → with_word may (calm seen) (option_word (limit_name l)) None ≡ Some (record seen { waiting = Some l })
+opens_is : (may : Follows) (seen : Seen) (l : Limit)
+    → with_word may (calm seen) (option_word (limit_name l)) None ≡ Some (record seen { waiting = Some l })
 opens_is may seen MaxRules = refl
 opens_is may seen MaxLength = refl
 
-joined_is : (may : Follows) (seen : Seen) (l : Limit) (t : Text) → with_word may (calm seen) (option_word (limit_name l) ++ (codes "=" ++ t)) None ≡ with_limit (calm seen) l t
+joined_is : (may : Follows) (seen : Seen) (l : Limit) (t : Text)
+    → with_word may (calm seen) (option_word (limit_name l) ++ (codes "=" ++ t)) None ≡ with_limit (calm seen) l t
 unfolding after
 joined_is may seen MaxRules t = refl
 joined_is may seen MaxLength t = refl
 
-one : (may : Follows) (seen : Seen) (part : Part) (rest : List Text) → may_follow may part ≡ true → is_in_range part ≡ true → flag seen part ≡ false
+one : (may : Follows) (seen : Seen) (part : Part) (rest : List Text) → may_follow may part ≡ true → is_in_range part ≡ true
+    → flag seen part ≡ false
     → read_on may (calm seen) (words_of part ++ rest) ≡ read_on may (put seen part) rest
 one may seen (apart l t) rest f r new =
     let follows = options_follow may (apart l t) f in
-    steps may (calm seen) (option_word (limit_name l)) (t ∷ rest) (record seen { waiting = Some l }) (word_reads may (calm seen) _ _ follows (opens_is may seen l))
-    ∙ steps may (record seen { waiting = Some l }) t rest (put seen (apart l t)) (word_reads may (record seen { waiting = Some l }) t _ follows (second seen l t new r))
+    steps may (calm seen) (option_word (limit_name l)) (t ∷ rest) (record seen { waiting = Some l })
+    (word_reads may (calm seen) _ _ follows (opens_is may seen l))
+    ∙ steps may (record seen { waiting = Some l }) t rest (put seen (apart l t))
+    (word_reads may (record seen { waiting = Some l }) t _ follows (second seen l t new r))
   where
-    second : (seen : Seen) (l : Limit) (t : Text) → flag seen (apart l t) ≡ false → is_number (greatest l) t ≡ true → with_limit (record seen { waiting = Some l }) l t ≡ Some (put seen (apart l t))
+    second : (seen : Seen) (l : Limit) (t : Text) → flag seen (apart l t) ≡ false → is_number (greatest l) t ≡ true
+        → with_limit (record seen { waiting = Some l }) l t ≡ Some (put seen (apart l t))
     second seen MaxRules t f r = new_is seen.max_rules _ _ f r
     second seen MaxLength t f r = new_is seen.max_length _ _ f r
 one may seen (joined l t) rest f r new =
-    steps may (calm seen) _ rest (put seen (joined l t)) (word_reads may (calm seen) _ _ (options_follow may (joined l t) f) (joined_is may seen l t ∙ sets_it seen l t new r))
+    steps may (calm seen) _ rest (put seen (joined l t))
+    (word_reads may (calm seen) _ _ (options_follow may (joined l t) f) (joined_is may seen l t ∙ sets_it seen l t new r))
   where
-    sets_it : (seen : Seen) (l : Limit) (t : Text) → flag seen (joined l t) ≡ false → is_number (greatest l) t ≡ true → with_limit (calm seen) l t ≡ Some (put seen (joined l t))
+    sets_it : (seen : Seen) (l : Limit) (t : Text) → flag seen (joined l t) ≡ false → is_number (greatest l) t ≡ true
+        → with_limit (calm seen) l t ≡ Some (put seen (joined l t))
     sets_it seen MaxRules t f r = new_is seen.max_rules _ _ f r
     sets_it seen MaxLength t f r = new_is seen.max_length _ _ f r
 one may seen trace rest f r new =
@@ -186,7 +201,8 @@ pub record Accepted (may : Follows) (seen : Seen) (parts : List Part) : Type 0 w
   pub waits : end.waiting ≡ None
   pub counts : (seen.number || is_set (codes "number") parts) ≡ true → end.number ≡ true
 
-pub accepted : (may : Follows) (seen : Seen) (before : List Text) (parts : List Part) → Holds seen before → list_all (may_follow may) parts ≡ true → list_all is_in_range parts ≡ true
+pub accepted : (may : Follows) (seen : Seen) (before : List Text) (parts : List Part) → Holds seen before
+    → list_all (may_follow may) parts ≡ true → list_all is_in_range parts ≡ true
     → is_each_once before parts ≡ true → Accepted may seen parts
 accepted may seen before [] h f r once = record {
   end = calm seen;
@@ -202,7 +218,8 @@ accepted may seen before (p ∷ ps) h f r once =
     let more = accepted may (put seen p) (sets p ∷ before) ps (put_holds seen before p h) f'.1 r'.1 o'.1 in
     record {
       end = more.end;
-      reads = one may seen p (flat_map words_of ps) f'.0 r'.0 new ∙ ap (λ s. read_on may s (flat_map words_of ps)) (sym (put_waits seen p)) ∙ more.reads;
+      reads = one may seen p (flat_map words_of ps) f'.0 r'.0 new
+          ∙ ap (λ s. read_on may s (flat_map words_of ps)) (sym (put_waits seen p)) ∙ more.reads;
       waits = more.waits;
       counts = λ e. more.counts (put_counts seen p (is_set (codes "number") ps) e);
     }

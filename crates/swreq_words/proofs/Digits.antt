@@ -16,7 +16,8 @@ few text e =
     let bounds = and_parts (nat_le 1 (length text)) (nat_le (length text) 6) all.0 in
     (search (arith, bounds.0), search (arith, bounds.1), all.1)
 
-pub parsed : {E : Type 0} → (text : List ℕ) (r : Result ℕ E) → ParsesUnsigned 32 10 text r → are_few_digits text ≡ true → r ≡ Ok (digits_value 10 text)
+pub parsed : {E : Type 0} → (text : List ℕ) (r : Result ℕ E) → ParsesUnsigned 32 10 text r → are_few_digits text ≡ true
+    → r ≡ Ok (digits_value 10 text)
 parsed text r parses e =
     let are = few text e in
     parse_gives own 32 text r parses are.2 (omega arith) (omega (arith, digits_value_short own text 6 are.2 are.1))

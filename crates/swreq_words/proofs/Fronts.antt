@@ -21,7 +21,8 @@ some_same x y e = ap (or_else x) e
 pub bytes_same : (a b : Text) → bytes_eq a b ≡ true → a ≡ b
 bytes_same a b e = (bytes_eq-Decides a b).0 e
 
-step : (b : Bool) (x y : ℕ) (xs ys text : Text) → (y == x) ≡ b → (after xs ys ≡ Some text → ys ≡ xs ++ text) → (if b then after xs ys else None) ≡ Some text → y ∷ ys ≡ x ∷ (xs ++ text)
+step : (b : Bool) (x y : ℕ) (xs ys text : Text) → (y == x) ≡ b → (after xs ys ≡ Some text → ys ≡ xs ++ text)
+    → (if b then after xs ys else None) ≡ Some text → y ∷ ys ≡ x ∷ (xs ++ text)
 step false x y xs ys text is more e = absurd (none_some text e)
 step true x y xs ys text is more e = ap₂ (λ h r. h ∷ r) (eqb-true y x is) (more e)
 
@@ -34,7 +35,8 @@ after_is (x ∷ xs) (y ∷ ys) text e = step (y == x) x y xs ys text refl (after
 pub after_front : (front text : Text) → after front (front ++ text) ≡ Some text
 unfolding after
 after_front [] text = refl
-after_front (x ∷ xs) text = let same : (x == x) ≡ true = search rules in ap (λ b. if b then after xs (xs ++ text) else None) same ∙ after_front xs text
+after_front (x ∷ xs) text =
+    let same : (x == x) ≡ true = search rules in ap (λ b. if b then after xs (xs ++ text) else None) same ∙ after_front xs text
 
 not_after : (front word : Text) → ((rest : Text) → word ≢ front ++ rest) → (o : Option Text) → after front word ≡ o → None ≡ o
 not_after front word none None e = refl

@@ -37,7 +37,8 @@ abbrev Names : Text → Option CommandName → Type 0
 Names w None = Unit {0}
 Names w (Some n) = word_of n ≡ w
 
-names_if : (w : Text) (b : Bool) (n : CommandName) (rest : Option CommandName) → (b ≡ true → word_of n ≡ w) → Names w rest → Names w (if b then Some n else rest)
+names_if : (w : Text) (b : Bool) (n : CommandName) (rest : Option CommandName) → (b ≡ true → word_of n ≡ w) → Names w rest
+    → Names w (if b then Some n else rest)
 names_if w true n rest is more = is refl
 names_if w false n rest is more = more
 
@@ -65,7 +66,8 @@ number_there : (takes some : Bool) → takes ≡ true → (not takes || some) �
 number_there false some t e = absurd (true≢false (sym t))
 number_there true some t e = e
 
-formed_after : (n : CommandName) (ws : List Text) (o : Option Seen) → read_on (follows n) nothing_seen ws ≡ o → option_map_or (is_done (follows n)) o false ≡ true → Formed (word_of n ∷ ws)
+formed_after : (n : CommandName) (ws : List Text) (o : Option Seen) → read_on (follows n) nothing_seen ws ≡ o
+    → option_map_or (is_done (follows n)) o false ≡ true → Formed (word_of n ∷ ws)
 formed_after n ws None e is = absurd (true≢false (sym is))
 formed_after n ws (Some after) e is =
     let end = and_parts (not (is_some after.waiting)) (not (takes_number (follows n)) || after.number) is in
@@ -82,7 +84,8 @@ formed_after n ws (Some after) e is =
       counts = λ t. all.counts (number_there (takes_number (follows n)) after.number t end.1) (λ was. true≢false (sym was));
     }
 
-formed_by : (w : Text) (ws : List Text) (o : Option CommandName) → Names w o → option_map_or (λ name. are_parts (follows name) ws) o false ≡ true → Formed (w ∷ ws)
+formed_by : (w : Text) (ws : List Text) (o : Option CommandName) → Names w o
+    → option_map_or (λ name. are_parts (follows name) ws) o false ≡ true → Formed (w ∷ ws)
 formed_by w ws None is e = absurd (true≢false (sym e))
 formed_by w ws (Some n) is e = subst (λ x. Formed (x ∷ ws)) is (formed_after n ws (read_on (follows n) nothing_seen ws) refl e)
 
@@ -107,7 +110,8 @@ has_form_of words f =
 
 -- ---- what the words say
 
-counts_of : (n : CommandName) (text : Option Text) (ps : List Part) (c : Command) → text_set (codes "number") ps ≡ text → command_of n text ≡ Some c → takes_number (follows n) ≡ true
+counts_of : (n : CommandName) (text : Option Text) (ps : List Part) (c : Command) → text_set (codes "number") ps ≡ text
+    → command_of n text ≡ Some c → takes_number (follows n) ≡ true
     → is_set (codes "number") ps ≡ true
 counts_of Answer text ps c is e t = absurd (true≢false (sym t))
 counts_of Signatures text ps c is e t = absurd (true≢false (sym t))
@@ -128,7 +132,8 @@ formed_of words line says = record {
 
 -- the line of these parts
 abbrev line_in : List Part → Command → CommandLine
-line_in ps command = record { command = command; max_rules = limit_in MaxRules ps; max_length = limit_in MaxLength ps; trace = is_set (codes "trace") ps }
+line_in ps command =
+    record { command = command; max_rules = limit_in MaxRules ps; max_length = limit_in MaxLength ps; trace = is_set (codes "trace") ps }
 
 abbrev pub line_by : CommandName → List Part → Option CommandLine
 line_by n ps = option_map (line_in ps) (command_of n (text_set (codes "number") ps))
@@ -140,10 +145,14 @@ found_in n ps =
     λ l differs. ap (λ o. option_map_or number_of o (preset l)) (found (limit_name l) (follows n) ps differs) in
     ap (option_and_then (λ name. line_of name rows)) (name_is n)
     ∙ ap (λ o. option_map (line_with rows) (command_of n o)) (found (codes "number") (follows n) ps refl)
-    ∙ ap (λ (t : Bool). option_map (λ c. record { command = c; max_rules = limit_found MaxRules rows; max_length = limit_found MaxLength rows; trace = t }) (command_of n (text_set (codes "number") ps))) (trace_found (follows n) ps)
-    ∙ ap₂ (λ a b. option_map (λ c. record { command = c; max_rules = a; max_length = b; trace = is_set (codes "trace") ps }) (command_of n (text_set (codes "number") ps))) (limits MaxRules refl) (limits MaxLength refl)
+    ∙ ap (λ (t : Bool).
+    option_map (λ c. record { command = c; max_rules = limit_found MaxRules rows; max_length = limit_found MaxLength rows; trace = t })
+    (command_of n (text_set (codes "number") ps))) (trace_found (follows n) ps)
+    ∙ ap₂ (λ a b. option_map (λ c. record { command = c; max_rules = a; max_length = b; trace = is_set (codes "trace") ps })
+    (command_of n (text_set (codes "number") ps))) (limits MaxRules refl) (limits MaxLength refl)
 
-same_line : (line : CommandLine) (r l : ℕ) (t : Bool) → line.max_rules ≡ r → line.max_length ≡ l → line.trace ≡ t → record line { max_rules = r; max_length = l; trace = t } ≡ line
+same_line : (line : CommandLine) (r l : ℕ) (t : Bool) → line.max_rules ≡ r → line.max_length ≡ l → line.trace ≡ t
+    → record line { max_rules = r; max_length = l; trace = t } ≡ line
 same_line line r l t er el et =
     ap (λ x. record line { max_rules = x; max_length = l; trace = t }) (sym er)
     ∙ ap (λ x. record line { max_length = x; trace = t }) (sym el)
@@ -182,10 +191,12 @@ takes_of words e = let f = formed words e in ap (takes genreq) f.form.spelled �
 
 found_of : (words : List Text) (f : Formed words) → line_found (subcommand_of genreq words) ≡ line_by f.form.name f.form.parts
 found_of words f =
-    ap (λ ws. line_found (subcommand_of genreq ws)) f.form.spelled ∙ ap line_found (taken_of words f).finds ∙ found_in f.form.name f.form.parts
+    ap (λ ws. line_found (subcommand_of genreq ws)) f.form.spelled ∙ ap line_found (taken_of words f).finds
+    ∙ found_in f.form.name f.form.parts
 
 -- what is found is what the words say
-pub found_says : (words : List Text) (line : CommandLine) → has_form words ≡ true → line_found (subcommand_of genreq words) ≡ Some line → Says words line
+pub found_says : (words : List Text) (line : CommandLine) → has_form words ≡ true
+    → line_found (subcommand_of genreq words) ≡ Some line → Says words line
 found_says words line e is = let f = formed words e in line_says words f.form line (sym (found_of words f) ∙ is)
 
 pub says_found : (words : List Text) (line : CommandLine) → Says words line → line_found (subcommand_of genreq words) ≡ Some line
@@ -196,7 +207,8 @@ pub one_line : (words : List Text) (a b : CommandLine) → Says words a → Says
 one_line words a b x y = some_same a b (sym (says_found words a x) ∙ says_found words b y)
 
 -- the parts say a command, if the number is there that the command takes
-command_there : (n : CommandName) (ps : List Part) → (takes_number (follows n) ≡ true → is_set (codes "number") ps ≡ true) → (c : Command) × (command_of n (text_set (codes "number") ps) ≡ Some c)
+command_there : (n : CommandName) (ps : List Part) → (takes_number (follows n) ≡ true → is_set (codes "number") ps ≡ true)
+    → (c : Command) × (command_of n (text_set (codes "number") ps) ≡ Some c)
 command_there Answer ps e = (_, refl)
 command_there Signatures ps e = (_, refl)
 command_there Rules ps e = (_, refl)
@@ -220,12 +232,14 @@ says_form words line says = has_form_of words (formed_of words line says)
 
 -- the words are refused if and only if they say no command line
 abbrev pub IsUsage : List Text → Result CommandLine UsageErr → Type 0
-IsUsage words answer = (answer ≡ Err Usage → (line : CommandLine) → Says words line → ⊥) × (((line : CommandLine) → Says words line → ⊥) → answer ≡ Err Usage)
+IsUsage words answer =
+    (answer ≡ Err Usage → (line : CommandLine) → Says words line → ⊥) × (((line : CommandLine) → Says words line → ⊥) → answer ≡ Err Usage)
 
 pub usage_without : (words : List Text) → has_form words ≡ false → IsUsage words (Err Usage)
 usage_without words e = (λ same line says. true≢false (sym (says_form words line says) ∙ e), λ none. refl)
 
-pub usage_with : (words : List Text) (answer : Result CommandLine UsageErr) → has_form words ≡ true → (answer ≡ Err Usage → ⊥) → IsUsage words answer
+pub usage_with : (words : List Text) (answer : Result CommandLine UsageErr) → has_form words ≡ true
+    → (answer ≡ Err Usage → ⊥) → IsUsage words answer
 usage_with words answer e other =
     let there = line_there words e in
     (λ same line says. other same, λ none. absurd (none there.0 (found_says words there.0 e there.1)))
@@ -244,16 +258,20 @@ unfolding is_usage
 usage_memory words e = usage_with words (Err Memory) e (no_usage (Err Memory) refl)
 
 -- the answer is what was found
-found_is : (words : List Text) (answer : Result CommandLine UsageErr) (o : Option CommandLine) → (e : has_form words ≡ true) → answer ≡ ok_or o Usage → o ≡ line_found (subcommand_of genreq words)
+found_is : (words : List Text) (answer : Result CommandLine UsageErr) (o : Option CommandLine) → (e : has_form words ≡ true)
+    → answer ≡ ok_or o Usage → o ≡ line_found (subcommand_of genreq words)
     → answer ≡ Ok (line_there words e).0
 found_is words answer o e is there = is ∙ ap (λ x. ok_or x Usage) (there ∙ (line_there words e).1)
 
-pub ok_found : (words : List Text) (answer : Result CommandLine UsageErr) (o : Option CommandLine) → has_form words ≡ true → answer ≡ ok_or o Usage → o ≡ line_found (subcommand_of genreq words)
+pub ok_found : (words : List Text) (answer : Result CommandLine UsageErr) (o : Option CommandLine) → has_form words ≡ true
+    → answer ≡ ok_or o Usage → o ≡ line_found (subcommand_of genreq words)
     → IfOk answer (λ line. Says words line)
 ok_found words answer o e is there =
-    subst (λ r. IfOk r (λ line. Says words line)) (sym (found_is words answer o e is there)) (found_says words (line_there words e).0 e (line_there words e).1)
+    subst (λ r. IfOk r (λ line. Says words line)) (sym (found_is words answer o e is there))
+    (found_says words (line_there words e).0 e (line_there words e).1)
 
-pub usage_found : (words : List Text) (answer : Result CommandLine UsageErr) (o : Option CommandLine) → has_form words ≡ true → answer ≡ ok_or o Usage → o ≡ line_found (subcommand_of genreq words)
+pub usage_found : (words : List Text) (answer : Result CommandLine UsageErr) (o : Option CommandLine) → has_form words ≡ true
+    → answer ≡ ok_or o Usage → o ≡ line_found (subcommand_of genreq words)
     → IsUsage words answer
 unfolding is_usage
 usage_found words answer o e is there = usage_with words answer e (no_usage answer (ap is_usage (found_is words answer o e is there)))

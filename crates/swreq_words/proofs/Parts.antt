@@ -25,7 +25,8 @@ without_none id (r ∷ rs) e =
     let p = or_parts (bytes_eq r.id id) (has_row id rs) e in
     rw p.0 (ap (λ xs. r ∷ xs) (without_none id rs p.1))
 
-pub added : (id : Text) (change : Row → List Row) (new : Row) (rows : List Row) → has_row id rows ≡ false → at_row id change (new ∷ []) rows ≡ rows ++ new ∷ []
+pub added : (id : Text) (change : Row → List Row) (new : Row) (rows : List Row) → has_row id rows ≡ false
+    → at_row id change (new ∷ []) rows ≡ rows ++ new ∷ []
 added id change new [] e = refl
 added id change new (r ∷ rs) e =
     let p = or_parts (bytes_eq r.id id) (has_row id rs) e in
@@ -35,7 +36,8 @@ set_row_adds : (p : Part) (rows : List Row) → has_row (sets p) rows ≡ false 
 set_row_adds p rows e = ap (λ rs. with_values (sets p) (reading p) CommandLine (value_of p ∷ []) rs) (without_none (sets p) rows e)
     ∙ added (sets p) (more_values CommandLine (value_of p ∷ [])) (row_of p) rows e
 
-or_false : (id : Text) (rows : List Row) (r : Row) → has_row id (rows ++ r ∷ []) ≡ false → (has_row id rows ≡ false) × (bytes_eq r.id id ≡ false)
+or_false : (id : Text) (rows : List Row) (r : Row) → has_row id (rows ++ r ∷ []) ≡ false
+    → (has_row id rows ≡ false) × (bytes_eq r.id id ≡ false)
 or_false id [] r e = (refl, (or_parts (bytes_eq r.id id) false e).0)
 or_false id (x ∷ xs) r e =
     let p = or_parts (bytes_eq x.id id) (has_row id (xs ++ r ∷ [])) e in
@@ -55,13 +57,16 @@ record Goes (may : Follows) (name : Text) (part : Part) (h : Held) (p : ℕ) : T
   pub held : Held
   pub place : ℕ
   pub moves : (rest : List Text) → run may (between h p) (words_of part ++ rest) ≡ run may (between held place) rest
-  pub passes : (rest : List Text) → walk_passes (shape may name) [] (between held place) rest ≡ true → walk_passes (shape may name) [] (between h p) (words_of part ++ rest) ≡ true
+  pub passes : (rest : List Text) → walk_passes (shape may name) [] (between held place) rest ≡ true
+      → walk_passes (shape may name) [] (between h p) (words_of part ++ rest) ≡ true
   pub settles : Settles may held
   pub rows : rows_in may held ≡ rows_in may h ++ row_of part ∷ []
   pub waits : Waits may held place
 
-still_waits : (may : Follows) (h : Held) (p : ℕ) (part : Part) (rows : List Row) → rows ≡ rows_in may h ++ row_of part ∷ [] → Waits may h p → has_row (codes "number") rows ≡ false → p ≡ 1
-still_waits may h p part rows e w none = w (or_false (codes "number") (rows_in may h) (row_of part) (ap (λ rs. has_row (codes "number") rs) (sym e) ∙ none)).0
+still_waits : (may : Follows) (h : Held) (p : ℕ) (part : Part) (rows : List Row) → rows ≡ rows_in may h ++ row_of part ∷ [] → Waits may h p
+    → has_row (codes "number") rows ≡ false → p ≡ 1
+still_waits may h p part rows e w none =
+    w (or_false (codes "number") (rows_in may h) (row_of part) (ap (λ rs. has_row (codes "number") rs) (sym e) ∙ none)).0
 
 -- the walk passes a word, and then the rest
 passes_on : (s : Shape) (w next : Walk) (word : Text) (rest : List Text) → walked s.rules [] w word ≡ next → turn_passes s [] w word ≡ true
@@ -69,16 +74,19 @@ passes_on : (s : Shape) (w next : Walk) (word : Text) (rest : List Text) → wal
 unfolding walk_passes
 passes_on s w next word rest e turn more = and_from _ _ turn (ap (λ (v : Walk). walk_passes s [] v rest) e ∙ more)
 
-goes : (may : Follows) (name : Text) (part : Part) (h : Held) (p : ℕ) → IsOf may part → IsNew may part h → Settles may h → Waits may h p → Goes may name part h p
+goes : (may : Follows) (name : Text) (part : Part) (h : Held) (p : ℕ) → IsOf may part → IsNew may part h → Settles may h → Waits may h p
+    → Goes may name part h p
 goes may name (joined l t) h p of new s w =
     let next : Held = record h { rows = set_row (joined l t) (rows_in may h); pending = None } in
-    let step : walked (built_rules may) [] (between h p) (option_word (limit_name l) ++ (codes "=" ++ t)) ≡ between next p = walked_joined may l t h p of.0 in
+    let step : walked (built_rules may) [] (between h p) (option_word (limit_name l) ++ (codes "=" ++ t)) ≡ between next p =
+    walked_joined may l t h p of.0 in
     let grown : rows_in may next ≡ rows_in may h ++ row_of (joined l t) ∷ [] = set_row_adds (joined l t) (rows_in may h) new in
     record {
       held = next;
       place = p;
       moves = λ rest. ap (λ v. run may v rest) step;
-      passes = λ rest e. passes_on (shape may name) (between h p) (between next p) _ rest (on_shape may name _ _ _ step) (turn_joined may name l t h p of.0 s new) e;
+      passes = λ rest e. passes_on (shape may name) (between h p) (between next p) _ rest (on_shape may name _ _ _ step)
+          (turn_joined may name l t h p of.0 s new) e;
       settles = refl;
       rows = grown;
       waits = still_waits may h p (joined l t) (rows_in may next) grown w;
@@ -91,7 +99,8 @@ goes may name trace h p of new s w =
       held = next;
       place = p;
       moves = λ rest. ap (λ v. run may v rest) step;
-      passes = λ rest e. passes_on (shape may name) (between h p) (between next p) _ rest (on_shape may name _ _ _ step) (turn_trace may name h p of.0 s new) e;
+      passes = λ rest e. passes_on (shape may name) (between h p) (between next p) _ rest (on_shape may name _ _ _ step)
+          (turn_trace may name h p of.0 s new) e;
       settles = refl;
       rows = grown;
       waits = still_waits may h p trace (rows_in may next) grown w;
@@ -100,13 +109,16 @@ goes may name (apart l t) h p of new s w =
     let next : Held = with_value may (apart l t) h in
     let first : walked (built_rules may) [] (between h p) (option_word (limit_name l)) ≡ within may l h p = walked_first may l t h p of.0 in
     let second : walked (built_rules may) [] (within may l h p) t ≡ between next p = walked_second may l t h p of in
-    let grown : rows_in may next ≡ rows_in may h ++ row_of (apart l t) ∷ [] = rows_of_value may (apart l t) h of.0 ∙ set_row_adds (apart l t) (rows_in may h) new in
+    let grown : rows_in may next ≡ rows_in may h ++ row_of (apart l t) ∷ [] =
+    rows_of_value may (apart l t) h of.0 ∙ set_row_adds (apart l t) (rows_in may h) new in
     record {
       held = next;
       place = p;
       moves = λ rest. ap (λ v. run may v (t ∷ rest)) first ∙ ap (λ v. run may v rest) second;
-      passes = λ rest e. passes_on (shape may name) (between h p) (within may l h p) _ (t ∷ rest) (on_shape may name _ _ _ first) (turn_first may name l t h p of.0 s)
-          (passes_on (shape may name) (within may l h p) (between next p) _ rest (on_shape may name _ _ _ second) (turn_second may name l t h p of) e);
+      passes = λ rest e. passes_on (shape may name) (between h p) (within may l h p) _ (t ∷ rest) (on_shape may name _ _ _ first)
+          (turn_first may name l t h p of.0 s)
+          (passes_on (shape may name) (within may l h p) (between next p) _ rest (on_shape may name _ _ _ second)
+          (turn_second may name l t h p of) e);
       settles = settles_value may l t h of.0 new;
       rows = grown;
       waits = still_waits may h p (apart l t) (rows_in may next) grown w;
@@ -117,15 +129,18 @@ goes OptionsAndNumber name (number t) h p of new s w =
     let may = OptionsAndNumber in
     let next : Held = with_value may (number t) h in
     let step : walked (built_rules may) [] (between h 1) t ≡ between next 2 = walked_number t h of.1 in
-    let grown : rows_in may next ≡ rows_in may h ++ row_of (number t) ∷ [] = rows_of_value may (number t) h refl ∙ set_row_adds (number t) (rows_in may h) new in
+    let grown : rows_in may next ≡ rows_in may h ++ row_of (number t) ∷ [] =
+    rows_of_value may (number t) h refl ∙ set_row_adds (number t) (rows_in may h) new in
     subst (λ q. Goes may name (number t) h q) (sym (w new)) (record {
       held = next;
       place = 2;
       moves = λ rest. ap (λ v. run may v rest) step;
-      passes = λ rest e. passes_on (shape may name) (between h 1) (between next 2) _ rest (on_shape may name _ _ _ step) (turn_number name t h of.1 s) e;
+      passes = λ rest e.
+          passes_on (shape may name) (between h 1) (between next 2) _ rest (on_shape may name _ _ _ step) (turn_number name t h of.1 s) e;
       settles = settles_number t h new;
       rows = grown;
-      waits = λ none. absurd (true≢false (or_false (codes "number") (rows_in may h) (row_of (number t)) (ap (λ rs. has_row (codes "number") rs) (sym grown) ∙ none)).1);
+      waits = λ none. absurd (true≢false (or_false (codes "number") (rows_in may h) (row_of (number t))
+          (ap (λ rs. has_row (codes "number") rs) (sym grown) ∙ none)).1);
     })
 
 -- ---- all parts
@@ -151,7 +166,8 @@ nothing_left : (s : Shape) (w : Walk) → walk_passes s [] w [] ≡ true
 unfolding walk_passes
 nothing_left s w = refl
 
-pub gone : (may : Follows) (name : Text) (ps : List Part) (h : Held) (p : ℕ) → AreOf may ps → AreNew (rows_in may h) ps → Settles may h → Waits may h p → Gone may name ps h p
+pub gone : (may : Follows) (name : Text) (ps : List Part) (h : Held) (p : ℕ) → AreOf may ps → AreNew (rows_in may h) ps → Settles may h
+    → Waits may h p → Gone may name ps h p
 gone may name [] h p of new s w = record {
   held = h;
   place = p;
@@ -179,19 +195,22 @@ kept false rows = refl
 kept true rows = refl
 
 no_default : (rows : List Row) (a : Rule) → a.defaults ≡ [] → with_default rows a ≡ rows
-no_default rows a e = ap (λ d. if has_row a.id rows then rows else default_rows a.id (reading_by a) d rows) e ∙ kept (has_row a.id rows) rows
+no_default rows a e =
+    ap (λ d. if has_row a.id rows then rows else default_rows a.id (reading_by a) d rows) e ∙ kept (has_row a.id rows) rows
 
 rule_at : Follows → ℕ → Rule
 rule_at may i = unwrap_or (slice_get (built_rules may) i) number_rule
 
 -- the row of a trace that is not set
 abbrev pub no_trace : Row
-no_trace = record { id = codes "trace"; values = codes "false" ∷ []; count = None; source = Some DefaultValue; reading = reading_of vp.Bool }
+no_trace =
+    record { id = codes "trace"; values = codes "false" ∷ []; count = None; source = Some DefaultValue; reading = reading_of vp.Bool }
 
 -- the rows, with the row of the trace if options may stand
 abbrev pub with_trace : Follows → List Row → List Row
 with_trace Nothing rows = rows
-with_trace _ rows = if has_row (codes "trace") rows then rows else with_values (codes "trace") (reading_of vp.Bool) DefaultValue (codes "false" ∷ []) rows
+with_trace _ rows =
+    if has_row (codes "trace") rows then rows else with_values (codes "trace") (reading_of vp.Bool) DefaultValue (codes "false" ∷ []) rows
 
 pub finished_as : (may : Follows) (h : Held) → finished (built_rules may) h ≡ with_trace may (rows_in may h)
 unfolding rule_at
@@ -200,10 +219,12 @@ finished_as Options h =
     let may = Options in
     let rows = rows_in may h in
     no_default (with_default (with_default (with_default rows (rule_at may 0)) (rule_at may 1)) (rule_at may 2)) (rule_at may 3) refl
-    ∙ ap (λ rs. with_default rs (rule_at may 2)) (no_default (with_default rows (rule_at may 0)) (rule_at may 1) refl ∙ no_default rows (rule_at may 0) refl)
+    ∙ ap (λ rs. with_default rs (rule_at may 2))
+    (no_default (with_default rows (rule_at may 0)) (rule_at may 1) refl ∙ no_default rows (rule_at may 0) refl)
 finished_as OptionsAndNumber h =
     let may = OptionsAndNumber in
     let rows = rows_in may h in
     let three = with_default (with_default (with_default rows (rule_at may 0)) (rule_at may 1)) (rule_at may 2) in
     no_default (with_default three (rule_at may 3)) (rule_at may 4) refl ∙ no_default three (rule_at may 3) refl
-    ∙ ap (λ rs. with_default rs (rule_at may 2)) (no_default (with_default rows (rule_at may 0)) (rule_at may 1) refl ∙ no_default rows (rule_at may 0) refl)
+    ∙ ap (λ rs. with_default rs (rule_at may 2))
+    (no_default (with_default rows (rule_at may 0)) (rule_at may 1) refl ∙ no_default rows (rule_at may 0) refl)

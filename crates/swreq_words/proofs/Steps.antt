@@ -12,11 +12,13 @@ pub read_none : (may : Follows) (seen : Seen) → read_on may seen [] ≡ Some s
 unfolding read_on
 read_none may seen = refl
 
-pub read_more : (may : Follows) (seen : Seen) (word : Text) (words : List Text) → read_on may seen (word ∷ words) ≡ option_and_then (λ next. read_on may next words) (with_next may seen word)
+pub read_more : (may : Follows) (seen : Seen) (word : Text) (words : List Text)
+    → read_on may seen (word ∷ words) ≡ option_and_then (λ next. read_on may next words) (with_next may seen word)
 unfolding read_on
 read_more may seen word words = refl
 
-cut : {S : Type 0} → (word : S) (words : List S) (i : ℕ) → i < length words → word ≡ get_or words i word → drop i words ≡ word ∷ drop (i + 1) words
+cut : {S : Type 0} → (word : S) (words : List S) (i : ℕ) → i < length words → word ≡ get_or words i word
+    → drop i words ≡ word ∷ drop (i + 1) words
 cut word words i within there = drop_more words i word within ∙ ap (λ w. w ∷ drop (i + 1) words) (sym there)
 
 read_word : {S : Type 0} → (bytes : S → Text) (may : Follows) (seen : Seen) (answer : Option Seen) (word : S) (words : List S) (i : ℕ)
@@ -32,10 +34,12 @@ pub refused : {S : Type 0} → (bytes : S → Text) (may : Follows) (seen : Seen
     → i < length words → word ≡ get_or words i word → answer ≡ with_next may seen (bytes word) → answer ≡ None
     → false ≡ are_parts may (map bytes words)
 refused bytes may seen answer word words i so_far within there is none =
-    ap (λ o. option_map_or (is_done may) o false) (sym (ap (option_and_then (λ next. read_on may next (map bytes (drop (i + 1) words)))) none)
+    ap (λ o. option_map_or (is_done may) o false)
+    (sym (ap (option_and_then (λ next. read_on may next (map bytes (drop (i + 1) words)))) none)
     ∙ sym (read_word bytes may seen answer word words i (cut word words i within there) is) ∙ so_far)
 
-pub goes_on : {S : Type 0} → (bytes : S → Text) (may : Follows) (seen next : Seen) (answer : Option Seen) (word : S) (words : List S) (i : ℕ)
+pub goes_on : {S : Type 0}
+    → (bytes : S → Text) (may : Follows) (seen next : Seen) (answer : Option Seen) (word : S) (words : List S) (i : ℕ)
     → read_on may seen (map bytes (drop i words)) ≡ read_on may nothing_seen (map bytes words)
     → i < length words → word ≡ get_or words i word → answer ≡ with_next may seen (bytes word) → answer ≡ Some next
     → read_on may next (map bytes (drop (i + 1) words)) ≡ read_on may nothing_seen (map bytes words)
@@ -47,4 +51,5 @@ pub ended : {S : Type 0} → (bytes : S → Text) (may : Follows) (seen : Seen) 
     → read_on may seen (map bytes (drop i words)) ≡ read_on may nothing_seen (map bytes words)
     → length words ≤ i → is_done may seen ≡ are_parts may (map bytes words)
 ended bytes may seen words i so_far all =
-    ap (λ o. option_map_or (is_done may) o false) (sym (read_none may seen) ∙ ap (λ ws. read_on may seen (map bytes ws)) (sym (drop_all i words all)) ∙ so_far)
+    ap (λ o. option_map_or (is_done may) o false)
+    (sym (read_none may seen) ∙ ap (λ ws. read_on may seen (map bytes ws)) (sym (drop_all i words all)) ∙ so_far)

@@ -19,8 +19,10 @@ use Rattle.swreq_words.proofs.Fronts.{none_some, some_same, bytes_same, after_is
 -- what was seen agrees with the list of what was set before
 abbrev pub Holds : Seen → List Text → Type 0
 Holds seen before =
-    (seen.max_rules ≡ list_any (λ other. bytes_eq other (codes "max-rules")) before) × (seen.max_length ≡ list_any (λ other. bytes_eq other (codes "max-length")) before)
-    × (seen.trace ≡ list_any (λ other. bytes_eq other (codes "trace")) before) × (seen.number ≡ list_any (λ other. bytes_eq other (codes "number")) before)
+    (seen.max_rules ≡ list_any (λ other. bytes_eq other (codes "max-rules")) before)
+    × (seen.max_length ≡ list_any (λ other. bytes_eq other (codes "max-length")) before)
+    × (seen.trace ≡ list_any (λ other. bytes_eq other (codes "trace")) before)
+    × (seen.number ≡ list_any (λ other. bytes_eq other (codes "number")) before)
 
 -- the part sets what was not set before, and is seen next
 pub record Puts (seen next : Seen) (part : Part) : Type 0 where
@@ -38,7 +40,8 @@ pub record Reads (may : Follows) (seen after : Seen) (words : List Text) : Type 
   pub counts : after.number ≡ true → (seen.number ≡ true → ⊥) → is_set (codes "number") parts ≡ true
 
 -- the words of a part, and then words that are read
-tell : (may : Follows) (seen next after : Seen) (part : Part) (words : List Text) → may_follow may part ≡ true → is_in_range part ≡ true → Puts seen next part
+tell : (may : Follows) (seen next after : Seen) (part : Part) (words : List Text) → may_follow may part ≡ true
+    → is_in_range part ≡ true → Puts seen next part
     → Reads may next after words → Reads may seen after (words_of part ++ words)
 tell may seen next after part words follows ranges puts more = record {
   parts = part ∷ more.parts;
@@ -48,7 +51,8 @@ tell may seen next after part words follows ranges puts more = record {
   once = λ before holds. and_from _ _ (ap not (puts.new before holds)) (more.once (sets part ∷ before) (puts.holds before holds));
   counts = λ is was. counted (next.number) refl is was;
 } where
-  counted : (b : Bool) → next.number ≡ b → after.number ≡ true → (seen.number ≡ true → ⊥) → is_set (codes "number") (part ∷ more.parts) ≡ true
+  counted : (b : Bool) → next.number ≡ b → after.number ≡ true → (seen.number ≡ true → ⊥)
+      → is_set (codes "number") (part ∷ more.parts) ≡ true
   counted true e is was = or_left _ _ (puts.counts e was)
   counted false e is was = or_right _ _ (more.counts is (λ yes. true≢false (sym yes ∙ e)))
 
@@ -71,16 +75,20 @@ limited seen next MaxRules text e =
     subst (λ x. Limited seen x MaxRules text) n.2 (record {
       waits = refl;
       ranges = n.1;
-      puts_apart = record { new = λ before h. sym h.0 ∙ n.0; holds = λ before h. (refl, h.1, h.2, h.3); counts = λ is was. absurd (was is) };
-      puts_joined = record { new = λ before h. sym h.0 ∙ n.0; holds = λ before h. (refl, h.1, h.2, h.3); counts = λ is was. absurd (was is) };
+      puts_apart =
+          record { new = λ before h. sym h.0 ∙ n.0; holds = λ before h. (refl, h.1, h.2, h.3); counts = λ is was. absurd (was is) };
+      puts_joined =
+          record { new = λ before h. sym h.0 ∙ n.0; holds = λ before h. (refl, h.1, h.2, h.3); counts = λ is was. absurd (was is) };
     })
 limited seen next MaxLength text e =
     let n = new_if seen.max_length (is_number (greatest MaxLength) text) (record seen { waiting = None; max_length = true }) next e in
     subst (λ x. Limited seen x MaxLength text) n.2 (record {
       waits = refl;
       ranges = n.1;
-      puts_apart = record { new = λ before h. sym h.1 ∙ n.0; holds = λ before h. (h.0, refl, h.2, h.3); counts = λ is was. absurd (was is) };
-      puts_joined = record { new = λ before h. sym h.1 ∙ n.0; holds = λ before h. (h.0, refl, h.2, h.3); counts = λ is was. absurd (was is) };
+      puts_apart =
+          record { new = λ before h. sym h.1 ∙ n.0; holds = λ before h. (h.0, refl, h.2, h.3); counts = λ is was. absurd (was is) };
+      puts_joined =
+          record { new = λ before h. sym h.1 ∙ n.0; holds = λ before h. (h.0, refl, h.2, h.3); counts = λ is was. absurd (was is) };
     })
 
 pub record Put (seen next : Seen) (part : Part) : Type 0 where
@@ -130,7 +138,8 @@ spells_if : (w : Text) (b : Bool) (x y : Meaning) → (b ≡ true → Spells w x
 spells_if w true x y spells otherwise = spells refl
 spells_if w false x y spells otherwise = otherwise
 
-spells_set : (w : Text) (l : Limit) (next : Meaning) (o : Option Text) → after (front_of l) w ≡ o → Spells w next → Spells w (set_or l o next)
+spells_set : (w : Text) (l : Limit) (next : Meaning) (o : Option Text) → after (front_of l) w ≡ o → Spells w next
+    → Spells w (set_or l o next)
 spells_set w l next None e otherwise = otherwise
 spells_set w l next (Some t) e otherwise = after_is (front_of l) w t e ∙ append_assoc (option_word (limit_name l)) (codes "=") t
 
@@ -139,7 +148,8 @@ spelled_one w = spells_if w (bytes_eq w (option_word (codes "trace"))) traces _ 
     (spells_set w MaxRules _ _ refl (spells_set w MaxLength other _ refl tt))
 
 spelled : (w : Text) → Spells w (meaning_of w)
-spelled w = spells_if w (bytes_eq w (option_word (limit_name MaxRules))) (opens MaxRules) _ (bytes_same w (option_word (limit_name MaxRules)))
+spelled w =
+    spells_if w (bytes_eq w (option_word (limit_name MaxRules))) (opens MaxRules) _ (bytes_same w (option_word (limit_name MaxRules)))
     (spells_if w (bytes_eq w (option_word (limit_name MaxLength))) (opens MaxLength) _ (bytes_same w (option_word (limit_name MaxLength)))
     (spelled_one w))
 
@@ -162,32 +172,40 @@ goes Options seen next w e = record { apart_follows = λ l t. refl; joined_follo
 goes OptionsAndNumber seen next w e = record { apart_follows = λ l t. refl; joined_follows = λ l t. refl; trace_follows = refl; reads = e }
 
 abbrev Tells : Follows → Seen → Seen → List Text → Type 0
-Tells may seen after ws = (seen.waiting ≡ None → Reads may seen after ws) × ((l : Limit) → seen.waiting ≡ Some l → Reads may (record seen { waiting = None }) after (option_word (limit_name l) ∷ ws))
+Tells may seen after ws = (seen.waiting ≡ None → Reads may seen after ws)
+    × ((l : Limit) → seen.waiting ≡ Some l → Reads may (record seen { waiting = None }) after (option_word (limit_name l) ∷ ws))
 
 -- if nothing waits in a state, clearing what waits does not change it
 calm : (s : Seen) → s.waiting ≡ None → record s { waiting = None } ≡ s
 calm s w = ap (λ x. record s { waiting = x }) (sym w)
 
-told_word : (may : Follows) (seen next after : Seen) (w : Text) (ws : List Text) (meaning : Meaning) → Goes may seen next w → Spells w meaning → seen.waiting ≡ None
+told_word : (may : Follows) (seen next after : Seen) (w : Text) (ws : List Text) (meaning : Meaning) → Goes may seen next w
+    → Spells w meaning → seen.waiting ≡ None
     → with_meaning may seen w meaning ≡ Some next → Tells may next after ws → Reads may seen after (w ∷ ws)
 told_word may seen next after w ws (opens l) go spelt calmly e more =
     let is = some_same (record seen { waiting = Some l }) next e in
-    let from : Reads may (record next { waiting = None }) after (option_word (limit_name l) ∷ ws) = more.1 l (sym (ap (λ (x : Seen). x.waiting) is)) in
+    let from : Reads may (record next { waiting = None }) after (option_word (limit_name l) ∷ ws) =
+    more.1 l (sym (ap (λ (x : Seen). x.waiting) is)) in
     let same : record next { waiting = None } ≡ seen = sym (ap (λ (x : Seen). record x { waiting = None }) is) ∙ calm seen calmly in
-    subst (λ x. Reads may x after (w ∷ ws)) same (subst (λ (x : Text). Reads may (record next { waiting = None }) after (x ∷ ws)) (sym spelt) from)
+    subst (λ x. Reads may x after (w ∷ ws)) same
+    (subst (λ (x : Text). Reads may (record next { waiting = None }) after (x ∷ ws)) (sym spelt) from)
 told_word may seen next after w ws (sets_limit l t) go spelt calmly e more =
     let one = limited seen next l t e in
     let from : Reads may (record seen { waiting = None }) after ((option_word (limit_name l) ++ (codes "=" ++ t)) ∷ ws) =
-    tell may (record seen { waiting = None }) next after (joined l t) ws (go.joined_follows l t) one.ranges one.puts_joined (more.0 one.waits) in
-    subst (λ x. Reads may x after (w ∷ ws)) (calm seen calmly) (subst (λ (x : Text). Reads may (record seen { waiting = None }) after (x ∷ ws)) (sym spelt) from)
+    tell may (record seen { waiting = None }) next after (joined l t) ws
+    (go.joined_follows l t) one.ranges one.puts_joined (more.0 one.waits) in
+    subst (λ x. Reads may x after (w ∷ ws)) (calm seen calmly)
+    (subst (λ (x : Text). Reads may (record seen { waiting = None }) after (x ∷ ws)) (sym spelt) from)
 told_word may seen next after w ws traces go spelt calmly e more =
     let one = traced seen next e in
-    subst (λ (x : Text). Reads may seen after (x ∷ ws)) (sym spelt) (tell may seen next after trace ws go.trace_follows refl one.puts (more.0 (one.waits calmly)))
+    subst (λ (x : Text). Reads may seen after (x ∷ ws)) (sym spelt)
+    (tell may seen next after trace ws go.trace_follows refl one.puts (more.0 (one.waits calmly)))
 told_word may seen next after w ws other go spelt calmly e more =
     let one = numbered may seen next w e in
     tell may seen next after (number w) ws one.follows one.ranges one.put.puts (more.0 (one.put.waits calmly))
 
-pub told : (may : Follows) (ws : List Text) (seen after : Seen) → read_on may seen ws ≡ Some after → after.waiting ≡ None → Tells may seen after ws
+pub told : (may : Follows) (ws : List Text) (seen after : Seen) → read_on may seen ws ≡ Some after → after.waiting ≡ None
+    → Tells may seen after ws
 unfolding read_on
 told may [] seen after e ended =
     let same = some_same seen after e in (
@@ -205,8 +223,10 @@ told may (w ∷ ws) seen after e ended =
     let b = bound (λ next. read_on may next ws) (with_next may seen w) after e in
     let more = told may ws b.0 after b.2 ended in
     let go = goes may seen b.0 w b.1 in (
-      λ calmly. told_word may seen b.0 after w ws (meaning_of w) go (spelled w) calmly (ap (λ o. with_word may seen w o) (sym calmly) ∙ go.reads) more,
+      λ calmly. told_word may seen b.0 after w ws (meaning_of w) go (spelled w) calmly
+          (ap (λ o. with_word may seen w o) (sym calmly) ∙ go.reads) more,
       λ l waits.
           let one = limited seen b.0 l w (ap (λ o. with_word may seen w o) (sym waits) ∙ go.reads) in
-          tell may (record seen { waiting = None }) b.0 after (apart l w) ws (go.apart_follows l w) one.ranges one.puts_apart (more.0 one.waits),
+          tell may (record seen { waiting = None }) b.0 after (apart l w) ws
+          (go.apart_follows l w) one.ranges one.puts_apart (more.0 one.waits),
     )

@@ -31,7 +31,8 @@ trace_row Nothing rows = []
 trace_row _ rows = if has_row (codes "trace") rows then [] else no_trace ∷ []
 
 trace_if : (rows : List Row) (b : Bool) → has_row (codes "trace") rows ≡ b
-    → (if b then rows else with_values (codes "trace") (reading_of vp.Bool) DefaultValue (codes "false" ∷ []) rows) ≡ rows ++ (if b then [] else no_trace ∷ [])
+    → (if b then rows else with_values (codes "trace") (reading_of vp.Bool) DefaultValue (codes "false" ∷ []) rows)
+    ≡ rows ++ (if b then [] else no_trace ∷ [])
 trace_if rows true e = sym (append-nil rows)
 trace_if rows false e = added (codes "trace") (more_values DefaultValue (codes "false" ∷ [])) no_trace rows e
 
@@ -65,7 +66,8 @@ defaults_pass Nothing = refl
 defaults_pass Options = refl
 defaults_pass OptionsAndNumber = refl
 
-valid_at : (may : Follows) (name : Text) (rows : List Row) → (may ≡ OptionsAndNumber → is_given (codes "number") rows ≡ true) → is_valid (shape may name) rows false ≡ true
+valid_at : (may : Follows) (name : Text) (rows : List Row) → (may ≡ OptionsAndNumber → is_given (codes "number") rows ≡ true)
+    → is_valid (shape may name) rows false ≡ true
 valid_at Nothing name rows e = refl
 valid_at Options name rows e = refl
 valid_at OptionsAndNumber name rows e = rw (e refl) refl
@@ -101,15 +103,18 @@ leaf_at may name ps of new has_number =
     let words = flat_map words_of ps in
     let all = gone may name ps nothing_held 1 of (subst (λ rs. AreNew rs ps) (nothing_yet may) new) (nothing_settles may) (λ _. refl) in
     let end : finished (built_rules may) all.held ≡ rows_of_parts may ps =
-    finished_as may all.held ∙ ap (with_trace may) (all.rows ∙ ap (λ rs. rs ++ map row_of ps) (sym (nothing_yet may))) ∙ trace_added may (map row_of ps) in
+    finished_as may all.held ∙ ap (with_trace may) (all.rows ∙ ap (λ rs. rs ++ map row_of ps) (sym (nothing_yet may)))
+    ∙ trace_added may (map row_of ps) in
     record {
       passes = and_from _ _ all.passes
           (ap₂ (λ c again. end_passes c again (shape may name) (run_by c words)) (same_rules may name) (same_again may name)
           ∙ ap (λ (w : Walk). end_passes (built_rules may) false (shape may name) w) all.moves
           ∙ and_from _ _ all.settles (and_from _ _ (defaults_pass may)
           (ap (λ rs. is_valid (shape may name) rs false) end
-          ∙ valid_at may name (rows_of_parts may ps) (λ e. given_on (codes "number") (map row_of ps) (trace_row may (map row_of ps)) (has_number e)))));
-      rows = ap (λ c. finished c (run_by c words).held) (same_rules may name) ∙ ap (λ (w : Walk). finished (built_rules may) w.held) all.moves ∙ end;
+          ∙ valid_at may name (rows_of_parts may ps)
+          (λ e. given_on (codes "number") (map row_of ps) (trace_row may (map row_of ps)) (has_number e)))));
+      rows = ap (λ c. finished c (run_by c words).held) (same_rules may name)
+          ∙ ap (λ (w : Walk). finished (built_rules may) w.held) all.moves ∙ end;
     }
 
 -- ---- the first word, and the top command
@@ -128,7 +133,8 @@ simple = refl
 abbrev met_at : Text → List Text → Walk
 met_at name words = record (between nothing_held 1) { stopped = Some (name, words) }
 
-stays : (name : Text) (so_far words : List Text) → fold (walked top_shape.rules top_names) (met_at name so_far) words ≡ met_at name (so_far ++ words)
+stays : (name : Text) (so_far words : List Text)
+    → fold (walked top_shape.rules top_names) (met_at name so_far) words ≡ met_at name (so_far ++ words)
 unfolding walked
 stays name so_far [] = ap (met_at name) (sym (append-nil so_far))
 stays name so_far (w ∷ ws) = stays name (so_far ++ w ∷ []) ws ∙ ap (met_at name) (append_assoc so_far (w ∷ []) ws)
@@ -205,8 +211,10 @@ taken n ps of new has_number =
           (ap (λ (w : Walk). entered_passes (built genreq) w.stopped) end
           ∙ ap (λ o. option_map_or (λ s. level_passes s [] nothing_held ws false) o true) (found_of n) ∙ leaf.passes)
           (and_from _ _ (top_passes name ws (step_of n) (turn_of n))
-          (ap (λ (w : Walk). settle_passes top_shape.rules top_shape.args_override_self w.held && (list_all default_passes top_shape.rules && is_valid top_shape (finished top_shape.rules w.held) (is_some (entered (built genreq) w.stopped)))) end
-          ∙ ap (λ o. is_valid top_shape (finished top_shape.rules nothing_held) (is_some (option_map (λ s. rows_at s ws) o))) (found_of n))));
+          (ap (λ (w : Walk). settle_passes top_shape.rules top_shape.args_override_self w.held && (list_all default_passes top_shape.rules
+          && is_valid top_shape (finished top_shape.rules w.held) (is_some (entered (built genreq) w.stopped)))) end
+          ∙
+          ap (λ o. is_valid top_shape (finished top_shape.rules nothing_held) (is_some (option_map (λ s. rows_at s ws) o))) (found_of n))));
       finds = ap (λ (w : Walk). entered (built genreq) w.stopped) end ∙ ap (option_map (λ s. rows_at s ws)) (found_of n)
           ∙ ap₂ (λ a b. Some (a, b)) (name_of_shape (follows n) name) leaf.rows;
     }

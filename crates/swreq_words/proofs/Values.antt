@@ -33,12 +33,14 @@ row_last id (x ∷ xs) r = ap (λ b. bytes_eq x.id id || b) (row_last id xs r) �
 abbrev AreOfThese : List Row → List Text → Type 0
 AreOfThese rows before = (id : Text) → has_row id rows ≡ list_any (λ other. bytes_eq other id) before
 
-pub are_new : (rows : List Row) (before : List Text) (parts : List Part) → AreOfThese rows before → is_each_once before parts ≡ true → AreNew rows parts
+pub are_new : (rows : List Row) (before : List Text) (parts : List Part) → AreOfThese rows before
+    → is_each_once before parts ≡ true → AreNew rows parts
 are_new rows before [] same once = tt
 are_new rows before (p ∷ ps) same once =
     let o = and_parts (not (list_any (λ other. bytes_eq other (sets p)) before)) (is_each_once (sets p ∷ before) ps) once in (
       same (sets p) ∙ not-true _ o.0,
-      are_new (rows ++ row_of p ∷ []) (sets p ∷ before) ps (λ id. row_last id rows (row_of p) ∙ ap (λ b. bytes_eq (sets p) id || b) (same id)) o.1,
+      are_new (rows ++ row_of p ∷ []) (sets p ∷ before) ps
+          (λ id. row_last id rows (row_of p) ∙ ap (λ b. bytes_eq (sets p) id || b) (same id)) o.1,
     )
 
 -- ---- what is set
@@ -51,9 +53,11 @@ given_if false x rest set explicit more e = more e
 
 pub given : (what : Text) (ps : List Part) → is_set what ps ≡ true → is_given what (map row_of ps) ≡ true
 given what [] e = absurd (true≢false (sym e))
-given what (p ∷ ps) e = given_if (bytes_eq (sets p) what) (row_of p) (find (λ r. bytes_eq r.id what) (map row_of ps)) (is_set what ps) refl (given what ps) e
+given what (p ∷ ps) e =
+    given_if (bytes_eq (sets p) what) (row_of p) (find (λ r. bytes_eq r.id what) (map row_of ps)) (is_set what ps) refl (given what ps) e
 
-set_if : (b : Bool) (t u : Text) (rest : Option Text) (set : Bool) → (rest ≡ Some u → set ≡ true) → (if b then Some t else rest) ≡ Some u → (b || set) ≡ true
+set_if : (b : Bool) (t u : Text) (rest : Option Text) (set : Bool) → (rest ≡ Some u → set ≡ true)
+    → (if b then Some t else rest) ≡ Some u → (b || set) ≡ true
 set_if true t u rest set more e = refl
 set_if false t u rest set more e = more e
 
@@ -61,7 +65,8 @@ pub text_is_set : (what u : Text) (ps : List Part) → text_set what ps ≡ Some
 text_is_set what u [] e = absurd (none_some u e)
 text_is_set what u (p ∷ ps) e = set_if (bytes_eq (sets p) what) (text_of p) u (text_set what ps) (is_set what ps) (text_is_set what u ps) e
 
-some_if : (b : Bool) (t : Text) (rest : Option Text) (set : Bool) → (set ≡ true → (u : Text) × (rest ≡ Some u)) → (b || set) ≡ true → (u : Text) × ((if b then Some t else rest) ≡ Some u)
+some_if : (b : Bool) (t : Text) (rest : Option Text) (set : Bool) → (set ≡ true → (u : Text) × (rest ≡ Some u)) → (b || set) ≡ true
+    → (u : Text) × ((if b then Some t else rest) ≡ Some u)
 some_if true t rest set more e = (t, refl)
 some_if false t rest set more e = more e
 
@@ -72,13 +77,15 @@ set_text what (p ∷ ps) e = some_if (bytes_eq (sets p) what) (text_of p) (text_
 abbrev value : Row → Option Text
 value r = slice_get r.values 0
 
-found_if : (b : Bool) (x : Row) (t : Text) (rest : Option Row) (text : Option Text) → (b ≡ true → value x ≡ Some t) → option_and_then value rest ≡ text
+found_if : (b : Bool) (x : Row) (t : Text) (rest : Option Row) (text : Option Text) → (b ≡ true → value x ≡ Some t)
+    → option_and_then value rest ≡ text
     → option_and_then value (if b then Some x else rest) ≡ (if b then Some t else text)
 found_if true x t rest text here more = here refl
 found_if false x t rest text here more = more
 
 -- the value of a part other than the trace is its text
-value_is : (what : Text) (p : Part) → bytes_eq (codes "trace") what ≡ false → bytes_eq (sets p) what ≡ true → value (row_of p) ≡ Some (text_of p)
+value_is : (what : Text) (p : Part) → bytes_eq (codes "trace") what ≡ false → bytes_eq (sets p) what ≡ true
+    → value (row_of p) ≡ Some (text_of p)
 value_is what (apart l t) differs e = refl
 value_is what (joined l t) differs e = refl
 value_is what (number t) differs e = refl
@@ -88,19 +95,22 @@ text_found : (what : Text) (ps : List Part) (last : List Row) → bytes_eq (code
     → first_of what (map row_of ps ++ last) ≡ text_set what ps
 text_found what [] last differs none = none
 text_found what (p ∷ ps) last differs none =
-    found_if (bytes_eq (sets p) what) (row_of p) (text_of p) (find (λ r. bytes_eq r.id what) (map row_of ps ++ last)) (text_set what ps) (value_is what p differs) (text_found what ps last differs none)
+    found_if (bytes_eq (sets p) what) (row_of p) (text_of p) (find (λ r. bytes_eq r.id what) (map row_of ps ++ last)) (text_set what ps)
+    (value_is what p differs) (text_found what ps last differs none)
 
 last_if : (what : Text) (b : Bool) → bytes_eq (codes "trace") what ≡ false → first_of what (if b then [] else no_trace ∷ []) ≡ None
 last_if what true differs = refl
 last_if what false differs = ap (λ b. option_and_then value (if b then Some no_trace else None)) differs
 
-last_none : (what : Text) (may : Follows) (rows : List Row) → bytes_eq (codes "trace") what ≡ false → first_of what (trace_row may rows) ≡ None
+last_none : (what : Text) (may : Follows) (rows : List Row) → bytes_eq (codes "trace") what ≡ false
+    → first_of what (trace_row may rows) ≡ None
 last_none what Nothing rows differs = refl
 last_none what Options rows differs = last_if what (has_row (codes "trace") rows) differs
 last_none what OptionsAndNumber rows differs = last_if what (has_row (codes "trace") rows) differs
 
 -- the text that is found for anything but the trace is the text that the parts set
-pub found : (what : Text) (may : Follows) (ps : List Part) → bytes_eq (codes "trace") what ≡ false → first_of what (rows_of_parts may ps) ≡ text_set what ps
+pub found : (what : Text) (may : Follows) (ps : List Part) → bytes_eq (codes "trace") what ≡ false
+    → first_of what (rows_of_parts may ps) ≡ text_set what ps
 found what may ps differs = text_found what ps (trace_row may (map row_of ps)) differs (last_none what may (map row_of ps) differs)
 
 -- ---- the trace
@@ -109,7 +119,8 @@ has_row_is : (what : Text) (ps : List Part) → has_row what (map row_of ps) ≡
 has_row_is what [] = refl
 has_row_is what (p ∷ ps) = ap (λ b. bytes_eq (sets p) what || b) (has_row_is what ps)
 
-trace_there : (ps : List Part) (last : List Row) → is_set (codes "trace") ps ≡ true → is_true (first_of (codes "trace") (map row_of ps ++ last)) ≡ true
+trace_there : (ps : List Part) (last : List Row) → is_set (codes "trace") ps ≡ true
+    → is_true (first_of (codes "trace") (map row_of ps ++ last)) ≡ true
 trace_there [] last e = absurd (true≢false (sym e))
 trace_there (trace ∷ ps) last e = refl
 trace_there (apart MaxRules t ∷ ps) last e = trace_there ps last e
@@ -118,7 +129,8 @@ trace_there (joined MaxRules t ∷ ps) last e = trace_there ps last e
 trace_there (joined MaxLength t ∷ ps) last e = trace_there ps last e
 trace_there (number t ∷ ps) last e = trace_there ps last e
 
-trace_away : (ps : List Part) (last : List Row) → is_set (codes "trace") ps ≡ false → is_true (first_of (codes "trace") last) ≡ false → is_true (first_of (codes "trace") (map row_of ps ++ last)) ≡ false
+trace_away : (ps : List Part) (last : List Row) → is_set (codes "trace") ps ≡ false → is_true (first_of (codes "trace") last) ≡ false
+    → is_true (first_of (codes "trace") (map row_of ps ++ last)) ≡ false
 trace_away [] last e none = none
 trace_away (trace ∷ ps) last e none = absurd (true≢false e)
 trace_away (apart MaxRules t ∷ ps) last e none = trace_away ps last e none
@@ -136,7 +148,8 @@ last_trace Nothing rows = refl
 last_trace Options rows = last_trace_if (has_row (codes "trace") rows)
 last_trace OptionsAndNumber rows = last_trace_if (has_row (codes "trace") rows)
 
-trace_by : (may : Follows) (ps : List Part) (b : Bool) → is_set (codes "trace") ps ≡ b → is_true (first_of (codes "trace") (rows_of_parts may ps)) ≡ b
+trace_by : (may : Follows) (ps : List Part) (b : Bool) → is_set (codes "trace") ps ≡ b
+    → is_true (first_of (codes "trace") (rows_of_parts may ps)) ≡ b
 trace_by may ps true e = trace_there ps (trace_row may (map row_of ps)) e
 trace_by may ps false e = trace_away ps (trace_row may (map row_of ps)) e (last_trace may (map row_of ps))
 

@@ -57,7 +57,8 @@ IsOf may p = (may_follow may p ≡ true) × IsPlain p
 
 met : (c : List Rule) (w : Waiting) (p : ℕ) (t : Text) (h : Held) → IsPlainWord t → subcommand_or_other c None w p t h ≡ plain_word c w t h
 met c w p t h plain =
-    ap (λ b. if b then (h, trailing p) else long_or_other c w t (option_and_then long_of_rest (option_and_then (strip_byte 45) (strip_byte 45 t))) h) plain.1
+    ap (λ b. if b then (h, trailing p) else long_or_other c w t
+    (option_and_then long_of_rest (option_and_then (strip_byte 45) (strip_byte 45 t))) h) plain.1
     ∙ ap (λ o. long_or_other c w t (option_and_then long_of_rest (option_and_then (strip_byte 45) o)) h) plain.0
     ∙ ap (λ o. short_or_plain c w t (option_and_then short_of_rest o) h) plain.0
 
@@ -99,7 +100,8 @@ walked_trace OptionsAndNumber h p e = refl
 
 -- the walk between the two words of an option
 abbrev pub within : Follows → Limit → Held → ℕ → Walk
-within may l h p = record (between (record (settled (built_rules may) h) { pending = Some (limit_name l, []) }) p) { waiting = option (limit_name l) }
+within may l h p =
+    record (between (record (settled (built_rules may) h) { pending = Some (limit_name l, []) }) p) { waiting = option (limit_name l) }
 
 pub walked_first : (may : Follows) (l : Limit) (t : Text) (h : Held) (p : ℕ) → may_follow may (apart l t) ≡ true
     → walked (built_rules may) [] (between h p) (option_word (limit_name l)) ≡ within may l h p
@@ -130,14 +132,16 @@ pub walked_second : (may : Follows) (l : Limit) (t : Text) (h : Held) (p : ℕ) 
     → walked (built_rules may) [] (within may l h p) t ≡ between (with_value may (apart l t) h) p
 unfolding clap_on_literals
 walked_second may l t h p of =
-    ap (λ (m : Held × Step). after_step (built_rules may) t (within may l h p) m.0 m.1) (met (built_rules may) (option (limit_name l)) p t (within may l h p).held of.1)
+    ap (λ (m : Held × Step). after_step (built_rules may) t (within may l h p) m.0 m.1)
+    (met (built_rules may) (option (limit_name l)) p t (within may l h p).held of.1)
     ∙ second_of may l t h p of.0
 
 -- the rule of the number, once it is built
 abbrev built_number : Rule
 built_number = unwrap_or (arg_by_index (built_rules OptionsAndNumber) 1) number_rule
 
-number_if : (pending : Bool) (t : Text) (h : Held) → between (pushed (codes "number") t (if pending && false then h else settled (built_rules OptionsAndNumber) h)) 2 ≡ between (with_value OptionsAndNumber (number t) h) 2
+number_if : (pending : Bool) (t : Text) (h : Held) → between (pushed (codes "number") t
+    (if pending && false then h else settled (built_rules OptionsAndNumber) h)) 2 ≡ between (with_value OptionsAndNumber (number t) h) 2
 number_if false t h = refl
 number_if true t h = refl
 
@@ -148,10 +152,12 @@ number_of : (t : Text) (h : Held) → after_step (built_rules OptionsAndNumber) 
 unfolding clap_on_literals
 number_of t h = number_if (is_pending built_number h.pending) t h
 
-pub walked_number : (t : Text) (h : Held) → IsPlainWord t → walked (built_rules OptionsAndNumber) [] (between h 1) t ≡ between (with_value OptionsAndNumber (number t) h) 2
+pub walked_number : (t : Text) (h : Held) → IsPlainWord t
+    → walked (built_rules OptionsAndNumber) [] (between h 1) t ≡ between (with_value OptionsAndNumber (number t) h) 2
 unfolding clap_on_literals
 walked_number t h plain =
-    ap (λ (m : Held × Step). after_step (built_rules OptionsAndNumber) t (between h 1) m.0 m.1) (met (built_rules OptionsAndNumber) idle 1 t h plain) ∙ number_of t h
+    ap (λ (m : Held × Step). after_step (built_rules OptionsAndNumber) t (between h 1) m.0 m.1)
+    (met (built_rules OptionsAndNumber) idle 1 t h plain) ∙ number_of t h
 
 -- ---- what each turn asks
 
@@ -161,7 +167,8 @@ Settles may h = settle_passes (built_rules may) false h ≡ true
 abbrev pub IsNew : Follows → Part → Held → Type 0
 IsNew may part h = has_row (sets part) (rows_in may h) ≡ false
 
-pub turn_joined : (may : Follows) (name : Text) (l : Limit) (t : Text) (h : Held) (p : ℕ) → may_follow may (joined l t) ≡ true → Settles may h → IsNew may (joined l t) h
+pub turn_joined : (may : Follows) (name : Text) (l : Limit) (t : Text) (h : Held) (p : ℕ) → may_follow may (joined l t) ≡ true
+    → Settles may h → IsNew may (joined l t) h
     → turn_passes (shape may name) [] (between h p) (option_word (limit_name l) ++ (codes "=" ++ t)) ≡ true
 unfolding clap_on_literals
 turn_joined Nothing name l t h p e s n = absurd (true≢false (sym e))
@@ -186,17 +193,21 @@ turn_first Options name MaxLength t h p e s = rw s refl
 turn_first OptionsAndNumber name MaxRules t h p e s = rw s refl
 turn_first OptionsAndNumber name MaxLength t h p e s = rw s refl
 
-short_too : (s : Shape) (t : Text) (h : Held) → IsPlainWord t → option_map_or (λ flags. bundle_passes s.rules s.args_override_self flags h) (option_and_then short_of_rest (strip_byte 45 t)) true ≡ true
-short_too s t h plain = ap (λ o. option_map_or (λ flags. bundle_passes s.rules s.args_override_self flags h) (option_and_then short_of_rest o) true) plain.0
+short_too : (s : Shape) (t : Text) (h : Held) → IsPlainWord t → option_map_or (λ flags. bundle_passes s.rules s.args_override_self flags h)
+    (option_and_then short_of_rest (strip_byte 45 t)) true ≡ true
+short_too s t h plain =
+    ap (λ o. option_map_or (λ flags. bundle_passes s.rules s.args_override_self flags h) (option_and_then short_of_rest o) true) plain.0
 
 -- a word that is no flag passes if no subcommand can be called
-plain_passes : (may : Follows) (name : Text) (w : Waiting) (t : Text) (h : Held) → IsPlainWord t → word_passes (shape may name) [] false w t h ≡ true
+plain_passes : (may : Follows) (name : Text) (w : Waiting) (t : Text) (h : Held) → IsPlainWord t
+    → word_passes (shape may name) [] false w t h ≡ true
 unfolding clap_on_literals
 plain_passes may name idle t h plain = rw (plain.0, plain.1) (short_too (shape may name) t h plain)
 plain_passes may name (option o) t h plain = rw (plain.0, plain.1) (short_too (shape may name) t h plain)
 plain_passes may name positional t h plain = rw (plain.0, plain.1) (short_too (shape may name) t h plain)
 
-second_step : (may : Follows) (name : Text) (l : Limit) (t : Text) (h : Held) (p : ℕ) → may_follow may (apart l t) ≡ true → step_passes (shape may name) p
+second_step : (may : Follows) (name : Text) (l : Limit) (t : Text) (h : Held) (p : ℕ) → may_follow may (apart l t) ≡ true
+    → step_passes (shape may name) p
     (plain_word (shape may name).rules (option (limit_name l)) t (within may l h p).held).0
     (plain_word (shape may name).rules (option (limit_name l)) t (within may l h p).held).1 ≡ true
 unfolding clap_on_literals
@@ -206,9 +217,11 @@ second_step Options name MaxLength t h p e = refl
 second_step OptionsAndNumber name MaxRules t h p e = refl
 second_step OptionsAndNumber name MaxLength t h p e = refl
 
-pub turn_second : (may : Follows) (name : Text) (l : Limit) (t : Text) (h : Held) (p : ℕ) → IsOf may (apart l t) → turn_passes (shape may name) [] (within may l h p) t ≡ true
+pub turn_second : (may : Follows) (name : Text) (l : Limit) (t : Text) (h : Held) (p : ℕ) → IsOf may (apart l t)
+    → turn_passes (shape may name) [] (within may l h p) t ≡ true
 turn_second may name l t h p of = ap₂ (λ a b. a && b) (plain_passes may name (option (limit_name l)) t (within may l h p).held of.1)
-    (ap (λ (m : Held × Step). step_passes (shape may name) p m.0 m.1) (met (shape may name).rules (option (limit_name l)) p t (within may l h p).held of.1)
+    (ap (λ (m : Held × Step). step_passes (shape may name) p m.0 m.1)
+    (met (shape may name).rules (option (limit_name l)) p t (within may l h p).held of.1)
     ∙ second_step may name l t h p of.0)
 
 number_asks : (pending s : Bool) → s ≡ true → ((pending && false) || s) ≡ true
@@ -221,14 +234,17 @@ number_step : (name : Text) (t : Text) (h : Held) → Settles OptionsAndNumber h
 unfolding clap_on_literals
 number_step name t h s = number_asks (is_pending built_number h.pending) (settle_passes (built_rules OptionsAndNumber) false h) s
 
-pub turn_number : (name : Text) (t : Text) (h : Held) → IsPlainWord t → Settles OptionsAndNumber h → turn_passes (shape OptionsAndNumber name) [] (between h 1) t ≡ true
+pub turn_number : (name : Text) (t : Text) (h : Held) → IsPlainWord t → Settles OptionsAndNumber h
+    → turn_passes (shape OptionsAndNumber name) [] (between h 1) t ≡ true
 turn_number name t h plain s = ap₂ (λ a b. a && b) (plain_passes OptionsAndNumber name idle t h plain)
-    (ap (λ (m : Held × Step). step_passes (shape OptionsAndNumber name) 1 m.0 m.1) (met (shape OptionsAndNumber name).rules idle 1 t h plain)
+    (ap (λ (m : Held × Step). step_passes (shape OptionsAndNumber name) 1 m.0 m.1)
+    (met (shape OptionsAndNumber name).rules idle 1 t h plain)
     ∙ number_step name t h s)
 
 -- ---- the settled rows if a use waits
 
-pub rows_of_value : (may : Follows) (part : Part) (h : Held) → may_follow may part ≡ true → rows_in may (with_value may part h) ≡ set_row part (rows_in may h)
+pub rows_of_value : (may : Follows) (part : Part) (h : Held) → may_follow may part ≡ true
+    → rows_in may (with_value may part h) ≡ set_row part (rows_in may h)
 unfolding clap_on_literals
 rows_of_value Nothing part h e = absurd (true≢false (sym e))
 rows_of_value Options (apart MaxRules t) h e = refl
@@ -244,7 +260,8 @@ rows_of_value OptionsAndNumber (number t) h e = refl
 rows_of_value Options trace h e = refl
 rows_of_value OptionsAndNumber trace h e = refl
 
-pub settles_value : (may : Follows) (l : Limit) (t : Text) (h : Held) → may_follow may (apart l t) ≡ true → IsNew may (apart l t) h → Settles may (with_value may (apart l t) h)
+pub settles_value : (may : Follows) (l : Limit) (t : Text) (h : Held) → may_follow may (apart l t) ≡ true → IsNew may (apart l t) h
+    → Settles may (with_value may (apart l t) h)
 unfolding clap_on_literals
 settles_value Nothing l t h e n = absurd (true≢false (sym e))
 settles_value Options MaxRules t h e n = rw n refl
@@ -252,9 +269,11 @@ settles_value Options MaxLength t h e n = rw n refl
 settles_value OptionsAndNumber MaxRules t h e n = rw n refl
 settles_value OptionsAndNumber MaxLength t h e n = rw n refl
 
-pub settles_number : (t : Text) (h : Held) → IsNew OptionsAndNumber (number t) h → Settles OptionsAndNumber (with_value OptionsAndNumber (number t) h)
+pub settles_number : (t : Text) (h : Held) → IsNew OptionsAndNumber (number t) h
+    → Settles OptionsAndNumber (with_value OptionsAndNumber (number t) h)
 unfolding clap_on_literals
 settles_number t h n = rw n refl
 
-pub on_shape : (may : Follows) (name : Text) (w next : Walk) (word : Text) → walked (built_rules may) [] w word ≡ next → walked (shape may name).rules [] w word ≡ next
+pub on_shape : (may : Follows) (name : Text) (w next : Walk) (word : Text) → walked (built_rules may) [] w word ≡ next
+    → walked (shape may name).rules [] w word ≡ next
 on_shape may name w next word e = ap (λ c. walked c [] w word) (same_rules may name) ∙ e

@@ -60,8 +60,10 @@ abbrev pub if_new : Bool → Bool → Seen → Option Seen
 if_new was may next = if not was && may then Some next else None
 
 abbrev pub with_limit : Seen → Limit → Text → Option Seen
-with_limit seen MaxRules text = if_new seen.max_rules (is_number (greatest MaxRules) text) (record seen { waiting = None; max_rules = true })
-with_limit seen MaxLength text = if_new seen.max_length (is_number (greatest MaxLength) text) (record seen { waiting = None; max_length = true })
+with_limit seen MaxRules text =
+    if_new seen.max_rules (is_number (greatest MaxRules) text) (record seen { waiting = None; max_rules = true })
+with_limit seen MaxLength text =
+    if_new seen.max_length (is_number (greatest MaxLength) text) (record seen { waiting = None; max_length = true })
 
 abbrev pub takes_number : Follows → Bool
 takes_number OptionsAndNumber = true

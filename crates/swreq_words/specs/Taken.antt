@@ -36,7 +36,8 @@ abbrev pub leaf_of : CommandName → App
 leaf_of name = leaf (follows name) (word_of name)
 
 abbrev pub bare : App
-bare = record (new_app (codes "genreq")) { top = record (new_app (codes "genreq")).top { subcommand_required = true; no_binary_name = true } }
+bare =
+    record (new_app (codes "genreq")) { top = record (new_app (codes "genreq")).top { subcommand_required = true; no_binary_name = true } }
 
 abbrev pub with_leaf : App → CommandName → App
 with_leaf app name = with_subcommand app (leaf_of name).top

@@ -14,12 +14,15 @@ pub fn one_command_line()
 
 /// The command takes all words of the form. So it can fail on them only if memory runs out.
 pub fn words_of_the_form_are_taken()
-    ensures { (words : List (List ℕ)) (line : CommandLine) → Says words line → takes genreq words ≡ true }
+    ensures { (words : List (List ℕ)) (line : CommandLine) → Says words line
+        → takes genreq words ≡ true }
 {}
 
 /// The numbers that words say are in their ranges.
 pub fn numbers_are_in_range()
     ensures limits { (words : List (List ℕ)) (line : CommandLine) → Says words line
-        → (1 ≤ line.max_rules) × (line.max_rules ≤ 100000) × (1 ≤ line.max_length) × (line.max_length ≤ 255) }
-    ensures count { (words : List (List ℕ)) (line : CommandLine) (n : ℕ) → Says words line → line.command ≡ command.Gen n → (1 ≤ n) × (n ≤ 100) }
+        → (1 ≤ line.max_rules) × (line.max_rules ≤ 100000) × (1 ≤ line.max_length)
+        × (line.max_length ≤ 255) }
+    ensures count { (words : List (List ℕ)) (line : CommandLine) (n : ℕ) → Says words line
+        → line.command ≡ command.Gen n → (1 ≤ n) × (n ≤ 100) }
 {}

@@ -20,8 +20,10 @@ fn with_limit<'a>(
     command: clap::Command<'a>,
     limit: Limit,
 ) -> Result<clap::Command<'a>, AllocError>
-    ensures app { IfOk result (λ c. app_of c ≡ with_rule (app_of command.entry) (limit_rule limit)) }
-    ensures globals { IfOk result (λ c. (out-Command c).has_globals ≡ (out-Command command.entry).has_globals) }
+    ensures app { IfOk result
+        (λ c. app_of c ≡ with_rule (app_of command.entry) (limit_rule limit)) }
+    ensures globals { IfOk result
+        (λ c. (out-Command c).has_globals ≡ (out-Command command.entry).has_globals) }
 {
     let option = Arg::new(alloc, limit.name()).long(limit.name());
     command.arg(option)
@@ -33,7 +35,8 @@ fn with_trace<'a>(
     command: clap::Command<'a>,
 ) -> Result<clap::Command<'a>, AllocError>
     ensures app { IfOk result (λ c. app_of c ≡ with_rule (app_of command.entry) trace_rule) }
-    ensures globals { IfOk result (λ c. (out-Command c).has_globals ≡ (out-Command command.entry).has_globals) }
+    ensures globals { IfOk result
+        (λ c. (out-Command c).has_globals ≡ (out-Command command.entry).has_globals) }
 {
     let option = Arg::new(alloc, "trace")
         .long("trace")
@@ -47,7 +50,8 @@ fn with_options<'a>(
     command: clap::Command<'a>,
 ) -> Result<clap::Command<'a>, AllocError>
     ensures app { IfOk result (λ c. app_of c ≡ with_options (app_of command.entry)) }
-    ensures globals { IfOk result (λ c. (out-Command c).has_globals ≡ (out-Command command.entry).has_globals) }
+    ensures globals { IfOk result
+        (λ c. (out-Command c).has_globals ≡ (out-Command command.entry).has_globals) }
 {
     let command = with_limit(alloc, command, Limit::MaxRules)?;
     let command = with_limit(alloc, command, Limit::MaxLength)?;
@@ -60,7 +64,8 @@ fn with_number<'a>(
     command: clap::Command<'a>,
 ) -> Result<clap::Command<'a>, AllocError>
     ensures app { IfOk result (λ c. app_of c ≡ with_rule (app_of command.entry) number_rule) }
-    ensures globals { IfOk result (λ c. (out-Command c).has_globals ≡ (out-Command command.entry).has_globals) }
+    ensures globals { IfOk result
+        (λ c. (out-Command c).has_globals ≡ (out-Command command.entry).has_globals) }
 {
     let number = Arg::new(alloc, "number").required(true);
     command.arg(number)
@@ -73,7 +78,8 @@ fn with_parts<'a>(
     follows: Follows,
 ) -> Result<clap::Command<'a>, AllocError>
     ensures app { IfOk result (λ c. app_of c ≡ with_parts follows (app_of command.entry)) }
-    ensures globals { IfOk result (λ c. (out-Command c).has_globals ≡ (out-Command command.entry).has_globals) }
+    ensures globals { IfOk result
+        (λ c. (out-Command c).has_globals ≡ (out-Command command.entry).has_globals) }
 {
     match follows {
         Follows::Nothing => Ok(command),
@@ -128,8 +134,10 @@ pub(crate) fn matches_of<'a>(
     alloc: Global,
     words: &'a [String],
 ) -> Result<ArgMatches<'a>, clap::Error>
-    ensures found { IfOk result (λ m. subcommand_rows_of m ≡ subcommand_of genreq (map string_bytes words.now)) }
-    ensures memory { IfErr result (λ e. takes genreq (map string_bytes words.now) ≡ true → kind_of e ≡ ErrorKind.OutOfMemory) }
+    ensures found { IfOk result
+        (λ m. subcommand_rows_of m ≡ subcommand_of genreq (map string_bytes words.now)) }
+    ensures memory { IfErr result (λ e.
+        takes genreq (map string_bytes words.now) ≡ true → kind_of e ≡ ErrorKind.OutOfMemory) }
 {
     let command = genreq(alloc)?;
     command.try_get_matches_from(words)
@@ -137,7 +145,8 @@ pub(crate) fn matches_of<'a>(
 
 // The text that was found for this.
 fn text_found<'a>(matches: &ArgMatches<'a>, what: &str) -> Option<&'a str>
-    ensures { option_map (λ text. text.now) result ≡ first_of what.now (rows_of (found_of matches.now)) }
+    ensures { option_map (λ text. text.now) result
+        ≡ first_of what.now (rows_of (found_of matches.now)) }
 {
     matches.get_str(what)
 }

@@ -25,7 +25,8 @@ pub enum UsageErr {
 /// form: the name of a command, and then its options in any order, each at most once, and the one number of `gen`.
 pub fn read(alloc: Global, words: &[String]) -> Result<CommandLine, UsageErr>
     ensures ok { IfOk result (λ line. Says (map string_bytes words.now) line) }
-    ensures usage { (result ≡ Err UsageErr.Usage) ↔ ((line : CommandLine) → ¬ Says (map string_bytes words.now) line) }
+    ensures usage { (result ≡ Err UsageErr.Usage)
+        ↔ ((line : CommandLine) → ¬ Says (map string_bytes words.now) line) }
 {
     if !has_form(words) {
         return Err(UsageErr::Usage);

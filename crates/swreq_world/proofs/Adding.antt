@@ -14,7 +14,8 @@ adds_none xs [] e = refl
 adds_none xs (y ∷ ys) e = let n = sym (length-append xs (y ∷ ys)) ∙ ap length e in absurd (omega (arith, n))
 
 -- the struct and the function, as they are kept at their places
-module _ (es : List Entry) (outer f : FuncId) (s e : Entry) (struct_at : slice_get es outer.place ≡ Some s) (function_at : slice_get es f.place ≡ Some e) where
+module _ (es : List Entry) (outer f : FuncId) (s e : Entry) (struct_at : slice_get es outer.place ≡ Some s)
+    (function_at : slice_get es f.place ≡ Some e) where
   abbrev signatures : List (SignatureOver Written)
   signatures = map (entry_view es) es
 
@@ -56,7 +57,8 @@ module _ (es : List Entry) (outer f : FuncId) (s e : Entry) (struct_at : slice_g
 
     lists : around es e.outer ++ e.own ≡ around es s.outer ++ s.own
     lists =
-        sym (ap (λ (g : SignatureOver Written). g.requirements) function_is) ∙ h.requirements ∙ ap (λ (g : SignatureOver Written). g.requirements) struct_is
+        sym (ap (λ (g : SignatureOver Written). g.requirements) function_is) ∙ h.requirements
+        ∙ ap (λ (g : SignatureOver Written). g.requirements) struct_is
 
     pub none_own : e.own ≡ []
     none_own = adds_none s.own e.own (ap (λ (rs : List Written). rs ++ e.own) (sym (around_is inside)) ∙ lists ∙ list_of_struct at_top)

@@ -26,7 +26,8 @@ use Rattle.swreq_world.proofs.Offsets.{AreRising, rising_first, rising_past, ris
 
 function_is_item : (ts : Tokens) (f : FunctionDecl) → Matches number lines.function ts f → Matches number lines.item ts (items.Function f)
 unfolding lines.item lines.bare_item lines.declaration lines.semicolon
-function_is_item ts f m = ((items.Function f, tt), (ts, [], sym (append-nil ts), inr (inl (inr (inl (f, m, refl)))), inr (refl, refl)), refl)
+function_is_item ts f m =
+    ((items.Function f, tt), (ts, [], sym (append-nil ts), inr (inl (inr (inl (f, m, refl)))), inr (refl, refl)), refl)
 
 inner_starts : (ts : Tokens) (f : FunctionDecl) → Matches number lines.inner_function ts f → Starts (function_start f) ts
 unfolding lines.inner_function
@@ -34,18 +35,25 @@ inner_starts ts f (v, (a, b, s, (w, (c, d, r, skip, m), e), end), k) =
     let here = item_stands d (items.Function w.1) (function_is_item d w.1 m) in
     let same : w.1 ≡ f = e ∙ k in
     subst (λ (g : FunctionDecl). Starts (function_start g) ts) same
-    (subst (λ us. Starts (function_start w.1) us) (sym (s ∙ ap (λ us. us ++ b) r)) (starts_left (function_start w.1) (c ++ d) b (starts_right (function_start w.1) c d here)))
+    (subst (λ us. Starts (function_start w.1) us) (sym (s ∙ ap (λ us. us ++ b) r))
+    (starts_left (function_start w.1) (c ++ d) b (starts_right (function_start w.1) c d here)))
 
-inner_rising : (from : ℕ) (fs : List FunctionDecl) (ts : Tokens) → Parts (Matches number lines.inner_function) ts fs → AreRising start_of from ts
+inner_rising : (from : ℕ) (fs : List FunctionDecl) (ts : Tokens) → Parts (Matches number lines.inner_function) ts fs
+    → AreRising start_of from ts
     → AreRising function_start from fs
 inner_rising from [] ts e r = tt
 inner_rising from (f ∷ fs) ts (a, b, s, m, ms) r =
     let q = rising_past from (function_start f) a b (subst (AreRising start_of from) s r) (inner_starts a f m) in
     (q.0, inner_rising (suc (function_start f)) fs b ms q.1)
 
-structure_rising : (from : ℕ) (ts : Tokens) (t : StructDecl) → Matches number lines.structure ts t → AreRising start_of from ts → AreRising function_start from t.functions
+structure_rising : (from : ℕ) (ts : Tokens) (t : StructDecl) → Matches number lines.structure ts t → AreRising start_of from ts
+    → AreRising function_start from t.functions
 unfolding lines.structure
-structure_rising from ts t (p, (q, (a, b, s, m, (c, d, r, n, (a1, b1, s1, m1, (a2, b2, s2, m2, (v3, (a3, b3, s3, m3, (v4, (a4, b4, s4, m4, m5), e4)), e3))))), e), k) rising =
+structure_rising from ts t (
+  p,
+  (q, (a, b, s, m, (c, d, r, n, (a1, b1, s1, m1, (a2, b2, s2, m2, (v3, (a3, b3, s3, m3, (v4, (a4, b4, s4, m4, m5), e4)), e3))))), e),
+  k,
+) rising =
     let at_b = rising_rest from ts a b s rising in
     let at_d = rising_rest from b c d r at_b in
     let at_b1 = rising_rest from d a1 b1 s1 at_d in
@@ -65,7 +73,8 @@ HasInOrder (items.Protocol p) = Unit {0}
 HasInOrder (items.Function f) = Unit {0}
 HasInOrder (items.Query q) = Unit {0}
 
-declaration_in_order : (from : ℕ) (ts : Tokens) (v : Item) → Matches number lines.declaration ts v → AreRising start_of from ts → HasInOrder v
+declaration_in_order : (from : ℕ) (ts : Tokens) (v : Item) → Matches number lines.declaration ts v
+    → AreRising start_of from ts → HasInOrder v
 unfolding lines.declaration
 declaration_in_order from ts v (inl (p, m, e)) r = subst HasInOrder e tt
 declaration_in_order from ts v (inr (inl (f, m, e))) r = subst HasInOrder e tt
@@ -73,7 +82,8 @@ declaration_in_order from ts v (inr (inr (t, m, e))) r = subst HasInOrder e (fro
 
 bare_in_order : (from : ℕ) (ts : Tokens) (v : Item) → Matches number lines.bare_item ts v → AreRising start_of from ts → HasInOrder v
 unfolding lines.bare_item
-bare_in_order from ts v (inl (w, (a, b, s, m, n), e)) r = subst HasInOrder e (declaration_in_order from b w.1 n (rising_rest from ts a b s r))
+bare_in_order from ts v (inl (w, (a, b, s, m, n), e)) r =
+    subst HasInOrder e (declaration_in_order from b w.1 n (rising_rest from ts a b s r))
 bare_in_order from ts v (inr (inl m)) r = declaration_in_order from ts v m r
 bare_in_order from ts v (inr (inr (q, m, e))) r = subst HasInOrder e tt
 
@@ -90,7 +100,8 @@ is_struct (items.Function f) t h e = absurd cc
 is_struct (items.Query q) t h e = absurd cc
 
 -- what is picked first, or later
-pub picked_cases : {A B : Type 0} (o : Option A) (xs : List A) (x : A) → Contains (cons_option o xs) x → ((o ≡ Some x) → B) → (Contains xs x → B) → B
+pub picked_cases : {A B : Type 0} (o : Option A) (xs : List A) (x : A) → Contains (cons_option o xs) x → ((o ≡ Some x) → B)
+    → (Contains xs x → B) → B
 picked_cases None xs x c first later = later c
 picked_cases (Some y) xs x c first later = ⊎_elim (λ e. first (ap Some (sym e))) later (member_cases y x xs c)
 
@@ -104,7 +115,8 @@ all_in_order from (v ∷ vs) ts (a, b, s, m, ms) r t c =
 
 -- No struct starts where a function at the top does.
 apart : (from : ℕ) (vs : List Item) (ts : Tokens) → Parts (Matches number lines.item) ts vs → AreRising start_of from ts
-    → (t : StructDecl) (f : FunctionDecl) → Contains (filter_map struct_of vs) t → Contains (filter_map function_of vs) f → struct_start t ≡ function_start f → ⊥
+    → (t : StructDecl) (f : FunctionDecl) → Contains (filter_map struct_of vs) t → Contains (filter_map function_of vs) f
+    → struct_start t ≡ function_start f → ⊥
 apart from [] ts e r t f c d same = no_member t c
 apart from (v ∷ vs) ts (a, b, s, m, ms) r t f c d same =
     picked_cases (struct_of v) (filter_map struct_of vs) t c
@@ -131,14 +143,17 @@ apart from (v ∷ vs) ts (a, b, s, m, ms) r t f c d same =
     not_both (items.Function h) t f e g = absurd cc
     not_both (items.Query q) t f e g = absurd cc
 
-module _ (text : List ℕ) (s : Skeleton) (slices : (ts : List lexed.Token) → HasTokens text ts → AreSlices text (first_offset (chars text)) ts) where
+module _ (text : List ℕ) (s : Skeleton)
+    (slices : (ts : List lexed.Token) → HasTokens text ts → AreSlices text (first_offset (chars text)) ts) where
   pub functions_in_order : StandsFor text s → (t : StructDecl) → Contains s.structs t → AreInOrder t
   unfolding lines.source
   functions_in_order (found, tokens, (parts, m, e)) t c =
       let from = first_offset (chars text) in
-      all_in_order from parts (with_terminals text found) m.0 (slices_rising text from found (slices found tokens)) t (subst (λ (u : Skeleton). Contains u.structs t) e c)
+      all_in_order from parts (with_terminals text found) m.0 (slices_rising text from found (slices found tokens)) t
+      (subst (λ (u : Skeleton). Contains u.structs t) e c)
 
-  pub structs_apart : StandsFor text s → (t : StructDecl) (f : FunctionDecl) → Contains s.structs t → Contains s.functions f → struct_start t ≡ function_start f → ⊥
+  pub structs_apart : StandsFor text s → (t : StructDecl) (f : FunctionDecl) → Contains s.structs t → Contains s.functions f
+      → struct_start t ≡ function_start f → ⊥
   unfolding lines.source
   structs_apart (found, tokens, (parts, m, e)) t f c d =
       let from = first_offset (chars text) in

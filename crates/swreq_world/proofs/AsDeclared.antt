@@ -67,7 +67,8 @@ module _ (s : StructDecl) where
       more : 1 + prefix_len before fs ≡ suc (prefix_len before fs)
       more = omega arith
 
-      by : (b : Bool) → before f ≡ b → (take (prefix_len before fs) fs ≡ filter before fs) × (drop (prefix_len before fs) fs ≡ filter (λ g. not (before g)) fs)
+      by : (b : Bool) → before f ≡ b
+          → (take (prefix_len before fs) fs ≡ filter before fs) × (drop (prefix_len before fs) fs ≡ filter (λ g. not (before g)) fs)
           → (take (prefix_len before (f ∷ fs)) (f ∷ fs) ≡ filter before (f ∷ fs))
           × (drop (prefix_len before (f ∷ fs)) (f ∷ fs) ≡ filter (λ g. not (before g)) (f ∷ fs))
       by true e later = rw e (ap (λ n. take n (f ∷ fs)) more ∙ ap (λ gs. f ∷ gs) later.0, ap (λ n. drop n (f ∷ fs)) more ∙ later.1)
@@ -108,10 +109,12 @@ module _ (s : Skeleton) where
       let more = nested_are i t 0 t.functions at (all_from t.functions) in
       λ k. one k ∷ more k
 
-  merged_are : (i : ℕ) (ss : List StructDecl) (k : ℕ) (fs : List FunctionDecl) (from : ℕ) → AreFrom s.structs i ss → AreFrom s.functions k fs
+  merged_are : (i : ℕ) (ss : List StructDecl) (k : ℕ) (fs : List FunctionDecl) (from : ℕ) → AreFrom s.structs i ss
+      → AreFrom s.functions k fs
       → AreRising function_start from fs → declarations (merged_from i ss k fs) ≡ all (declared.merged ss fs)
   merged_are i [] k fs from in_structs in_functions r =
-      functions_are k (length fs) fs in_functions (omega arith) ∙ ap (λ gs. all (map (λ f. of_function f) gs)) (take_all (length fs) fs (omega arith))
+      functions_are k (length fs) fs in_functions (omega arith)
+      ∙ ap (λ gs. all (map (λ f. of_function f) gs)) (take_all (length fs) fs (omega arith))
   merged_are i (t ∷ ss) k fs from in_structs in_functions r =
       let n = prefix_len (stands_before t) fs in
       let later = merged_from (i + 1) ss (k + n) (drop n fs) in
@@ -120,7 +123,8 @@ module _ (s : Skeleton) where
       let others = declared.merged ss (drop n fs) in
       let first = functions_are k n fs in_functions (prefix_len-le-length (stands_before t) fs) in
       let second = struct_is i t (first_from s.structs i t ss in_structs) in
-      let third = merged_are (i + 1) ss (k + n) (drop n fs) from (from_next s.structs i t ss in_structs) (from_later s.functions k n fs in_functions)
+      let third =
+      merged_are (i + 1) ss (k + n) (drop n fs) from (from_next s.structs i t ss in_structs) (from_later s.functions k n fs in_functions)
       (rising_drop function_start from n fs r) in
       let parts = parted t from fs r in
       map-append (declaration_of s) (functions_from k n) (with_nested i t ++ later)
@@ -133,7 +137,8 @@ module _ (s : Skeleton) where
   in_order_is from r = merged_are 0 s.structs 0 s.functions from (all_from s.structs) (all_from s.functions) r
 
   -- Each of them is declared.
-  pub all_declared : (from : ℕ) → AreRising function_start from s.functions → (k : ℕ) (g : Signature) → slice_get (in_order s) k ≡ Some g → HasSignature s g
+  pub all_declared : (from : ℕ) → AreRising function_start from s.functions → (k : ℕ) (g : Signature)
+      → slice_get (in_order s) k ≡ Some g → HasSignature s g
   all_declared from r k g e =
       let (d, at, is) = mapped_from (λ d. Some d) (declared.signature_decls s) k (declaration_of s g)
       (ap (λ ds. slice_get ds k) (sym (in_order_is from r)) ∙ stands_mapped (declaration_of s) (in_order s) k g e) in

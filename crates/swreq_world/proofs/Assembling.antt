@@ -46,7 +46,8 @@ of_order w order [] = refl
 of_order w order (g ∷ gs) = ap (λ hs. g ∷ hs) (of_order w order gs)
 
 -- the signatures stand in their order
-pub order_is : (terms : List Term) (w : WordsView) (order : List Signature) (es : List Entry) → map (entry_meant terms) es ≡ map (own_signature w order) order → order ≡ map (λ e. e.signature) es
+pub order_is : (terms : List Term) (w : WordsView) (order : List Signature) (es : List Entry)
+    → map (entry_meant terms) es ≡ map (own_signature w order) order → order ≡ map (λ e. e.signature) es
 order_is terms w order es e = sym (of_order w order order) ∙ sym (ap (map (λ g. g.signature)) e) ∙ of_meant terms es
 
 -- Each signature in the order of the skeleton is declared.
@@ -56,13 +57,17 @@ AllDeclared s = (k : ℕ) (g : Signature) → slice_get (in_order s) k ≡ Some 
 abbrev pub made : LexiconView → List (List Written) → List Entry → List Query → IdWorld
 made lexicon listed es qs = record { lexicon = lexicon; requirements = listed; signatures = map (entry_view es) es; queries = qs }
 
-module _ (text : List ℕ) (s : Skeleton) (lexicon : LexiconView) (order : List Signature) (listed : List (List Written)) (es : List Entry) (qs : List Query) (a b c d : List Term) (words : WordsView) where
-  pub the_world : words ≡ record { text = text; skeleton = s; lexicon = lexicon } → IsLexiconOf text s lexicon → AllDeclared s → order ≡ in_order s
-      → FillsLists a b (map (requirements_named words) words.lexicon.protocols) listed → FillsEntries b c (map (own_signature words order) order) es
+module _ (text : List ℕ) (s : Skeleton) (lexicon : LexiconView) (order : List Signature) (listed : List (List Written)) (es : List Entry)
+    (qs : List Query) (a b c d : List Term) (words : WordsView) where
+  pub the_world : words ≡ record { text = text; skeleton = s; lexicon = lexicon } → IsLexiconOf text s lexicon
+      → AllDeclared s → order ≡ in_order s
+      → FillsLists a b (map (requirements_named words) words.lexicon.protocols) listed
+      → FillsEntries b c (map (own_signature words order) order) es
       → FillsQueries c d (map (query_of words order) words.skeleton.queries) qs → IsWorldOf text s (world_by d (made lexicon listed es qs))
   the_world e is has o f g h = record {
     lexicon = is;
-    requirements = (fills_later AreOf placed (λ u v x. are_of_stay u v x) (λ u v x. placed_stay u v x) a b d (map (requirements_named words) words.lexicon.protocols) listed f (onward b c d g.extends h.extends)).means
+    requirements = (fills_later AreOf placed (λ u v x. are_of_stay u v x) (λ u v x. placed_stay u v x) a b d
+        (map (requirements_named words) words.lexicon.protocols) listed f (onward b c d g.extends h.extends)).means
         ∙ (λ i. map (requirements_named (e i)) (e i).lexicon.protocols);
     signatures = whole_lists words order d es (o ∙ sym (λ i. in_order (e i).skeleton))
         (λ k t at. subst (λ (w : WordsView). IsIn w.skeleton t) (sym e) (is_in s t (has k t (ap (λ gs. slice_get gs k) (sym o) ∙ at))))
@@ -71,38 +76,50 @@ module _ (text : List ℕ) (s : Skeleton) (lexicon : LexiconView) (order : List 
     queries = h.means ∙ (λ i. map (query_of (e i) (o i)) (e i).skeleton.queries);
   }
 
-  pub over_table : FillsLists a b (map (requirements_named words) words.lexicon.protocols) listed → FillsEntries b c (map (own_signature words order) order) es
+  pub over_table : FillsLists a b (map (requirements_named words) words.lexicon.protocols) listed
+      → FillsEntries b c (map (own_signature words order) order) es
       → FillsQueries c d (map (query_of words order) words.skeleton.queries) qs → IsOverTable d (made lexicon listed es qs)
   over_table f g h = record {
-    requirements = (fills_later AreOf placed (λ u v x. are_of_stay u v x) (λ u v x. placed_stay u v x) a b d (map (requirements_named words) words.lexicon.protocols) listed f (onward b c d g.extends h.extends)).are_of;
-    signatures = whole_of d es (fills_later IsEntryOf entry_meant entry_of_stay entry_stays b c d (map (own_signature words order) order) es g h.extends).are_of;
+    requirements = (fills_later AreOf placed (λ u v x. are_of_stay u v x) (λ u v x. placed_stay u v x) a b d
+        (map (requirements_named words) words.lexicon.protocols) listed f (onward b c d g.extends h.extends)).are_of;
+    signatures = whole_of d es
+        (fills_later IsEntryOf entry_meant entry_of_stay entry_stays b c d (map (own_signature words order) order) es g h.extends).are_of;
     queries = h.are_of;
   }
 
 -- ---- the lists of a text
 
 module _ (text : List ℕ) (s : Skeleton) (lexicon : LexiconView) (old new : List Term) (words : WordsView) (lists : WorldLists) where
-  pub ready : words ≡ record { text = text; skeleton = s; lexicon = lexicon } → HasShortLists text s → IsLexiconOf text s lexicon → AreListsOf old new words lists → IsReady lexicon lists
+  pub ready : words ≡ record { text = text; skeleton = s; lexicon = lexicon } → HasShortLists text s → IsLexiconOf text s lexicon
+      → AreListsOf old new words lists → IsReady lexicon lists
   ready e short is made =
       let standing = order_is made.third words lists.order.value lists.signatures.items made.signatures.means in
-      let counted = same_count (entry_meant made.third) (own_signature words lists.order.value) lists.signatures.items lists.order.value made.signatures.means in
+      let counted = same_count (entry_meant made.third)
+      (own_signature words lists.order.value) lists.signatures.items lists.order.value made.signatures.means in
       let all = ap length (made.order ∙ (λ i. in_order (e i).skeleton)) in
       let few = short.signatures in
       record {
-        requirements = same_count (placed made.second) (requirements_named words) lists.requirements.items words.lexicon.protocols made.requirements.means ∙ (λ i. length (e i).lexicon.protocols);
+        requirements = same_count (placed made.second) (requirements_named words) lists.requirements.items words.lexicon.protocols
+            made.requirements.means ∙ (λ i. length (e i).lexicon.protocols);
         order = standing;
         few = omega arith;
         params = subst HasFewParams (sym is.resolved.declared) short.declared;
-        functions_of = λ i. subst (λ (d : Spaces). length (get_or d.nested i []) ≤ 1048576) (sym is.resolved.declared) (short.functions_of i);
-        one_to_one = one_to_one (assoc_cmp lexicon) (assoc_total (inherits lexicon) lexicon.associated) lexicon.associated is.associated.sorted;
+        functions_of =
+            λ i. subst (λ (d : Spaces). length (get_or d.nested i []) ≤ 1048576) (sym is.resolved.declared) (short.functions_of i);
+        one_to_one =
+            one_to_one (assoc_cmp lexicon) (assoc_total (inherits lexicon) lexicon.associated) lexicon.associated is.associated.sorted;
       }
 
-  pub world_is : words ≡ record { text = text; skeleton = s; lexicon = lexicon } → IsLexiconOf text s lexicon → AllDeclared s → AreListsOf old new words lists
+  pub world_is : words ≡ record { text = text; skeleton = s; lexicon = lexicon } → IsLexiconOf text s lexicon → AllDeclared s
+      → AreListsOf old new words lists
       → IsWorldOf text s (world_by new (made lexicon lists.requirements.items lists.signatures.items lists.queries.items))
   world_is e is has m =
-      the_world text s lexicon lists.order.value lists.requirements.items lists.signatures.items lists.queries.items old m.second m.third new words e is has
+      the_world text s lexicon lists.order.value lists.requirements.items lists.signatures.items lists.queries.items old m.second
+      m.third new words e is has
       (m.order ∙ (λ i. in_order (e i).skeleton)) m.requirements m.signatures m.queries
 
-  pub over_is : AreListsOf old new words lists → IsOverTable new (made lexicon lists.requirements.items lists.signatures.items lists.queries.items)
+  pub over_is : AreListsOf old new words lists
+      → IsOverTable new (made lexicon lists.requirements.items lists.signatures.items lists.queries.items)
   over_is m =
-      over_table text s lexicon lists.order.value lists.requirements.items lists.signatures.items lists.queries.items old m.second m.third new words m.requirements m.signatures m.queries
+      over_table text s lexicon lists.order.value lists.requirements.items lists.signatures.items lists.queries.items old m.second m.third
+      new words m.requirements m.signatures m.queries

@@ -10,8 +10,10 @@ use Rattle.swreq_lexicon.specs.declared.pair.ProtocolName.{ProtocolName}
 use Rattle.swreq_lexicon.specs.Lexicons.{pair, associated_types}
 use Rattle.swreq_lexicon.proofs.RankLaws.{ranked}
 
-pub declared_by : (ds : List ProtocolName) (p : ProtoId) (a : NameId) (r : Option AssocId) → MatchOption r (Contains ds (pair p a) → ⊥) (λ d. slice_get ds d.rank ≡ Some (pair p a))
-    → MatchOption r ((d : AssocId) → Contains (associated_types ds) (record { proto = p; name = a; assoc = d }) → ⊥) (λ d. Contains (associated_types ds) (record { proto = p; name = a; assoc = d }))
+pub declared_by : (ds : List ProtocolName) (p : ProtoId) (a : NameId) (r : Option AssocId)
+    → MatchOption r (Contains ds (pair p a) → ⊥) (λ d. slice_get ds d.rank ≡ Some (pair p a))
+    → MatchOption r ((d : AssocId) → Contains (associated_types ds) (record { proto = p; name = a; assoc = d }) → ⊥)
+    (λ d. Contains (associated_types ds) (record { proto = p; name = a; assoc = d }))
 declared_by ds p a None h = λ d k.
     let e = (ranked ds (record { proto = p; name = a; assoc = d })).0 k in
     h (d.rank, slice_get_within ds d.rank (pair p a) e, get_or_from_slice_get ds d.rank (pair p a) (pair p a) e)

@@ -40,10 +40,12 @@ use Rattle.swreq_orders.proofs.Elements.{contains_get, get_contains}
 
 module _ (text : Bytes) (s : Skeleton) (x : LexiconView) (is : IsLexiconOf text s x) where
   order_total : IsTotalOrder (order_cmp (inherits x) (length x.protocols))
-  order_total = then_total (back_total (on_total (depth (inherits x) (length x.protocols)) nat_cmp_total)) (on_total (λ (p : ProtoId). p.rank) nat_cmp_total)
+  order_total = then_total (back_total (on_total (depth (inherits x) (length x.protocols)) nat_cmp_total))
+      (on_total (λ (p : ProtoId). p.rank) nat_cmp_total)
 
   symbols_total : IsTotalOrder (symbol_cmp x)
-  symbols_total = then_total (on_total (λ (d : ProtocolName). d.name.rank) nat_cmp_total) (on_total (λ (d : ProtocolName). d.proto) order_total)
+  symbols_total =
+      then_total (on_total (λ (d : ProtocolName). d.name.rank) nat_cmp_total) (on_total (λ (d : ProtocolName). d.proto) order_total)
 
   -- the protocol of an associated type
   declares_it : (d : ProtocolName) → Contains x.associated d → IsProtocol x d.proto
@@ -52,7 +54,8 @@ module _ (text : Bytes) (s : Skeleton) (x : LexiconView) (is : IsLexiconOf text 
       let at = contains_get s.protocols p.0 p.1 in
       let name = word text p.0.name in
       let in_it = contains_get (declared_by text x.protocols x.names p.0) d p.2 in
-      let m = mapped_from (λ (m : AssocDecl). pair (proto_by x.protocols name) (name_by x.names (word text m.name))) p.0.members in_it.0 d in_it.1 in
+      let m = mapped_from (λ (m : AssocDecl). pair (proto_by x.protocols name) (name_by x.names (word text m.name)))
+      p.0.members in_it.0 d in_it.1 in
       subst (λ (e : ProtocolName). IsProtocol x e.proto) m.2 (protocol_is text s x is at.0 p.0 at.1)
 
   ids : IsDistinct bytes_eq (protocol_names text s.protocols) → AreIds x
@@ -64,10 +67,12 @@ module _ (text : Bytes) (s : Skeleton) (x : LexiconView) (is : IsLexiconOf text 
     each_once = written_once text s x is distinct;
     associated = λ d c. (declares_it d c, named_within text s x.protocols x.names is.names d ((is.associated.same d).0 c));
     one_to_one = one_to_one (assoc_cmp x) (assoc_total (inherits x) x.associated) x.associated is.associated.sorted;
-    associated_by_name = by_name (then_cmp (on (λ (d : ProtocolName). cond (is_root (inherits x) x.associated d) 0 1) nat_cmp) (on (λ (d : ProtocolName). d.proto.rank) nat_cmp)) x.associated is.associated.sorted;
+    associated_by_name = by_name (then_cmp (on (λ (d : ProtocolName). cond (is_root (inherits x) x.associated d) 0 1) nat_cmp)
+        (on (λ (d : ProtocolName). d.proto.rank) nat_cmp)) x.associated is.associated.sorted;
     symbols = λ p a. is.symbols.same (pair p a);
     one_symbol = one_place (symbol_cmp x) symbols_total x.symbols (rising_from_sorted (symbol_cmp x) x.symbols is.symbols.sorted);
-    symbols_by_name = by_name (on (λ (d : ProtocolName). d.proto) (order_cmp (inherits x) (length x.protocols))) x.symbols is.symbols.sorted;
+    symbols_by_name =
+        by_name (on (λ (d : ProtocolName). d.proto) (order_cmp (inherits x) (length x.protocols))) x.symbols is.symbols.sorted;
   }
 
 -- the structs around the signatures

@@ -43,10 +43,12 @@ longer : (steps : List Step) (t : Term) (s : Step) → with_steps (Member t s) s
 longer [] t s e = absurd cc
 longer (x ∷ xs) t s e = longer xs (Member t s) x e
 
-bare_self : (w : WordsView) (t : TypeDecl) → type_in w Protocol t ≡ self → (bytes_eq self_bytes (word w.text t.head) && is_bare t.steps) ≡ true
+bare_self : (w : WordsView) (t : TypeDecl) → type_in w Protocol t ≡ self
+    → (bytes_eq self_bytes (word w.text t.head) && is_bare t.steps) ≡ true
 bare_self w t e = by (bytes_eq self_bytes (word w.text t.head)) t.steps e
   where
-    by : (b : Bool) (steps : List StepDecl) → with_steps (cond b self (member_named w self t.head)) (map (step_of w) steps) ≡ self → (b && is_bare steps) ≡ true
+    by : (b : Bool) (steps : List StepDecl) → with_steps (cond b self (member_named w self t.head)) (map (step_of w) steps) ≡ self
+        → (b && is_bare steps) ≡ true
     by true [] h = refl
     by false [] h = absurd cc
     by b (s ∷ ss) h = absurd (longer (map (step_of w) ss) (cond b self (member_named w self t.head)) (step_of w s) h)
@@ -61,17 +63,21 @@ module _ (w : WordsView) (q : ProtoId) where
   not_an_equality : (t u : Term) → Equals t u ≡ Conforms self q → ⊥
   not_an_equality t u e = absurd cc
 
-  no_argument : (t : Term) (at : ℕ) (names : List Span) (us : List TypeDecl) (r : PlacedRequirement) → Contains (arguments w Protocol t at names us) r → Says r → ⊥
+  no_argument : (t : Term) (at : ℕ) (names : List Span) (us : List TypeDecl) (r : PlacedRequirement)
+      → Contains (arguments w Protocol t at names us) r → Says r → ⊥
   no_argument t at [] us r c e = no_member r c
   no_argument t at (a ∷ names) [] r c e = no_member r c
   no_argument t at (a ∷ names) (u ∷ us) r c e =
-      ⊎_elim (λ same. not_an_equality (member_named w t a) (type_in w Protocol u) (sym (ap (λ (p : PlacedRequirement). p.requirement) same) ∙ e))
+      ⊎_elim (λ same.
+      not_an_equality (member_named w t a) (type_in w Protocol u) (sym (ap (λ (p : PlacedRequirement). p.requirement) same) ∙ e))
       (λ k. no_argument t at names us r k e) (member_cases (argument w Protocol t at a u) r (arguments w Protocol t at names us) c)
 
-  said_by : (t : Term) (at : ℕ) (e : Entity) (r : PlacedRequirement) → Contains (in_bound w Protocol t at e) r → Says r → bound_of w t e ≡ Conforms self q
+  said_by : (t : Term) (at : ℕ) (e : Entity) (r : PlacedRequirement) → Contains (in_bound w Protocol t at e) r → Says r
+      → bound_of w t e ≡ Conforms self q
   said_by t at e r c says =
       let more = arguments w Protocol t e.span.start (primaries_named w e.span) e.args in
-      ⊎_elim (λ same. sym (ap (λ (p : PlacedRequirement). p.requirement) same) ∙ says) (λ k. absurd (no_argument t e.span.start (primaries_named w e.span) e.args r k says))
+      ⊎_elim (λ same. sym (ap (λ (p : PlacedRequirement). p.requirement) same) ∙ says)
+      (λ k. absurd (no_argument t e.span.start (primaries_named w e.span) e.args r k says))
       (member_cases (of_one_side (bound_of w t e) at) r more c)
 
   -- the bound of a conformance of `Self`
@@ -105,17 +111,26 @@ module _ (w : WordsView) (q : ProtoId) where
     more : (ps qs : List ℕ) → ((i : ℕ) → Contains ps i → Contains qs i) → Inherits ps → Inherits qs
     more ps qs to i = record { name = i.name; place = i.place; refers = i.refers; among = to i.place i.among; is = i.is }
 
-    bound_inherits : (t : Term) (e : Entity) → All Never (of_named w.text d e) → IsBound t e → Inherits (option_to_list (named_by w.text d e))
+    bound_inherits : (t : Term) (e : Entity) → All Never (of_named w.text d e) → IsBound t e
+        → Inherits (option_to_list (named_by w.text d e))
     bound_inherits t e none bound =
         by (protocol_of d (word w.text e.span)) refl
-        (subst (λ b. All Never (cond b [] (of_protocol_name d e.span (length e.args) (protocol_of d (word w.text e.span))))) bound.protocol none)
+        (subst (λ b. All Never (cond b [] (of_protocol_name d e.span (length e.args) (protocol_of d (word w.text e.span))))) bound.protocol
+        none)
       where
-        by : (o : Option ℕ) → protocol_of d (word w.text e.span) ≡ o → All Never (of_protocol_name d e.span (length e.args) (protocol_of d (word w.text e.span)))
+        by : (o : Option ℕ) → protocol_of d (word w.text e.span) ≡ o
+            → All Never (of_protocol_name d e.span (length e.args) (protocol_of d (word w.text e.span)))
             → Inherits (option_to_list (named_by w.text d e))
         by None n h = absurd (refused NotAProtocol e.span.start (subst (λ o. All Never (of_protocol_name d e.span (length e.args) o)) n h))
         by (Some i) n h =
             let is : named_by w.text d e ≡ Some i = (λ k. cond (bound.protocol k) None (n k)) in
-            record { name = e.span; place = i; refers = n; among = subst (λ o. Contains (option_to_list o) i) (sym is) (first_member i []); is = bound.named }
+            record {
+              name = e.span;
+              place = i;
+              refers = n;
+              among = subst (λ o. Contains (option_to_list o) i) (sym is) (first_member i []);
+              is = bound.named;
+            }
 
     module _ (begins : Bytes → Bool) where
       abbrev IsMeant : Entity → Type 0
@@ -134,7 +149,8 @@ module _ (w : WordsView) (q : ProtoId) where
           let bound = is_bound t e (said_by t at e r k says) in
           let meant = All-contains IsMeant es e (each_piece Never (of_entity w.text d begins) es none) m in (
             bound.subject,
-            more (option_to_list (named_by w.text d e)) (named_in w.text d es) (λ i. in_pieces (λ (e : Entity). option_to_list (named_by w.text d e)) es e i m)
+            more (option_to_list (named_by w.text d e)) (named_in w.text d es)
+                (λ i. in_pieces (λ (e : Entity). option_to_list (named_by w.text d e)) es e i m)
                 (bound_inherits t e (named_of e meant) bound),
           )
 
@@ -148,13 +164,15 @@ module _ (w : WordsView) (q : ProtoId) where
           subst (λ b. Inherits (cond b (named_in w.text d bounds) [])) (sym (bare_self w t b.0)) b.1
       requirement_inherits (Same t u) none r c says =
           let same = only_member (equality (type_in w Protocol t) t.head.start (type_in w Protocol u) u.head.start) r c in
-          absurd (not_an_equality (type_in w Protocol t) (type_in w Protocol u) (sym (ap (λ (p : PlacedRequirement). p.requirement) same) ∙ says))
+          absurd (not_an_equality (type_in w Protocol t) (type_in w Protocol u)
+          (sym (ap (λ (p : PlacedRequirement). p.requirement) same) ∙ says))
 
       clause_inherits : (clause : List ReqDecl) → All Never (flat_map (of_requirement w.text d begins) clause)
           → (r : PlacedRequirement) → Contains (in_clause w Protocol clause) r → Says r → Inherits (inherited_in_clause w.text d clause)
       clause_inherits clause none r c says =
           let (t, m, k) = from_pieces (in_requirement w Protocol) clause r c in
-          let meant = All-contains (λ t. All Never (of_requirement w.text d begins t)) clause t (each_piece Never (of_requirement w.text d begins) clause none) m in
+          let meant = All-contains (λ t. All Never (of_requirement w.text d begins t)) clause t
+          (each_piece Never (of_requirement w.text d begins) clause none) m in
           more (inherited_in w.text d t) (inherited_in_clause w.text d clause) (λ i. in_pieces (inherited_in w.text d) clause t i m)
           (requirement_inherits t meant r k says)
 
@@ -166,7 +184,8 @@ module _ (w : WordsView) (q : ProtoId) where
           let of_inherits = flat_map (of_entity w.text d begins) m.inherits in
           let of_clause = flat_map (of_requirement w.text d begins) m.clause in
           let own = member_named w self m.name in
-          ⊎_elim (λ k. absurd (not_self (bounds_inherit own m.name.start m.inherits (all_left Never of_inherits of_clause none) r k says).0))
+          ⊎_elim (λ k.
+          absurd (not_self (bounds_inherit own m.name.start m.inherits (all_left Never of_inherits of_clause none) r k says).0))
           (λ k. clause_inherits m.clause (all_right Never of_inherits of_clause none) r k says)
           (Contains-append_cases (in_bounds w Protocol own m.name.start m.inherits) (in_clause w Protocol m.clause) r c)
         where
@@ -174,10 +193,12 @@ module _ (w : WordsView) (q : ProtoId) where
           not_self e = absurd cc
 
       members_inherit : (ms : List AssocDecl) → All Never (flat_map (of_member w.text d begins) ms)
-          → (r : PlacedRequirement) → Contains (in_members w ms) r → Says r → Inherits (flat_map (λ (m : AssocDecl). inherited_in_clause w.text d m.clause) ms)
+          → (r : PlacedRequirement) → Contains (in_members w ms) r → Says r
+          → Inherits (flat_map (λ (m : AssocDecl). inherited_in_clause w.text d m.clause) ms)
       members_inherit ms none r c says =
           let (m, k, l) = from_pieces (in_member w) ms r c in
-          let meant = All-contains (λ m. All Never (of_member w.text d begins m)) ms m (each_piece Never (of_member w.text d begins) ms none) k in
+          let meant =
+          All-contains (λ m. All Never (of_member w.text d begins m)) ms m (each_piece Never (of_member w.text d begins) ms none) k in
           let clause_of = λ (m : AssocDecl). inherited_in_clause w.text d m.clause in
           more (clause_of m) (flat_map clause_of ms) (λ i. in_pieces clause_of ms m i k) (member_inherits m meant r l says)
 
@@ -191,7 +212,8 @@ module _ (w : WordsView) (q : ProtoId) where
         let of_inherits = flat_map (of_entity w.text d begins) p.inherits in
         let of_clause = flat_map (of_requirement w.text d begins) p.clause in
         let of_each = flat_map (of_member w.text d begins) p.members in
-        let some = all_right Never (of_primaries d inherits i) (of_inherits ++ (of_clause ++ (duplicates members members ++ of_each))) none in
+        let some =
+        all_right Never (of_primaries d inherits i) (of_inherits ++ (of_clause ++ (duplicates members members ++ of_each))) none in
         let rest = all_right Never of_inherits (of_clause ++ (duplicates members members ++ of_each)) some in
         let last = all_right Never of_clause (duplicates members members ++ of_each) rest in
         let head = named_in w.text d p.inherits in
@@ -199,11 +221,13 @@ module _ (w : WordsView) (q : ProtoId) where
         let each = flat_map (λ (m : AssocDecl). inherited_in_clause w.text d m.clause) p.members in
         subst Inherits (same_direct w.text d p)
         (⊎_elim (λ k. more head (head ++ (clause ++ each)) (Contains-append_left head (clause ++ each))
-        (bounds_inherit begins self p.name.start p.inherits (all_left Never of_inherits (of_clause ++ (duplicates members members ++ of_each)) some) r k says).1)
+        (bounds_inherit begins self p.name.start p.inherits
+        (all_left Never of_inherits (of_clause ++ (duplicates members members ++ of_each)) some) r k says).1)
         (λ k. more (clause ++ each) (head ++ (clause ++ each)) (Contains-append_right head (clause ++ each))
         (⊎_elim (λ l. more clause (clause ++ each) (Contains-append_left clause each)
         (clause_inherits begins p.clause (all_left Never of_clause (duplicates members members ++ of_each) rest) r l says))
         (λ l. more each (clause ++ each) (Contains-append_right clause each)
         (members_inherit begins p.members (all_right Never (duplicates members members) of_each last) r l says))
         (Contains-append_cases (in_clause w Protocol p.clause) (in_members w p.members) r k)))
-        (Contains-append_cases (in_bounds w Protocol self p.name.start p.inherits) (in_clause w Protocol p.clause ++ in_members w p.members) r (subst (λ (rs : List PlacedRequirement). Contains rs r) (protocol_walked w p) c)))
+        (Contains-append_cases (in_bounds w Protocol self p.name.start p.inherits) (in_clause w Protocol p.clause ++ in_members w p.members)
+        r (subst (λ (rs : List PlacedRequirement). Contains rs r) (protocol_walked w p) c)))

@@ -31,7 +31,8 @@ module _ (w : WordsView) (few : HasFewRequirements w) where
   protocol_at : (i : ℕ) (o : Option ProtocolDecl) → slice_get w.skeleton.protocols i ≡ o → length (of_protocol w o) ≤ 1048576
   protocol_at i None e = omega arith
   protocol_at i (Some p) e =
-      All-contains (λ (q : ProtocolDecl). length (in_protocol w q) ≤ 1048576) w.skeleton.protocols p few.protocols (get_contains w.skeleton.protocols i p e)
+      All-contains (λ (q : ProtocolDecl). length (in_protocol w q) ≤ 1048576) w.skeleton.protocols p few.protocols
+      (get_contains w.skeleton.protocols i p e)
 
   at_place : (o : Option ℕ) → length (of_place w o) ≤ 1048576
   at_place None = omega arith
@@ -40,7 +41,8 @@ module _ (w : WordsView) (few : HasFewRequirements w) where
   struct_at : (i : ℕ) (o : Option StructDecl) → slice_get w.skeleton.structs i ≡ o → length (of_struct w i o) ≤ 1048576
   struct_at i None e = omega arith
   struct_at i (Some s) e =
-      All-contains (λ (t : StructDecl). length (in_struct w i t) ≤ 1048576) w.skeleton.structs s (few.structs i) (get_contains w.skeleton.structs i s e)
+      All-contains (λ (t : StructDecl). length (in_struct w i t) ≤ 1048576) w.skeleton.structs s (few.structs i)
+      (get_contains w.skeleton.structs i s e)
 
   function_at : (i : ℕ) (o : Option FunctionDecl) → slice_get w.skeleton.functions i ≡ o → length (of_function w i o) ≤ 1048576
   function_at i None e = omega arith
@@ -52,14 +54,16 @@ module _ (w : WordsView) (few : HasFewRequirements w) where
     abbrev IsFew : StructDecl → FunctionDecl → Type 0
     IsFew s f = length (in_nested w i s j f) ≤ 1048576
 
-    nested_at : (s : StructDecl) → All (IsFew s) s.functions → (o : Option FunctionDecl) → slice_get s.functions j ≡ o → length (of_nested w i j s o) ≤ 1048576
+    nested_at : (s : StructDecl) → All (IsFew s) s.functions → (o : Option FunctionDecl) → slice_get s.functions j ≡ o
+        → length (of_nested w i j s o) ≤ 1048576
     nested_at s all None e = omega arith
     nested_at s all (Some f) e = All-contains (IsFew s) s.functions f all (get_contains s.functions j f e)
 
     nested_in : (o : Option StructDecl) → slice_get w.skeleton.structs i ≡ o → length (of_nested_in w i j o) ≤ 1048576
     nested_in None e = omega arith
     nested_in (Some s) e =
-        let all = All-contains (λ (t : StructDecl). All (IsFew t) t.functions) w.skeleton.structs s (few.nested i j) (get_contains w.skeleton.structs i s e) in
+        let all = All-contains (λ (t : StructDecl). All (IsFew t) t.functions) w.skeleton.structs s (few.nested i j)
+        (get_contains w.skeleton.structs i s e) in
         nested_at s all (slice_get s.functions j) refl
 
   list_count : (g : Signature) → length (list_of w g) ≤ 1048576
@@ -69,7 +73,8 @@ module _ (w : WordsView) (few : HasFewRequirements w) where
 
 -- ---- the lists of a world
 
-module _ (text : List ℕ) (s : Skeleton) (w : TextWorld) (is : IsWorldOf text s w) (short : HasShortLists text s) (few : HasFewRequirements (words_of text s w)) where
+module _ (text : List ℕ) (s : Skeleton) (w : TextWorld) (is : IsWorldOf text s w) (short : HasShortLists text s)
+    (few : HasFewRequirements (words_of text s w)) where
   abbrev words : WordsView
   words = words_of text s w
 
@@ -110,7 +115,8 @@ short_by_table terms w h = record {
       let j = length-map rs (placed_by terms) in omega arith;
   lists = λ k d l.
       let rs : List Written = (get_or w.signatures k d).requirements in
-      let i = all_of_map (λ (g : SignatureOver PlacedRequirement). length g.requirements < 2 ^ 32) (signature_by terms) w.signatures h.lists k d l in
+      let i = all_of_map (λ (g : SignatureOver PlacedRequirement). length g.requirements < 2 ^ 32)
+      (signature_by terms) w.signatures h.lists k d l in
       let j = length-map rs (placed_by terms) in omega arith;
   signatures = let i = length-map w.signatures (signature_by terms) in let j = h.signatures in omega arith;
   queries = let i = length-map w.queries (query_by terms) in let j = h.queries in omega arith;

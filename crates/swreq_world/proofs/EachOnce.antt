@@ -18,7 +18,8 @@ use Rattle.swreq_world.proofs.Standing.{IsIn, stands}
 abbrev IsOnce : {A : Type 0} → List A → Type 0
 IsOnce {A} xs = (p q : ℕ) (x : A) → slice_get xs p ≡ Some x → slice_get xs q ≡ Some x → p ≡ q
 
-once_both : {A : Type 0} (xs ys : List A) → IsOnce xs → IsOnce ys → ((p q : ℕ) (x : A) → slice_get xs p ≡ Some x → slice_get ys q ≡ Some x → ⊥) → IsOnce (xs ++ ys)
+once_both : {A : Type 0} (xs ys : List A) → IsOnce xs → IsOnce ys
+    → ((p q : ℕ) (x : A) → slice_get xs p ≡ Some x → slice_get ys q ≡ Some x → ⊥) → IsOnce (xs ++ ys)
 once_both {A} xs ys once_left once_right apart p q x e f = by (get_either xs ys p x e) (get_either xs ys q x f)
   where
     Right : ℕ → Type 0
@@ -71,7 +72,8 @@ from_sooner i k n (Struct m) h = omega (arith, h)
 from_sooner i k n (Function m) h = omega (arith, h)
 from_sooner i k n (Nested m l) h = omega (arith, h)
 
-all_from : (i : ℕ) (ss : List StructDecl) (k : ℕ) (fs : List FunctionDecl) (p : ℕ) (g : Signature) → slice_get (merged_from i ss k fs) p ≡ Some g → IsFrom i k g
+all_from : (i : ℕ) (ss : List StructDecl) (k : ℕ) (fs : List FunctionDecl) (p : ℕ) (g : Signature)
+    → slice_get (merged_from i ss k fs) p ≡ Some g → IsFrom i k g
 all_from i [] k fs p g e =
     let (m, is, at, l) = function_at k (length fs) p g e in
     let h : k ≤ m = omega (arith, at) in
@@ -80,7 +82,8 @@ all_from i (s ∷ ss) k fs p g e =
     let n = prefix_len (stands_before s) fs in
     let later = merged_from (i + 1) ss (k + n) (drop n fs) in
     ⊎_elim (λ h. let (m, is, at, l) = function_at k n p g h in let o : k ≤ m = omega (arith, at) in subst (IsFrom i k) (sym is) o)
-    (λ h. ⊎_elim (λ a. later_of_struct i k g (of_struct_at i s h.0 g a)) (λ a. from_sooner i k n g (all_from (i + 1) ss (k + n) (drop n fs) a.0 g a.2))
+    (λ h. ⊎_elim (λ a. later_of_struct i k g (of_struct_at i s h.0 g a))
+    (λ a. from_sooner i k n g (all_from (i + 1) ss (k + n) (drop n fs) a.0 g a.2))
     (get_either (with_nested i s) later h.0 g h.2))
     (get_either (functions_from k n) (with_nested i s ++ later) p g e)
 

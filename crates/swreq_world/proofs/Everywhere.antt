@@ -30,14 +30,17 @@ module _ {A B : Type 0} (P : B → Type 0) where
 
   pub each_piece : (f : A → List B) (xs : List A) → All P (flat_map f xs) → All (λ x. All P (f x)) xs
   each_piece f [] h = All-nil (λ x. All P (f x))
-  each_piece f (x ∷ xs) h = All-cons (λ y. All P (f y)) x xs (all_left P (f x) (flat_map f xs) h) (each_piece f xs (all_right P (f x) (flat_map f xs) h))
+  each_piece f (x ∷ xs) h =
+      All-cons (λ y. All P (f y)) x xs (all_left P (f x) (flat_map f xs) h) (each_piece f xs (all_right P (f x) (flat_map f xs) h))
 
-  pub placed_piece : (f : ℕ → A → List B) (i : ℕ) (xs : List A) (n m : ℕ) (x : A) → i + n ≡ m → slice_get xs n ≡ Some x → All P (by_place f i xs) → All P (f m x)
+  pub placed_piece : (f : ℕ → A → List B) (i : ℕ) (xs : List A) (n m : ℕ) (x : A) → i + n ≡ m → slice_get xs n ≡ Some x
+      → All P (by_place f i xs) → All P (f m x)
   placed_piece f i [] n m x e s h = absurd cc
   placed_piece f i (y ∷ ys) zero m x e s h =
       let at : i ≡ m = omega arith in
       subst (λ z. All P (f m z)) (same_Some y x s) (subst (λ j. All P (f j y)) at (all_left P (f i y) (by_place f (i + 1) ys) h))
-  placed_piece f i (y ∷ ys) (suc n) m x e s h = placed_piece f (i + 1) ys n m x (omega arith) s (all_right P (f i y) (by_place f (i + 1) ys) h)
+  placed_piece f i (y ∷ ys) (suc n) m x e s h =
+      placed_piece f (i + 1) ys n m x (omega arith) s (all_right P (f i y) (by_place f (i + 1) ys) h)
 
 -- ---- what stands in a mapped list
 

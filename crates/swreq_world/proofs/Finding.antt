@@ -44,7 +44,8 @@ module _ (text : Bytes) (s : Skeleton) (v : TextWorld) (is : IsWorldOf text s v)
 
   -- the signature that stands at a place
   pub at_place : (f : FuncId) (g : Signature) → slice_get order f.place ≡ Some g → signature_at v f ≡ signature_in words order g
-  at_place f g e = get_or_from_slice_get v.signatures f.place (signature_in words order g) no_signature (signature_stands words v.signatures is.signatures f g e)
+  at_place f g e = get_or_from_slice_get v.signatures f.place (signature_in words order g) no_signature
+      (signature_stands words v.signatures is.signatures f g e)
 
   -- ---- signatures
 
@@ -59,14 +60,17 @@ module _ (text : Bytes) (s : Skeleton) (v : TextWorld) (is : IsWorldOf text s v)
   outer_is (Struct i) h = refl
   outer_is (Function k) h = refl
   outer_is (Nested i j) (t, at, l) =
-      ap (λ (h : SignatureOver PlacedRequirement). Some h.name) (at_place (func_id order (Struct i)) (Struct i) (stands s (Struct i) (slice_get_within s.structs i t at)))
+      ap (λ (h : SignatureOver PlacedRequirement). Some h.name)
+      (at_place (func_id order (Struct i)) (Struct i) (stands s (Struct i) (slice_get_within s.structs i t at)))
 
   -- A signature has its names at its place.
-  pub named_at : (outer : Option Bytes) (name : Bytes) (g : Signature) → IsNamed words outer name g → IsNamedAt v outer name (func_id order g)
+  pub named_at : (outer : Option Bytes) (name : Bytes) (g : Signature) → IsNamed words outer name g
+      → IsNamedAt v outer name (func_id order g)
   named_at outer name g named =
       let there = stands s g named.is_in in
       let e = at_place (func_id order g) g there in (
-        slice_get_within v.signatures (func_id order g).place (signature_in words order g) (signature_stands words v.signatures is.signatures (func_id order g) g there),
+        slice_get_within v.signatures (func_id order g).place (signature_in words order g)
+            (signature_stands words v.signatures is.signatures (func_id order g) g there),
         ap (λ (h : SignatureOver PlacedRequirement). h.name) e ∙ named.called,
         ap (λ (h : SignatureOver PlacedRequirement). outer_name v h.outer) e ∙ outer_is g named.is_in ∙ named.around,
       )
@@ -74,14 +78,17 @@ module _ (text : Bytes) (s : Skeleton) (v : TextWorld) (is : IsWorldOf text s v)
   found_named : (outer : Option Bytes) (name : Bytes) (f : FuncId) → func_named v outer name ≡ Some f → IsNamedAt v outer name f
   found_named outer name f e = by (signature_named v.lexicon.resolved.declared outer name) refl e
     where
-      by : (o : Option Signature) → signature_named v.lexicon.resolved.declared outer name ≡ o → option_map (func_id (order_of v)) o ≡ Some f → IsNamedAt v outer name f
+      by : (o : Option Signature) → signature_named v.lexicon.resolved.declared outer name ≡ o
+          → option_map (func_id (order_of v)) o ≡ Some f → IsNamedAt v outer name f
       by None n h = absurd cc
       by (Some g) n h =
           subst (IsNamedAt v outer name) (ap (λ gs. func_id gs g) (sym order_same) ∙ same_Some (func_id (order_of v) g) f h)
           (named_at outer name g (found words is.lexicon.resolved.declared outer name g n))
 
-  module _ (names : HasNames text s) (stand : StandApart words) (has : (k : ℕ) (g : Signature) → slice_get order k ≡ Some g → HasSignature s g) where
-    named_back : (outer : Option Bytes) (name : Bytes) (f : FuncId) → IsNamedAt v outer name f → (g : Signature) × (slice_get order f.place ≡ Some g) × IsNamed words outer name g
+  module _ (names : HasNames text s) (stand : StandApart words)
+      (has : (k : ℕ) (g : Signature) → slice_get order k ≡ Some g → HasSignature s g) where
+    named_back : (outer : Option Bytes) (name : Bytes) (f : FuncId) → IsNamedAt v outer name f
+        → (g : Signature) × (slice_get order f.place ≡ Some g) × IsNamed words outer name g
     named_back outer name f (within, called, around) =
         let count = ap length is.signatures ∙ length-map order (signature_in words order) in
         let (g, at) = there_is order f.place (omega (arith, within, count)) in
@@ -103,22 +110,26 @@ module _ (text : Bytes) (s : Skeleton) (v : TextWorld) (is : IsWorldOf text s v)
         let so = ap (λ (d : Spaces). signature_named d outer name) is.lexicon.resolved.declared ∙ finds in
         let same = one words names stand outer name h g (found words is.lexicon.resolved.declared outer name h so) named in
         let place = own_place s g f.place named.is_in there in
-        ap (option_map (func_id (order_of v))) so ∙ ap (λ gs. Some (func_id gs h)) order_same ∙ ap (λ k. Some (func_id order k)) same ∙ (λ i. Some (record { place = place i }))
+        ap (option_map (func_id (order_of v))) so ∙ ap (λ gs. Some (func_id gs h)) order_same ∙ ap (λ k. Some (func_id order k)) same
+        ∙ (λ i. Some (record { place = place i }))
 
     pub found_in_text : (outer : Option Bytes) (name : Bytes) (f : FuncId) → (func_named v outer name ≡ Some f) ↔ IsNamedAt v outer name f
     found_in_text outer name f = (found_named outer name f, named_found outer name f)
 
   -- ---- generic parameters
 
-  param_meant : (f : FuncId) (g : Signature) → slice_get order f.place ≡ Some g → (name : Bytes) → param_of_signature v f name ≡ meant text s g name
+  param_meant : (f : FuncId) (g : Signature) → slice_get order f.place ≡ Some g → (name : Bytes)
+      → param_of_signature v f name ≡ meant text s g name
   param_meant f g at name =
-      ap (λ (h : SignatureOver PlacedRequirement). option_map (param_id h.own_depth) (param_of v.lexicon.resolved.declared h.signature name)) (at_place f g at)
+      ap (λ (h : SignatureOver PlacedRequirement).
+      option_map (param_id h.own_depth) (param_of v.lexicon.resolved.declared h.signature name)) (at_place f g at)
       ∙ ap (λ (d : Spaces). option_map (param_id (own_depth s g)) (param_of d g name)) is.lexicon.resolved.declared
 
 -- ---- the same over ids
 
 module _ (terms : List Term) (w : IdWorld) where
-  by_table : (gs : List (SignatureOver Written)) (k : ℕ) → get_or (map (signature_by terms) gs) k no_signature ≡ signature_by terms (get_or gs k no_signature)
+  by_table : (gs : List (SignatureOver Written)) (k : ℕ)
+      → get_or (map (signature_by terms) gs) k no_signature ≡ signature_by terms (get_or gs k no_signature)
   by_table [] k = refl
   by_table (g ∷ gs) zero = refl
   by_table (g ∷ gs) (suc k) = by_table gs k
@@ -141,7 +152,8 @@ module _ (terms : List Term) (w : IdWorld) where
       let count = length-map w.signatures (signature_by terms) in (
         omega (arith, within, count),
         sym (ap (λ (h : SignatureOver PlacedRequirement). h.name) e) ∙ called,
-        sym (ap (λ (h : SignatureOver PlacedRequirement). outer_name (world_by terms w) h.outer) e ∙ outer_by (signature_at w f).outer) ∙ around,
+        sym (ap (λ (h : SignatureOver PlacedRequirement). outer_name (world_by terms w) h.outer) e ∙ outer_by (signature_at w f).outer)
+            ∙ around,
       )
 
   named_from : (outer : Option Bytes) (name : Bytes) (f : FuncId) → IsNamedAt w outer name f → IsNamedAt (world_by terms w) outer name f
@@ -155,10 +167,12 @@ module _ (terms : List Term) (w : IdWorld) where
 
   param_by : (f : FuncId) (name : Bytes) → param_of_signature (world_by terms w) f name ≡ param_of_signature w f name
   param_by f name =
-      ap (λ (h : SignatureOver PlacedRequirement). option_map (param_id h.own_depth) (param_of w.lexicon.resolved.declared h.signature name)) (by_table w.signatures f.place)
+      ap (λ (h : SignatureOver PlacedRequirement).
+      option_map (param_id h.own_depth) (param_of w.lexicon.resolved.declared h.signature name)) (by_table w.signatures f.place)
 
   module _ (text : Bytes) (s : Skeleton) (is : IsWorldOf text s (world_by terms w)) where
-    pub signature_found : HasNames text s → StandApart (words_of text s (world_by terms w)) → ((k : ℕ) (g : Signature) → slice_get (in_order s) k ≡ Some g → HasSignature s g)
+    pub signature_found : HasNames text s → StandApart (words_of text s (world_by terms w))
+        → ((k : ℕ) (g : Signature) → slice_get (in_order s) k ≡ Some g → HasSignature s g)
         → (outer : Option Bytes) (name : Bytes) (f : FuncId) → (func_named w outer name ≡ Some f) ↔ IsNamedAt w outer name f
     signature_found names stand has outer name f =
         let found = found_in_text text s (world_by terms w) is names stand has outer name f in (
@@ -167,10 +181,12 @@ module _ (terms : List Term) (w : IdWorld) where
         )
 
     -- the signature that stands at a place
-    signature_here : (f : FuncId) → f.place < length w.signatures → (g : Signature) × (slice_get (in_order s) f.place ≡ Some g) × (g ≡ (signature_at w f).signature)
+    signature_here : (f : FuncId) → f.place < length w.signatures
+        → (g : Signature) × (slice_get (in_order s) f.place ≡ Some g) × (g ≡ (signature_at w f).signature)
     signature_here f within =
         let words = words_of text s (world_by terms w) in
-        let count = sym (length-map w.signatures (signature_by terms)) ∙ ap length is.signatures ∙ length-map (in_order s) (signature_in words (in_order s)) in
+        let count = sym (length-map w.signatures (signature_by terms)) ∙ ap length is.signatures
+        ∙ length-map (in_order s) (signature_in words (in_order s)) in
         let (g, at) = there_is (in_order s) f.place (omega (arith, within, count)) in
         let signature = λ (h : SignatureOver PlacedRequirement). h.signature in
         (g, at, sym (ap signature (at_place text s (world_by terms w) is f g at)) ∙ ap signature (by_table w.signatures f.place))

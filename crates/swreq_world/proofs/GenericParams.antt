@@ -46,12 +46,16 @@ has_depth d (suc n) i h =
 pub outer_is : (outer own : List ParamDecl) (k : ℕ) → k < length outer → IsParamOf (counts outer own) (record { depth = 0; index = k })
 outer_is [] own k h = absurd (omega arith)
 outer_is (g ∷ gs) own k h =
-    Contains-append_left (params_of_depth 0 (length (g ∷ gs))) (params_of_depth 1 (length own)) (record { depth = 0; index = k }) (has_depth 0 (length (g ∷ gs)) k h)
+    Contains-append_left (params_of_depth 0 (length (g ∷ gs))) (params_of_depth 1 (length own)) (record { depth = 0; index = k })
+    (has_depth 0 (length (g ∷ gs)) k h)
 
-pub own_is : (outer own : List ParamDecl) (k : ℕ) → k < length own → IsParamOf (counts outer own) (record { depth = depth_within outer; index = k })
-own_is [] own k h = Contains-append_left (params_of_depth 0 (length own)) (params_of_depth 1 0) (record { depth = 0; index = k }) (has_depth 0 (length own) k h)
+pub own_is : (outer own : List ParamDecl) (k : ℕ) → k < length own
+    → IsParamOf (counts outer own) (record { depth = depth_within outer; index = k })
+own_is [] own k h = Contains-append_left (params_of_depth 0 (length own)) (params_of_depth 1 0) (record { depth = 0; index = k })
+    (has_depth 0 (length own) k h)
 own_is (g ∷ gs) own k h =
-    Contains-append_right (params_of_depth 0 (length (g ∷ gs))) (params_of_depth 1 (length own)) (record { depth = 1; index = k }) (has_depth 1 (length own) k h)
+    Contains-append_right (params_of_depth 0 (length (g ∷ gs))) (params_of_depth 1 (length own)) (record { depth = 1; index = k })
+    (has_depth 1 (length own) k h)
 
 -- The generic parameters of a struct are those of its functions too.
 pub of_struct_too : (outer own : List ParamDecl) (g : ParamId) → IsParamOf (counts [] outer) g → IsParamOf (counts outer own) g
@@ -66,20 +70,24 @@ module _ (words : Bytes) (s : Skeleton) where
   named : (ps : List ParamDecl) → length (of_params words ps) ≡ length ps
   named ps = length-map (map (λ (g : ParamDecl). g.name) ps) (declaration words) ∙ length-map ps (λ (g : ParamDecl). g.name)
 
-  of_structs : (i : ℕ) (o : Option StructDecl) → slice_get s.structs i ≡ o → get_or (spaces words s).struct_params i [] ≡ of_params words (params_of_struct o)
+  of_structs : (i : ℕ) (o : Option StructDecl) → slice_get s.structs i ≡ o
+      → get_or (spaces words s).struct_params i [] ≡ of_params words (params_of_struct o)
   of_structs i None e = past_mapped (λ (t : StructDecl). of_params words t.params) s.structs i [] e
   of_structs i (Some t) e = at_mapped (λ (t : StructDecl). of_params words t.params) s.structs i t [] e
 
-  of_functions : (fs : List FunctionDecl) (j : ℕ) (o : Option FunctionDecl) → slice_get fs j ≡ o → get_or (map (λ f. of_params words f.params) fs) j [] ≡ of_params words (params_of_function o)
+  of_functions : (fs : List FunctionDecl) (j : ℕ) (o : Option FunctionDecl) → slice_get fs j ≡ o
+      → get_or (map (λ f. of_params words f.params) fs) j [] ≡ of_params words (params_of_function o)
   of_functions fs j None e = past_mapped (λ (f : FunctionDecl). of_params words f.params) fs j [] e
   of_functions fs j (Some f) e = at_mapped (λ (f : FunctionDecl). of_params words f.params) fs j f [] e
 
   of_nested_functions : (i j : ℕ) (o : Option StructDecl) → slice_get s.structs i ≡ o
       → get_or (get_or (spaces words s).nested_params i []) j [] ≡ of_params words (params_of_function (slice_get (functions_of o) j))
   of_nested_functions i j None e =
-      ap (λ (ds : List (List Declaration)). get_or ds j []) (past_mapped (λ (t : StructDecl). map (λ (f : FunctionDecl). of_params words f.params) t.functions) s.structs i [] e)
+      ap (λ (ds : List (List Declaration)). get_or ds j [])
+      (past_mapped (λ (t : StructDecl). map (λ (f : FunctionDecl). of_params words f.params) t.functions) s.structs i [] e)
   of_nested_functions i j (Some t) e =
-      ap (λ (ds : List (List Declaration)). get_or ds j []) (at_mapped (λ (t : StructDecl). map (λ (f : FunctionDecl). of_params words f.params) t.functions) s.structs i t [] e)
+      ap (λ (ds : List (List Declaration)). get_or ds j [])
+      (at_mapped (λ (t : StructDecl). map (λ (f : FunctionDecl). of_params words f.params) t.functions) s.structs i t [] e)
       ∙ of_functions t.functions j (slice_get t.functions j) refl
 
   pub outer_declared : (g : Signature) → declarations.outer_params (spaces words s) g ≡ of_params words (outer_param_decls s g)
@@ -95,7 +103,8 @@ module _ (words : Bytes) (s : Skeleton) where
 -- ---- what a name refers to
 
 -- A name that refers to a generic parameter refers to one of the signature.
-pub named_is : (w : WordsView) → declared w ≡ spaces w.text w.skeleton → (g : Signature) (name : Bytes) → is_some (param_of (declared w) g name) ≡ true
+pub named_is : (w : WordsView) → declared w ≡ spaces w.text w.skeleton → (g : Signature) (name : Bytes)
+    → is_some (param_of (declared w) g name) ≡ true
     → IsParamOf (params_of w.skeleton g) (unwrap_or (param_named w g name) self_param)
 named_is w same g name e = by (param_of (declared w) g name) refl e
   where
@@ -104,9 +113,11 @@ named_is w same g name e = by (param_of (declared w) g name) refl e
     by None n e = absurd cc
     by (Some (Outer k)) n e =
         let l = outer_below (declared w) g name k n in
-        let m = ap (λ (d : Spaces). length (declarations.outer_params d g)) same ∙ ap length (outer_declared w.text w.skeleton g) ∙ named w.text w.skeleton (outer_param_decls w.skeleton g) in
+        let m = ap (λ (d : Spaces). length (declarations.outer_params d g)) same ∙ ap length (outer_declared w.text w.skeleton g)
+        ∙ named w.text w.skeleton (outer_param_decls w.skeleton g) in
         outer_is (outer_param_decls w.skeleton g) (own_param_decls w.skeleton g) k (omega arith)
     by (Some (Own k)) n e =
         let l = own_below (declared w) g name k n in
-        let m = ap (λ (d : Spaces). length (declarations.own_params d g)) same ∙ ap length (own_declared w.text w.skeleton g) ∙ named w.text w.skeleton (own_param_decls w.skeleton g) in
+        let m = ap (λ (d : Spaces). length (declarations.own_params d g)) same ∙ ap length (own_declared w.text w.skeleton g)
+        ∙ named w.text w.skeleton (own_param_decls w.skeleton g) in
         own_is (outer_param_decls w.skeleton g) (own_param_decls w.skeleton g) k (omega arith)

@@ -42,19 +42,23 @@ module _ (w : WordsView) (inherits : ℕ → ℕ → Bool) (are : AreResolved w 
         by true e = (tt, refl)
         by false e = ((tt, are.refers.member inherits i s e), refl)
 
-    member_is : (m : AssocDecl) → Resolved w (of_member w.text (declared w) begins m) (names.in_member w.text m) → All (IsOfProtocol w.lexicon) (in_member w m)
+    member_is : (m : AssocDecl) → Resolved w (of_member w.text (declared w) begins m) (names.in_member w.text m)
+        → All (IsOfProtocol w.lexicon) (in_member w m)
     member_is m h =
         let of_inherits = flat_map (of_entity w.text (declared w) begins) m.inherits in
         let of_clause = flat_map (of_requirement w.text (declared w) begins) m.clause in
         let in_inherits = names.in_bounds w.text m.inherits in
         let in_its_clause = names.in_clause w.text m.clause in
         let name = All-head (IsRanked w) (word w.text m.name) (in_inherits ++ in_its_clause) h.1 in
-        let p = parts w of_inherits of_clause in_inherits in_its_clause (h.0, All-tail (IsRanked w) (word w.text m.name) (in_inherits ++ in_its_clause) h.1) in
-        All-append (IsOfProtocol w.lexicon) (in_bounds w Protocol (member_named w self m.name) m.name.start m.inherits) (in_clause w Protocol m.clause)
+        let p = parts w of_inherits of_clause in_inherits in_its_clause
+        (h.0, All-tail (IsRanked w) (word w.text m.name) (in_inherits ++ in_its_clause) h.1) in
+        All-append (IsOfProtocol w.lexicon) (in_bounds w Protocol (member_named w self m.name) m.name.start m.inherits)
+        (in_clause w Protocol m.clause)
         (bounds_are w are.refers Protocol begins IsSelf starts (member_named w self m.name) m.name.start m.inherits ((tt, name), refl) p.0)
         (clause_is w are.refers Protocol begins IsSelf starts m.clause p.1)
 
-    protocol_is : (p : ProtocolDecl) → Resolved w (refusals.of_protocol w.text (declared w) inherits i p) (names.in_protocol w.text p) → All (IsOfProtocol w.lexicon) (in_protocol w p)
+    protocol_is : (p : ProtocolDecl) → Resolved w (refusals.of_protocol w.text (declared w) inherits i p) (names.in_protocol w.text p)
+        → All (IsOfProtocol w.lexicon) (in_protocol w p)
     protocol_is p h =
         let members : List Declaration = get_or (declared w).members i [] in
         let of_inherits = flat_map (of_entity w.text (declared w) begins) p.inherits in
@@ -63,15 +67,19 @@ module _ (w : WordsView) (inherits : ℕ → ℕ → Bool) (are : AreResolved w 
         let in_inherits = names.in_bounds w.text p.inherits in
         let in_its_clause = names.in_clause w.text p.clause in
         let in_each = flat_map (names.in_member w.text) p.members in
-        let all = after w (of_primaries (declared w) inherits i) (of_inherits ++ (of_clause ++ (duplicates members members ++ of_each))) (names.in_protocol w.text p) h in
+        let all = after w (of_primaries (declared w) inherits i) (of_inherits ++ (of_clause ++ (duplicates members members ++ of_each)))
+        (names.in_protocol w.text p) h in
         let first = parts w of_inherits (of_clause ++ (duplicates members members ++ of_each)) in_inherits (in_its_clause ++ in_each) all in
         let second = parts w of_clause (duplicates members members ++ of_each) in_its_clause in_each first.1 in
         let last = after w (duplicates members members) of_each in_each second.1 in
         subst (All (IsOfProtocol w.lexicon)) (sym (protocol_walked w p))
-        (All-append (IsOfProtocol w.lexicon) (in_bounds w Protocol self p.name.start p.inherits) (in_clause w Protocol p.clause ++ in_members w p.members)
+        (All-append (IsOfProtocol w.lexicon) (in_bounds w Protocol self p.name.start p.inherits)
+        (in_clause w Protocol p.clause ++ in_members w p.members)
         (bounds_are w are.refers Protocol begins IsSelf starts self p.name.start p.inherits (tt, refl) first.0)
-        (All-append (IsOfProtocol w.lexicon) (in_clause w Protocol p.clause) (in_members w p.members) (clause_is w are.refers Protocol begins IsSelf starts p.clause second.0)
-        (all_in_pieces (IsOfProtocol w.lexicon) (λ m. Resolved w (of_member w.text (declared w) begins m) (names.in_member w.text m)) (in_member w) p.members member_is
+        (All-append (IsOfProtocol w.lexicon) (in_clause w Protocol p.clause) (in_members w p.members)
+        (clause_is w are.refers Protocol begins IsSelf starts p.clause second.0)
+        (all_in_pieces (IsOfProtocol w.lexicon) (λ m. Resolved w (of_member w.text (declared w) begins m) (names.in_member w.text m))
+        (in_member w) p.members member_is
         (each w (of_member w.text (declared w) begins) (names.in_member w.text) p.members last))))
 
   -- ---- the protocols of the text
@@ -85,4 +93,5 @@ module _ (w : WordsView) (inherits : ℕ → ℕ → Bool) (are : AreResolved w 
   placed (Some i) = stated i (slice_get w.skeleton.protocols i) refl
 
   pub protocols_are : (ns : List Bytes) → All (All (IsOfProtocol w.lexicon)) (map (requirements_named w) ns)
-  protocols_are ns = All-map (All (IsOfProtocol w.lexicon)) (requirements_named w) ns (λ k n l. placed (protocol_of (declared w) (get_or ns k n)))
+  protocols_are ns =
+      All-map (All (IsOfProtocol w.lexicon)) (requirements_named w) ns (λ k n l. placed (protocol_of (declared w) (get_or ns k n)))

@@ -39,7 +39,8 @@ use Rattle.swreq_world.proofs.Standing.{IsIn, stands, signature_stands}
 
 -- ---- the signature that is asked
 
-named_is_in : (w : WordsView) → declared w ≡ spaces w.text w.skeleton → (outer : Option Span) (f : Span) (g : Signature) → signature_in_query w outer f ≡ Some g → IsIn w.skeleton g
+named_is_in : (w : WordsView) → declared w ≡ spaces w.text w.skeleton → (outer : Option Span) (f : Span) (g : Signature)
+    → signature_in_query w outer f ≡ Some g → IsIn w.skeleton g
 named_is_in w same outer f g e = (found w same (option_map (word w.text) outer) (word w.text f) g e).is_in
 
 module _ (w : WordsView) (q : QueryDecl) where
@@ -75,16 +76,19 @@ module _ (text : Bytes) (s : Skeleton) (v : TextWorld) where
       asked : (t : Term) → IsTermOf v.lexicon t × IsParamOf (params_of s g) (head t) → IsAskedOf v f t
       asked t h = (h.0, subst (λ ps. IsParamOf ps (head t)) params h.1)
 
-      type_asked : (t : TypeDecl) → Resolved words (of_type text (declared words) begins t) (names.in_type text t) → IsAskedOf v f (type_in words (contexts.Signature g) t)
+      type_asked : (t : TypeDecl) → Resolved words (of_type text (declared words) begins t) (names.in_type text t)
+          → IsAskedOf v f (type_in words (contexts.Signature g) t)
       type_asked t h =
           asked (type_in words (contexts.Signature g) t)
           (type_is words are.refers (contexts.Signature g) begins (IsParamOf (params_of s g)) (starts words inherits are same g) t h)
 
       entity_asked : (t : Term) (e : Entity) (b : Bool) → IsAskedOf v f t
-          → All Never (cond b [] (of_protocol_name (declared words) e.span (length e.args) (protocol_of (declared words) (word text e.span))))
+          → All Never
+          (cond b [] (of_protocol_name (declared words) e.span (length e.args) (protocol_of (declared words) (word text e.span))))
           → IsQueryOf v (cond b (AsksAnyObject f t) (AsksConforms f t (proto_of words e.span)))
       entity_asked t e true i h = (at, i)
-      entity_asked t e false i h = (at, i, named_is words are.refers e.span (length e.args) (protocol_of (declared words) (word text e.span)) refl h)
+      entity_asked t e false i h =
+          (at, i, named_is words are.refers e.span (length e.args) (protocol_of (declared words) (word text e.span)) refl h)
 
       ask_is : (a : Ask) → Resolved words (of_ask text (declared words) begins a) (names.in_ask text a) → IsQueryOf v (asked_of words g f a)
       ask_is asked_for.Signature h = at
@@ -93,20 +97,26 @@ module _ (text : Bytes) (s : Skeleton) (v : TextWorld) where
           let of_first = of_type text (declared words) begins t in
           let of_args = flat_map (of_type text (declared words) begins) e.args in
           let p = parts words of_first (of_entity text (declared words) begins e) (names.in_type text t) (names.in_entity text e) h in
-          entity_asked (type_in words (contexts.Signature g) t) e e.layout (type_asked t p.0) (all_left Never (of_named text (declared words) e) of_args p.1.0)
+          entity_asked (type_in words (contexts.Signature g) t) e e.layout (type_asked t p.0)
+          (all_left Never (of_named text (declared words) e) of_args p.1.0)
       ask_is (asked_for.Same t u) h =
-          let p = parts words (of_type text (declared words) begins t) (of_type text (declared words) begins u) (names.in_type text t) (names.in_type text u) h in
+          let p = parts words (of_type text (declared words) begins t) (of_type text (declared words) begins u) (names.in_type text t)
+          (names.in_type text u) h in
           (at, type_asked t p.0, type_asked u p.1)
 
     module _ (is : v.signatures ≡ signatures words) where
-      query_is : (q : QueryDecl) → Resolved words (of_query text (declared words) q) (names.in_query text q) → IsQueryOf v (query_of words (in_order s) q)
+      query_is : (q : QueryDecl) → Resolved words (of_query text (declared words) q) (names.in_query text q)
+          → IsQueryOf v (query_of words (in_order s) q)
       query_is q h =
           let a = asks words q q.outer h.0 in
           let f = func_id (in_order s) a.0 in
           let there = signature_stands words v.signatures is f a.0 (stands s a.0 (named_is_in words same q.outer q.function a.0 a.1)) in
           let at = slice_get_within v.signatures f.place (signature_in words (in_order s) a.0) there in
-          let params = ap (λ (o : SignatureOver PlacedRequirement). o.params) (sym (get_or_from_slice_get v.signatures f.place (signature_in words (in_order s) a.0) no_signature there)) in
-          subst (λ g. IsQueryOf v (asked_of words g (func_id (in_order s) g) q.ask)) (sym (ap asked_signature a.1)) (ask_is a.0 f at params q.ask (a.2, h.1))
+          let params = ap (λ (o : SignatureOver PlacedRequirement). o.params)
+          (sym (get_or_from_slice_get v.signatures f.place (signature_in words (in_order s) a.0) no_signature there)) in
+          subst (λ g. IsQueryOf v (asked_of words g (func_id (in_order s) g) q.ask)) (sym (ap asked_signature a.1))
+          (ask_is a.0 f at params q.ask (a.2, h.1))
 
       pub queries_are : All (IsQueryOf v) (map (query_of words (in_order s)) s.queries)
-      queries_are = All-map (IsQueryOf v) (query_of words (in_order s)) s.queries (λ k q l. query_is (get_or s.queries k q) (are.queries k q l))
+      queries_are =
+          All-map (IsQueryOf v) (query_of words (in_order s)) s.queries (λ k q l. query_is (get_or s.queries k q) (are.queries k q l))

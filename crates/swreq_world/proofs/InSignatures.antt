@@ -54,10 +54,12 @@ module _ (w : WordsView) (inherits : ℕ → ℕ → Bool) (are : AreResolved w 
     abbrev pub IsParam : ParamId → Type 0
     IsParam = IsParamOf (params_of w.skeleton g)
 
-    pub starts : (s : Span) → begins (word w.text s) ≡ true → IsTermOf w.lexicon (signature_head w g s) × IsParam (head (signature_head w g s))
+    pub starts : (s : Span) → begins (word w.text s) ≡ true
+        → IsTermOf w.lexicon (signature_head w g s) × IsParam (head (signature_head w g s))
     starts s e = (tt, named_is w same g (word w.text s) e)
 
-    params_are : (k : ℕ) (ps : List ParamDecl) → k + length ps ≤ length (own_param_decls w.skeleton g) → Resolved w (flat_map (of_param w.text (declared w) begins) ps) (flat_map (names.in_param w.text) ps)
+    params_are : (k : ℕ) (ps : List ParamDecl) → k + length ps ≤ length (own_param_decls w.skeleton g)
+        → Resolved w (flat_map (of_param w.text (declared w) begins) ps) (flat_map (names.in_param w.text) ps)
         → All (IsWithin g) (in_params w g k ps)
     params_are k [] l h = All-nil (IsWithin g)
     params_are k (p ∷ ps) l h =
@@ -66,17 +68,21 @@ module _ (w : WordsView) (inherits : ℕ → ℕ → Bool) (are : AreResolved w 
         let own = own_is (outer_param_decls w.skeleton g) (own_param_decls w.skeleton g) k (omega arith) in
         let q = parts w (of_param w.text (declared w) begins p) of_rest (names.in_param w.text p) in_rest h in
         All-append (IsWithin g) (in_param w g k p) (in_params w g (k + 1) ps)
-        (bounds_are w are.refers (contexts.Signature g) begins IsParam starts (Generic (param_id (own_depth w.skeleton g) (Own k))) p.name.start p.bounds (tt, own) q.0)
+        (bounds_are w are.refers (contexts.Signature g) begins IsParam starts
+        (Generic (param_id (own_depth w.skeleton g) (Own k))) p.name.start p.bounds (tt, own) q.0)
         (params_are (k + 1) ps (omega arith) q.1)
 
-    signature_is : (ps : List ParamDecl) (clause : List ReqDecl) → ps ≡ own_param_decls w.skeleton g → All Never (of_signature w.text (declared w) g ps clause)
-        → All (IsRanked w) (flat_map (names.in_param w.text) ps) → All (IsRanked w) (names.in_clause w.text clause) → All (IsWithin g) (in_signature w g ps clause)
+    signature_is : (ps : List ParamDecl) (clause : List ReqDecl) → ps ≡ own_param_decls w.skeleton g
+        → All Never (of_signature w.text (declared w) g ps clause)
+        → All (IsRanked w) (flat_map (names.in_param w.text) ps) → All (IsRanked w) (names.in_clause w.text clause)
+        → All (IsWithin g) (in_signature w g ps clause)
     signature_is ps clause e h n m =
         let own = declarations.own_params (declared w) g in
         let outer = declarations.outer_params (declared w) g in
         let of_each = flat_map (of_param w.text (declared w) begins) ps in
         let of_clause = flat_map (of_requirement w.text (declared w) begins) clause in
-        let parts = all_right Never (duplicates outer own) (of_each ++ of_clause) (all_right Never (duplicates own own) (duplicates outer own ++ (of_each ++ of_clause)) h) in
+        let parts = all_right Never (duplicates outer own) (of_each ++ of_clause)
+        (all_right Never (duplicates own own) (duplicates outer own ++ (of_each ++ of_clause)) h) in
         let l = ap length e in
         subst (All (IsWithin g)) (sym (signature_walked w g ps clause))
         (All-append (IsWithin g) (in_params w g 0 ps) (in_clause w (contexts.Signature g) clause)
@@ -105,8 +111,10 @@ module _ (w : WordsView) (inherits : ℕ → ℕ → Bool) (are : AreResolved w 
     in_struct_is =
         let h = are.struct_at i t e in
         let later = all_right (IsRanked w) in_its_params (names.in_clause w.text t.clause ++ in_its_functions) h.1 in
-        signature_is (Struct i) t.params t.clause (sym (ap params_of_struct e)) (all_left Never of_itself (of_names ++ of_its_functions) h.0)
-        (all_left (IsRanked w) in_its_params (names.in_clause w.text t.clause ++ in_its_functions) h.1) (all_left (IsRanked w) (names.in_clause w.text t.clause) in_its_functions later)
+        signature_is (Struct i) t.params t.clause (sym (ap params_of_struct e))
+        (all_left Never of_itself (of_names ++ of_its_functions) h.0)
+        (all_left (IsRanked w) in_its_params (names.in_clause w.text t.clause ++ in_its_functions) h.1)
+        (all_left (IsRanked w) (names.in_clause w.text t.clause) in_its_functions later)
 
     in_nested_is : (j : ℕ) (f : FunctionDecl) → slice_get t.functions j ≡ Some f → All (IsWithin (Nested i j)) (in_nested w i t j f)
     in_nested_is j f n =
@@ -116,15 +124,19 @@ module _ (w : WordsView) (inherits : ℕ → ℕ → Bool) (are : AreResolved w 
         (all_right Never of_names of_its_functions (all_right Never of_itself (of_names ++ of_its_functions) h.0)) in
         let later = all_right (IsRanked w) in_its_params (names.in_clause w.text t.clause ++ in_its_functions) h.1 in
         let ranked = all_at (λ k. All (IsRanked w) (names.in_function w.text k)) t.functions j f
-        (each_piece (IsRanked w) (names.in_function w.text) t.functions (all_right (IsRanked w) (names.in_clause w.text t.clause) in_its_functions later)) n in
+        (each_piece (IsRanked w) (names.in_function w.text) t.functions
+        (all_right (IsRanked w) (names.in_clause w.text t.clause) in_its_functions later)) n in
         let in_params_of_it = flat_map (names.in_param w.text) f.params in
         All-append (IsWithin (Nested i j)) (in_struct w i t) (in_signature w (Nested i j) f.params f.clause)
         (All-weaker (IsWithin (Struct i)) (IsWithin (Nested i j))
         (λ r g. (g.0, wider r.requirement g.1)) (in_struct w i t) in_struct_is)
-        (signature_is (Nested i j) f.params f.clause (sym (ap (λ o. params_of_function (slice_get (functions_of o) j)) e ∙ ap params_of_function n)) none
-        (all_left (IsRanked w) in_params_of_it (names.in_clause w.text f.clause) ranked) (all_right (IsRanked w) in_params_of_it (names.in_clause w.text f.clause) ranked))
+        (signature_is (Nested i j) f.params f.clause
+        (sym (ap (λ o. params_of_function (slice_get (functions_of o) j)) e ∙ ap params_of_function n)) none
+        (all_left (IsRanked w) in_params_of_it (names.in_clause w.text f.clause) ranked)
+        (all_right (IsRanked w) in_params_of_it (names.in_clause w.text f.clause) ranked))
       where
-        wider : (r : TermRequirement) → IsOver (IsParamOf (params_of w.skeleton (Struct i))) r → IsOver (IsParamOf (params_of w.skeleton (Nested i j))) r
+        wider : (r : TermRequirement) → IsOver (IsParamOf (params_of w.skeleton (Struct i))) r
+            → IsOver (IsParamOf (params_of w.skeleton (Nested i j))) r
         wider =
             over_more (IsParamOf (params_of w.skeleton (Struct i))) (IsParamOf (params_of w.skeleton (Nested i j)))
             (of_struct_too (params_of_struct (slice_get w.skeleton.structs i)) (own_param_decls w.skeleton (Nested i j)))
@@ -143,9 +155,11 @@ module _ (w : WordsView) (inherits : ℕ → ℕ → Bool) (are : AreResolved w 
       let h = are.function_at i f e in
       let in_its_params = flat_map (names.in_param w.text) f.params in
       signature_is (Function i) f.params f.clause (sym (ap params_of_function e)) h.0
-      (all_left (IsRanked w) in_its_params (names.in_clause w.text f.clause) h.1) (all_right (IsRanked w) in_its_params (names.in_clause w.text f.clause) h.1)
+      (all_left (IsRanked w) in_its_params (names.in_clause w.text f.clause) h.1)
+      (all_right (IsRanked w) in_its_params (names.in_clause w.text f.clause) h.1)
 
-  function_of_struct_is : (i j : ℕ) (o : Option StructDecl) → slice_get w.skeleton.structs i ≡ o → All (IsWithin (Nested i j)) (of_nested_in w i j o)
+  function_of_struct_is : (i j : ℕ) (o : Option StructDecl) → slice_get w.skeleton.structs i ≡ o
+      → All (IsWithin (Nested i j)) (of_nested_in w i j o)
   function_of_struct_is i j None e = All-nil (IsWithin (Nested i j))
   function_of_struct_is i j (Some t) e = nested_is i t e j (slice_get t.functions j) refl
 

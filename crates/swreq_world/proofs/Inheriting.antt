@@ -54,7 +54,8 @@ module _ (d : Spaces) (w : WordsView) (j : ℕ) where
   bound_says : (at : ℕ) (e : Entity) → Contains (option_to_list (named_by w.text d e)) j → Says d w (in_bound w Protocol self at e) j
   bound_says at e c = by e.layout refl c
     where
-      of : e.layout ≡ false → (o : Option ℕ) → protocol_of d (word w.text e.span) ≡ o → Contains (option_to_list o) j → Says d w (in_bound w Protocol self at e) j
+      of : e.layout ≡ false → (o : Option ℕ) → protocol_of d (word w.text e.span) ≡ o → Contains (option_to_list o) j
+          → Says d w (in_bound w Protocol self at e) j
       of l None n h = no_member j h
       of l (Some k) n h = record {
         name = e.span;
@@ -64,14 +65,16 @@ module _ (d : Spaces) (w : WordsView) (j : ℕ) where
         is = ap (λ b. cond b (IsAnyObject self) (Conforms self (proto_of w e.span))) l;
       }
 
-      by : (b : Bool) → e.layout ≡ b → Contains (option_to_list (cond b None (protocol_of d (word w.text e.span)))) j → Says d w (in_bound w Protocol self at e) j
+      by : (b : Bool) → e.layout ≡ b → Contains (option_to_list (cond b None (protocol_of d (word w.text e.span)))) j
+          → Says d w (in_bound w Protocol self at e) j
       by true l h = no_member j h
       by false l h = of l (protocol_of d (word w.text e.span)) refl h
 
   bounds_say : (at : ℕ) (es : List Entity) → Contains (named_in w.text d es) j → Says d w (in_bounds w Protocol self at es) j
   bounds_say at es c =
       let (e, m, h) = from_pieces (λ (e : Entity). option_to_list (named_by w.text d e)) es j c in
-      more (in_bound w Protocol self at e) (in_bounds w Protocol self at es) (λ r k. in_pieces (in_bound w Protocol self at) es e r m k) (bound_says at e h)
+      more (in_bound w Protocol self at e) (in_bounds w Protocol self at es)
+      (λ r k. in_pieces (in_bound w Protocol self at) es e r m k) (bound_says at e h)
 
   -- ---- clauses
 
@@ -86,14 +89,16 @@ module _ (d : Spaces) (w : WordsView) (j : ℕ) where
 
       by : (b : Bool) → (bytes_eq self_bytes (word w.text t.head) && is_bare t.steps) ≡ b
           → Contains (cond b (named_in w.text d bounds) []) j → Says d w (in_requirement w Protocol (Bound t bounds)) j
-      by true e h = subst (λ u. Says d w (in_bounds w Protocol u t.head.start bounds) j) (sym (is_self e)) (bounds_say t.head.start bounds h)
+      by true e h =
+          subst (λ u. Says d w (in_bounds w Protocol u t.head.start bounds) j) (sym (is_self e)) (bounds_say t.head.start bounds h)
       by false e h = no_member j h
   requirement_says (Same t u) c = no_member j c
 
   clause_says : (clause : List ReqDecl) → Contains (inherited_in_clause w.text d clause) j → Says d w (in_clause w Protocol clause) j
   clause_says clause c =
       let (q, m, h) = from_pieces (inherited_in w.text d) clause j c in
-      more (in_requirement w Protocol q) (in_clause w Protocol clause) (λ r k. in_pieces (in_requirement w Protocol) clause q r m k) (requirement_says q h)
+      more (in_requirement w Protocol q) (in_clause w Protocol clause)
+      (λ r k. in_pieces (in_requirement w Protocol) clause q r m k) (requirement_says q h)
 
   -- ---- protocols
 
@@ -103,7 +108,8 @@ module _ (d : Spaces) (w : WordsView) (j : ℕ) where
       (Contains-append_right (in_bounds w Protocol (member_named w self m.name) m.name.start m.inherits) (in_clause w Protocol m.clause))
       (clause_says m.clause c)
 
-  members_say : (ms : List AssocDecl) → Contains (flat_map (λ (m : AssocDecl). inherited_in_clause w.text d m.clause) ms) j → Says d w (in_members w ms) j
+  members_say : (ms : List AssocDecl) → Contains (flat_map (λ (m : AssocDecl). inherited_in_clause w.text d m.clause) ms) j
+      → Says d w (in_members w ms) j
   members_say ms c =
       let (m, k, h) = from_pieces (λ (m : AssocDecl). inherited_in_clause w.text d m.clause) ms j c in
       more (in_member w m) (in_members w ms) (λ r l. in_pieces (in_member w) ms m r k l) (member_says m h)
@@ -116,9 +122,11 @@ module _ (d : Spaces) (w : WordsView) (j : ℕ) where
       let clause_of = inherited_in_clause w.text d p.clause in
       let members_of = flat_map (λ (m : AssocDecl). inherited_in_clause w.text d m.clause) p.members in
       subst (λ rs. Says d w rs j) (sym (protocol_walked w p))
-      (⊎_elim (λ h. more head (head ++ (clause ++ members)) (Contains-append_left head (clause ++ members)) (bounds_say p.name.start p.inherits h))
+      (⊎_elim (λ h.
+      more head (head ++ (clause ++ members)) (Contains-append_left head (clause ++ members)) (bounds_say p.name.start p.inherits h))
       (λ rest. more (clause ++ members) (head ++ (clause ++ members)) (Contains-append_right head (clause ++ members))
       (⊎_elim (λ h. more clause (clause ++ members) (Contains-append_left clause members) (clause_says p.clause h))
       (λ h. more members (clause ++ members) (Contains-append_right clause members) (members_say p.members h))
       (Contains-append_cases clause_of members_of j rest)))
-      (Contains-append_cases (named_in w.text d p.inherits) (clause_of ++ members_of) j (subst (λ (js : List ℕ). Contains js j) (sym (same_direct w.text d p)) c)))
+      (Contains-append_cases (named_in w.text d p.inherits) (clause_of ++ members_of) j
+      (subst (λ (js : List ℕ). Contains js j) (sym (same_direct w.text d p)) c)))

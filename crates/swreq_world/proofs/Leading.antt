@@ -58,19 +58,23 @@ module _ (text : Bytes) (s : Skeleton) (names : HasNames text s) (w : TextWorld)
 
   declared_there : (p : ProtoId) → IsProtocol x p → (q : ProtocolDecl) × (slice_get s.protocols (place_of x p) ≡ Some q)
   declared_there p h =
-      let (q, at, e) = declared_at text (λ (q : ProtocolDecl). q.name) s.protocols (get_or x.protocols p.rank []) (place_of x p) (placed_at p h) in
+      let (q, at, e) =
+      declared_at text (λ (q : ProtocolDecl). q.name) s.protocols (get_or x.protocols p.rank []) (place_of x p) (placed_at p h) in
       (q, at)
 
   one_protocol : (p q : ProtoId) → IsProtocol x p → IsProtocol x q → place_of x p ≡ place_of x q → p ≡ q
-  one_protocol p q h k e = same_Some p q (sym (written_at text s x is.lexicon p h) ∙ ap (slice_get x.written_order) e ∙ written_at text s x is.lexicon q k)
+  one_protocol p q h k e =
+      same_Some p q (sym (written_at text s x is.lexicon p h) ∙ ap (slice_get x.written_order) e ∙ written_at text s x is.lexicon q k)
 
   -- what is written in it
-  written_in : (p : ProtoId) → IsProtocol x p → (q : ProtocolDecl) → slice_get s.protocols (place_of x p) ≡ Some q → requirements_of w p ≡ in_protocol words q
+  written_in : (p : ProtoId) → IsProtocol x p → (q : ProtocolDecl) → slice_get s.protocols (place_of x p) ≡ Some q
+      → requirements_of w p ≡ in_protocol words q
   written_in p h q at =
       ap (λ z. get_or z p.rank []) is.requirements
       ∙ at_mapped (requirements_named words) x.protocols p.rank (get_or x.protocols p.rank []) [] (named_at p h)
       ∙ ap (of_place words)
-      (ap (λ z. protocol_of z (get_or x.protocols p.rank [])) is.lexicon.resolved.declared ∙ protocol_meant text s names (get_or x.protocols p.rank []) (place_of x p) (placed_at p h))
+      (ap (λ z. protocol_of z (get_or x.protocols p.rank [])) is.lexicon.resolved.declared
+      ∙ protocol_meant text s names (get_or x.protocols p.rank []) (place_of x p) (placed_at p h))
       ∙ ap (of_protocol words) at
 
   -- the protocol that a name refers to
@@ -95,7 +99,8 @@ module _ (text : Bytes) (s : Skeleton) (names : HasNames text s) (w : TextWorld)
     is_named : IsNamed to j
     leads : LeadsOnTo f o to
 
-  one_step : (o p : ProtoId) → IsProtocol x p → LeadsTo f o p → (j : ℕ) → Contains (next (inheritance text s) (place_of x p)) j → Reaches o j
+  one_step : (o p : ProtoId) → IsProtocol x p → LeadsTo f o p → (j : ℕ)
+      → Contains (next (inheritance text s) (place_of x p)) j → Reaches o j
   one_step o p h l j c =
       let (q, at) = declared_there p h in
       let says = direct_says d words j q (subst (λ z. Contains z j) (at_mapped (direct text d) s.protocols (place_of x p) q [] at) c) in
@@ -107,7 +112,8 @@ module _ (text : Bytes) (s : Skeleton) (names : HasNames text s) (w : TextWorld)
           p,
           l,
           subst (λ z. Contains (map requirement z) (Conforms self (proto_of words says.name))) (sym (written_in p h q at))
-              (subst (Contains (map requirement (in_protocol words q))) says.is (contains_map requirement (in_protocol words q) says.requirement says.among)),
+              (subst (Contains (map requirement (in_protocol words q))) says.is
+              (contains_map requirement (in_protocol words q) says.requirement says.among)),
         );
       }
 
@@ -119,22 +125,27 @@ module _ (text : Bytes) (s : Skeleton) (names : HasNames text s) (w : TextWorld)
 
   -- ---- what is written is inherited
 
-  one_written : (p q : ProtoId) → IsProtocol x p → InheritsDirectly f p q → IsProtocol x q × Contains (next (inheritance text s) (place_of x p)) (place_of x q)
+  one_written : (p q : ProtoId) → IsProtocol x p → InheritsDirectly f p q
+      → IsProtocol x q × Contains (next (inheritance text s) (place_of x p)) (place_of x q)
   one_written p q h c =
       let (t, at) = declared_there p h in
       let requirement = λ (t : PlacedRequirement). t.requirement in
-      let (r, among, says) = contains_of_map requirement (in_protocol words t) (Conforms self q) (subst (λ z. Contains (map requirement z) (Conforms self q)) (written_in p h t at) c) in
+      let (r, among, says) = contains_of_map requirement (in_protocol words t) (Conforms self q)
+      (subst (λ z. Contains (map requirement z) (Conforms self q)) (written_in p h t at) c) in
       let none = (resolved text s x is.lexicon names).protocol_at (place_of x p) t at in
       let i = inherits_directly words q d names.inherits (place_of x p) t
-      (subst (λ e. All Never (refusals.of_protocol text e names.inherits (place_of x p) t)) is.lexicon.resolved.declared none.0) r among (sym says) in
+      (subst (λ e. All Never (refusals.of_protocol text e names.inherits (place_of x p) t)) is.lexicon.resolved.declared none.0) r among
+      (sym says) in
       let n = named (word text i.name) i.place i.refers in
       let same : place_of x q ≡ i.place = ap (place_of x) (sym i.is) ∙ n.stands in (
         subst (IsProtocol x) i.is n.of_text,
-        subst (λ z. Contains z (place_of x q)) (sym (at_mapped (direct text d) s.protocols (place_of x p) t [] at)) (subst (Contains (direct text d t)) (sym same) i.among),
+        subst (λ z. Contains z (place_of x q)) (sym (at_mapped (direct text d) s.protocols (place_of x p) t [] at))
+            (subst (Contains (direct text d t)) (sym same) i.among),
       )
 
   -- A chain of written steps, one or more, leads to a protocol of the text.
-  all_written : (p r q : ProtoId) → IsProtocol x p → LeadsTo f p r → InheritsDirectly f r q → IsProtocol x q × Leads (inheritance text s) (place_of x p) (place_of x q)
+  all_written : (p r q : ProtoId) → IsProtocol x p → LeadsTo f p r → InheritsDirectly f r q
+      → IsProtocol x q × Leads (inheritance text s) (place_of x p) (place_of x q)
   all_written p r q h here c = let one = one_written p q h c in (one.0, step one.1)
   all_written p r q h (further {q = o} l b) c =
       let so = all_written p o r h l b in

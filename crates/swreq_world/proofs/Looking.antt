@@ -15,8 +15,10 @@ order_of_entries : (all es : List Entry) → map (λ e. e.signature) es ≡ map 
 order_of_entries all [] = refl
 order_of_entries all (e ∷ es) = ap (λ gs. e.signature ∷ gs) (order_of_entries all es)
 
-pub found : (v w : IdWorld) (es : List Entry) (order : List Signature) (n : NamesView) (outer : Option (List ℕ)) (name : List ℕ) (g : Signature) (f : FuncId) → v ≡ w → v.signatures ≡ map (entry_view es) es
-    → f ≡ func_id order g → order ≡ map (λ e. e.signature) es → n ≡ v.lexicon.resolved → signature_named n.declared outer name ≡ Some g → Some f ≡ func_named w outer name
+pub found : (v w : IdWorld) (es : List Entry) (order : List Signature) (n : NamesView) (outer : Option (List ℕ)) (name : List ℕ)
+    (g : Signature) (f : FuncId) → v ≡ w → v.signatures ≡ map (entry_view es) es
+    → f ≡ func_id order g → order ≡ map (λ e. e.signature) es → n ≡ v.lexicon.resolved → signature_named n.declared outer name ≡ Some g
+    → Some f ≡ func_named w outer name
 found v w es order n outer name g f e s p q r is =
     let standing : order ≡ order_of w = q ∙ order_of_entries es es ∙ sym (ap (map (λ h. h.signature)) s) ∙ ap order_of e in
     let names : n ≡ w.lexicon.resolved = r ∙ ap (λ (u : IdWorld). u.lexicon.resolved) e in

@@ -43,15 +43,19 @@ abbrev pub inner_names : WordsView → StructDecl → List Declaration
 inner_names w t = declarations w.text (map (λ (f : FunctionDecl). f.name) t.functions)
 
 module _ (w : WordsView) (same : declared w ≡ spaces w.text w.skeleton) where
-  struct_at : (name : Bytes) (i : ℕ) → struct_of (declared w) name ≡ Some i → (t : StructDecl) × (slice_get w.skeleton.structs i ≡ Some t) × (word w.text t.name ≡ name)
+  struct_at : (name : Bytes) (i : ℕ) → struct_of (declared w) name ≡ Some i
+      → (t : StructDecl) × (slice_get w.skeleton.structs i ≡ Some t) × (word w.text t.name ≡ name)
   struct_at name i e =
       let h : struct_of (spaces w.text w.skeleton) name ≡ Some i = subst (λ (d : Spaces). struct_of d name ≡ Some i) same e in
-      declared_at w.text (λ (t : StructDecl). t.name) w.skeleton.structs name i (referred (spaces w.text w.skeleton).structs (spaces w.text w.skeleton).functions name i h)
+      declared_at w.text (λ (t : StructDecl). t.name) w.skeleton.structs name i
+      (referred (spaces w.text w.skeleton).structs (spaces w.text w.skeleton).functions name i h)
 
-  function_at : (name : Bytes) (k : ℕ) → function_of (declared w) name ≡ Some k → (f : FunctionDecl) × (slice_get w.skeleton.functions k ≡ Some f) × (word w.text f.name ≡ name)
+  function_at : (name : Bytes) (k : ℕ) → function_of (declared w) name ≡ Some k
+      → (f : FunctionDecl) × (slice_get w.skeleton.functions k ≡ Some f) × (word w.text f.name ≡ name)
   function_at name k e =
       let h : function_of (spaces w.text w.skeleton) name ≡ Some k = subst (λ (d : Spaces). function_of d name ≡ Some k) same e in
-      declared_at w.text (λ (f : FunctionDecl). f.name) w.skeleton.functions name k (referred (spaces w.text w.skeleton).functions (spaces w.text w.skeleton).structs name k h)
+      declared_at w.text (λ (f : FunctionDecl). f.name) w.skeleton.functions name k
+      (referred (spaces w.text w.skeleton).functions (spaces w.text w.skeleton).structs name k h)
 
   struct_found : (name : Bytes) (i : ℕ) → struct_of (declared w) name ≡ Some i → IsNamed w None name (Struct i)
   struct_found name i e =
@@ -72,7 +76,8 @@ module _ (w : WordsView) (same : declared w ≡ spaces w.text w.skeleton) where
       by None (Some k) n m e = subst (IsNamed w None name) (same_Some (Function k) g e) (function_found name k m)
       by None None n m e = absurd cc
 
-  nested_found : (outer name : Bytes) (i : ℕ) (t : StructDecl) (g : Signature) → slice_get w.skeleton.structs i ≡ Some t → word w.text t.name ≡ outer
+  nested_found : (outer name : Bytes) (i : ℕ) (t : StructDecl) (g : Signature) → slice_get w.skeleton.structs i ≡ Some t
+      → word w.text t.name ≡ outer
       → nested_in (declared w) i name ≡ Some g → IsNamed w (Some outer) name g
   nested_found outer name i t g at called e = by (place (inner_names w t) name) refl (sym is ∙ e)
     where
@@ -91,11 +96,13 @@ module _ (w : WordsView) (same : declared w ≡ spaces w.text w.skeleton) where
             around = ap Some (ap (struct_name w) at ∙ called);
           })
 
-  pub found : (outer : Option Bytes) (name : Bytes) (g : Signature) → signature_named (declared w) outer name ≡ Some g → IsNamed w outer name g
+  pub found : (outer : Option Bytes) (name : Bytes) (g : Signature) → signature_named (declared w) outer name ≡ Some g
+      → IsNamed w outer name g
   found None name g e = top_found name g e
   found (Some outer) name g e = by (struct_of (declared w) outer) refl e
     where
-      by : (o : Option ℕ) → struct_of (declared w) outer ≡ o → (elim o as (λ _. Option Signature) [ None ↦ None | Some i ↦ nested_in (declared w) i name ]) ≡ Some g
+      by : (o : Option ℕ) → struct_of (declared w) outer ≡ o
+          → (elim o as (λ _. Option Signature) [ None ↦ None | Some i ↦ nested_in (declared w) i name ]) ≡ Some g
           → IsNamed w (Some outer) name g
       by None n e = absurd cc
       by (Some i) n e = let t = struct_at outer i n in nested_found outer name i t.0 g t.1 t.2 e
@@ -145,8 +152,10 @@ module _ (w : WordsView) (names : HasNames w.text w.skeleton) where
   FindsTop name = (g : Signature) × (signature_of d name ≡ Some g)
 
   struct_finds : (name : Bytes) (i : ℕ) → struct_of d name ≡ Some i → FindsTop name
-  struct_finds name i e =
-      (Struct i, ap (λ o. elim o as (λ _. Option Signature) [ None ↦ option_map Function (function_of d name) | Some i ↦ Some (Struct i) ]) e)
+  struct_finds name i e = (
+    Struct i,
+    ap (λ o. elim o as (λ _. Option Signature) [ None ↦ option_map Function (function_of d name) | Some i ↦ Some (Struct i) ]) e,
+  )
 
   function_finds : (name : Bytes) (k : ℕ) → function_of d name ≡ Some k → FindsTop name
   function_finds name k e = by (struct_of d name) refl
@@ -155,18 +164,21 @@ module _ (w : WordsView) (names : HasNames w.text w.skeleton) where
       by (Some i) n = struct_finds name i n
       by None n = (
         Function k,
-        ap (λ o. elim o as (λ _. Option Signature) [ None ↦ option_map Function (function_of d name) | Some i ↦ Some (Struct i) ]) n ∙ ap (option_map Function) e,
+        ap (λ o. elim o as (λ _. Option Signature) [ None ↦ option_map Function (function_of d name) | Some i ↦ Some (Struct i) ]) n
+            ∙ ap (option_map Function) e,
       )
 
   struct_named : (i : ℕ) (t : StructDecl) → slice_get w.skeleton.structs i ≡ Some t → FindsTop (word w.text t.name)
   struct_named i t at =
       let k = some_place_of w.text (λ (t : StructDecl). t.name) w.skeleton.structs i t at in
-      struct_finds (word w.text t.name) k.0 (refers w.text (λ (t : StructDecl). t.name) w.skeleton.structs d.functions structs_alone (word w.text t.name) k.0 k.1)
+      struct_finds (word w.text t.name) k.0
+      (refers w.text (λ (t : StructDecl). t.name) w.skeleton.structs d.functions structs_alone (word w.text t.name) k.0 k.1)
 
   function_named : (k : ℕ) (f : FunctionDecl) → slice_get w.skeleton.functions k ≡ Some f → FindsTop (word w.text f.name)
   function_named k f at =
       let j = some_place_of w.text (λ (f : FunctionDecl). f.name) w.skeleton.functions k f at in
-      function_finds (word w.text f.name) j.0 (refers w.text (λ (f : FunctionDecl). f.name) w.skeleton.functions d.structs functions_alone (word w.text f.name) j.0 j.1)
+      function_finds (word w.text f.name) j.0
+      (refers w.text (λ (f : FunctionDecl). f.name) w.skeleton.functions d.structs functions_alone (word w.text f.name) j.0 j.1)
 
   module _ (from : ℕ) (rising : AreRising struct_start from w.skeleton.structs) where
     struct_meant : (i : ℕ) (t : StructDecl) → slice_get w.skeleton.structs i ≡ Some t → struct_of d (word w.text t.name) ≡ Some i
@@ -174,7 +186,8 @@ module _ (w : WordsView) (names : HasNames w.text w.skeleton) where
         refers w.text (λ (t : StructDecl). t.name) w.skeleton.structs d.functions structs_alone (word w.text t.name) i
         (first w.text (λ (t : StructDecl). t.name) w.skeleton.structs from rising structs_differ i t at)
 
-    nested_named : (i j : ℕ) (t : StructDecl) (f : FunctionDecl) → slice_get w.skeleton.structs i ≡ Some t → slice_get t.functions j ≡ Some f
+    nested_named : (i j : ℕ) (t : StructDecl) (f : FunctionDecl) → slice_get w.skeleton.structs i ≡ Some t
+        → slice_get t.functions j ≡ Some f
         → (g : Signature) × (signature_named d (Some (word w.text t.name)) (word w.text f.name) ≡ Some g)
     nested_named i j t f at there =
         let name = word w.text f.name in
@@ -199,7 +212,8 @@ module _ (w : WordsView) (names : HasNames w.text w.skeleton) where
     finds (Nested i j) (t, at, l) =
         let f = there_is t.functions j l in
         subst (λ outer. Finds (Some outer) (name_of w (Nested i j))) (sym (ap (struct_name w) at))
-        (subst (Finds (Some (word w.text t.name))) (sym (ap (λ o. function_name w (slice_get (functions_of o) j)) at ∙ ap (function_name w) f.1)) (nested_named i j t f.0 at f.1))
+        (subst (Finds (Some (word w.text t.name)))
+        (sym (ap (λ o. function_name w (slice_get (functions_of o) j)) at ∙ ap (function_name w) f.1)) (nested_named i j t f.0 at f.1))
 
     pub is_found : (outer : Option Bytes) (name : Bytes) (g : Signature) → IsNamed w outer name g → Finds outer name
     is_found outer name g is = subst (λ o. Finds o name) is.around (subst (Finds (outer_name_of w g)) is.called (finds g is.is_in))

@@ -19,7 +19,8 @@ module _ {A : Type 0} where
   nothing_more (x ∷ xs) zero = refl
   nothing_more (x ∷ xs) (suc k) = nothing_more xs k
 
-  pub noted : (xs : List (Option A)) (i k : ℕ) (v : Option A) → i < length xs → get_or (set xs i v) k None ≡ cond (nat_eq k i) v (get_or xs k None)
+  pub noted : (xs : List (Option A)) (i k : ℕ) (v : Option A) → i < length xs
+      → get_or (set xs i v) k None ≡ cond (nat_eq k i) v (get_or xs k None)
   noted xs i k v h = by (nat_eq k i) refl
     where
       by : (b : Bool) → nat_eq k i ≡ b → get_or (set xs i v) k None ≡ cond b v (get_or xs k None)
@@ -30,7 +31,8 @@ module _ {A : Type 0} where
   pub place_before : (p : A → Bool) (xs : List A) (i : ℕ) (d : A) (old new : Option ℕ) → i < length xs
       → new ≡ cond (p (get_or xs i d)) (Some i) old → old ≡ position_from p (i + 1) (drop (i + 1) xs) → new ≡ position_from p i (drop i xs)
   place_before p xs i d old new h n o =
-      n ∙ (λ j. cond (p (get_or xs i d)) (Some i) (o j)) ∙ sym (ap (position_from p i) (drop_at xs i (get_or xs i d) h (get_or_same xs i d h)))
+      n ∙ (λ j. cond (p (get_or xs i d)) (Some i) (o j))
+      ∙ sym (ap (position_from p i) (drop_at xs i (get_or xs i d) h (get_or_same xs i d h)))
     where
       get_or_same : (ys : List A) (k : ℕ) (e : A) → k < length ys → get_or ys k e ≡ get_or ys k (get_or ys k e)
       get_or_same [] k e l = absurd (omega arith)

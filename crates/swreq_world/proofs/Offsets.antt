@@ -36,7 +36,8 @@ module _ {A : Type 0} (start : A → ℕ) where
   starts_from from (x ∷ xs) r zero y e = let k = r.0 in let s = ap start (same_Some x y e) in omega (arith, k, s)
   starts_from from (x ∷ xs) r (suc j) y e = let k = r.0 in let l = starts_from (suc (start x)) xs r.1 j y e in omega arith
 
-  pub starts_before : (from : ℕ) (xs : List A) → AreRising start from xs → (i j : ℕ) (x y : A) → slice_get xs i ≡ Some x → slice_get xs j ≡ Some y
+  pub starts_before : (from : ℕ) (xs : List A) → AreRising start from xs → (i j : ℕ) (x y : A) → slice_get xs i ≡ Some x
+      → slice_get xs j ≡ Some y
       → i < j → start x < start y
   starts_before from [] r i j x y e f l = absurd cc
   starts_before from (z ∷ zs) r i zero x y e f l = absurd (omega arith)
@@ -55,8 +56,10 @@ rising_rest from ts a b s r = rising_after start_of from a b (subst (AreRising s
 -- ---- the parts of a text
 
 -- what is picked of the parts, where its start is that of a token of its part
-module _ {A : Type 0} (pick : Item → Option A) (start : A → ℕ) (stands : (v : Item) (x : A) (ts : Tokens) → pick v ≡ Some x → Stands v ts → Starts (start x) ts) where
-  joined : (from : ℕ) (o : Option A) (xs : List A) (a b : Tokens) → AreRising start_of from (a ++ b) → ((x : A) → o ≡ Some x → Starts (start x) a)
+module _ {A : Type 0} (pick : Item → Option A) (start : A → ℕ)
+    (stands : (v : Item) (x : A) (ts : Tokens) → pick v ≡ Some x → Stands v ts → Starts (start x) ts) where
+  joined : (from : ℕ) (o : Option A) (xs : List A) (a b : Tokens) → AreRising start_of from (a ++ b)
+      → ((x : A) → o ≡ Some x → Starts (start x) a)
       → ((to : ℕ) → AreRising start_of to b → AreRising start to xs) → AreRising start from (cons_option o xs)
   joined from None xs a b r starts later = later from (rising_after start_of from a b r)
   joined from (Some x) xs a b r starts later = let q = rising_past from (start x) a b r (starts x refl) in (q.0, later (suc (start x)) q.1)
@@ -105,7 +108,8 @@ function_starts (items.Protocol p) f ts e h = absurd cc
 function_starts (items.Struct t) f ts e h = absurd cc
 function_starts (items.Query q) f ts e h = absurd cc
 
-module _ (text : List ℕ) (s : Skeleton) (slices : (ts : List lexed.Token) → HasTokens text ts → AreSlices text (first_offset (chars text)) ts) (stands : StandsFor text s) where
+module _ (text : List ℕ) (s : Skeleton)
+    (slices : (ts : List lexed.Token) → HasTokens text ts → AreSlices text (first_offset (chars text)) ts) (stands : StandsFor text s) where
   pub protocols_rising : AreRising name_start (first_offset (chars text)) s.protocols
   protocols_rising =
       subst (λ (u : Skeleton). AreRising name_start (first_offset (chars text)) u.protocols) (sym stands.2.2)

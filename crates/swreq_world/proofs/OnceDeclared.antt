@@ -43,9 +43,11 @@ first_place names name k i e at = ⊎_elim (λ l. absurd (passed l)) (λ h. h) (
         absurd cc
 
 -- A name that a list does not have before an offset stands there or later.
-pub not_earlier : (ds : List Declaration) (name : Bytes) (at k : ℕ) → place ds name ≡ Some k → is_declared_before ds name at ≡ false → at ≤ offset_of ds k
+pub not_earlier : (ds : List Declaration) (name : Bytes) (at k : ℕ) → place ds name ≡ Some k
+    → is_declared_before ds name at ≡ false → at ≤ offset_of ds k
 not_earlier ds name at k e none =
-    let test : nat_lt (offset_of ds k) at ≡ false = sym (ap (λ o. elim o [ None ↦ false | Some j ↦ nat_lt (offset_of ds j) at ]) e) ∙ none in
+    let test : nat_lt (offset_of ds k) at ≡ false =
+    sym (ap (λ o. elim o [ None ↦ false | Some j ↦ nat_lt (offset_of ds j) at ]) e) ∙ none in
     grind (arith, nat_tests, test)
 
 module _ {A : Type 0} (text : Bytes) (span : A → Span) (xs : List A) where
@@ -79,7 +81,8 @@ module _ {A : Type 0} (text : Bytes) (span : A → Span) (xs : List A) where
     not_before i x e = by (is_declared_before others (name_of x) (start x)) refl
       where
         one : All Never (duplicate_of others (declaration text (span x)))
-        one = all_at (λ d. All Never (duplicate_of others d)) declared i (declaration text (span x)) (each_piece Never (duplicate_of others) declared none) (stands i x e)
+        one = all_at (λ d. All Never (duplicate_of others d)) declared i (declaration text (span x))
+            (each_piece Never (duplicate_of others) declared none) (stands i x e)
 
         by : (b : Bool) → is_declared_before others (name_of x) (start x) ≡ b → is_declared_before others (name_of x) (start x) ≡ false
         by false h = h
@@ -87,7 +90,8 @@ module _ {A : Type 0} (text : Bytes) (span : A → Span) (xs : List A) where
 
     pub refers : (name : Bytes) (i : ℕ) → place declared name ≡ Some i → refers_to declared others name ≡ Some i
     refers name i e =
-        ap (λ o. elim o as (λ _. Option ℕ) [ None ↦ None | Some k ↦ cond (is_declared_before others name (offset_of declared k)) None (Some k) ]) e
+        ap (λ o.
+        elim o as (λ _. Option ℕ) [ None ↦ None | Some k ↦ cond (is_declared_before others name (offset_of declared k)) None (Some k) ]) e
         ∙ ap (λ b. cond b None (Some i)) not_here
       where
         found : (x : A) × (slice_get xs i ≡ Some x) × (name_of x ≡ name)
@@ -131,10 +135,12 @@ module _ {A : Type 0} (text : Bytes) (span : A → Span) (xs : List A) where
         let at = ap (position_from (bytes_eq (name_of x)) 0) (sym (declared_words text span xs)) ∙ k.1 in
         let no_later = first_place names (name_of x) k.0 i at (named i x e) in
         let found = declared_at text span xs (name_of x) k.0 k.1 in
-        ⊎_elim (λ l. absurd (not_again k.0 i found.0 x found.1 e l found.2)) (λ h. let same : k.0 ≡ i = omega (arith, h, no_later) in k.1 ∙ ap Some same) (cases_lt k.0 i)
+        ⊎_elim (λ l. absurd (not_again k.0 i found.0 x found.1 e l found.2))
+        (λ h. let same : k.0 ≡ i = omega (arith, h, no_later) in k.1 ∙ ap Some same) (cases_lt k.0 i)
 
     pub distinct : IsDistinct bytes_eq names
-    distinct = IsDistinct-from_apart bytes_eq names (λ i j d h l. false_from_ne_true (bytes_eq (get_or names i d) (get_or names j d)) (apart i j d h l))
+    distinct = IsDistinct-from_apart bytes_eq names
+        (λ i j d h l. false_from_ne_true (bytes_eq (get_or names i d) (get_or names j d)) (apart i j d h l))
       where
         apart : (i j : ℕ) (d : Bytes) → i < j → j < length names → bytes_eq (get_or names i d) (get_or names j d) ≡ true → ⊥
         apart i j d h l t =
@@ -173,7 +179,8 @@ module _ (text : Bytes) (s : Skeleton) (resolve : HasNames text s) where
       placed_piece Never (of_struct text d) 0 s.structs i i t first at
       (all_left Never (by_place (of_struct text d) 0 s.structs) (by_place (of_function text d) 0 s.functions)
       (all_left Never (of_signatures text d s) of_queries
-      (all_right Never of_protocols (of_signatures text d s ++ of_queries) (all_right Never (of_spaces d) (of_protocols ++ (of_signatures text d s ++ of_queries)) none))))
+      (all_right Never of_protocols (of_signatures text d s ++ of_queries)
+      (all_right Never (of_spaces d) (of_protocols ++ (of_signatures text d s ++ of_queries)) none))))
 
   pub none_of_function : (k : ℕ) (f : FunctionDecl) → slice_get s.functions k ≡ Some f → All Never (of_function text d k f)
   none_of_function k f at =
@@ -181,7 +188,8 @@ module _ (text : Bytes) (s : Skeleton) (resolve : HasNames text s) where
       placed_piece Never (of_function text d) 0 s.functions k k f first at
       (all_right Never (by_place (of_struct text d) 0 s.structs) (by_place (of_function text d) 0 s.functions)
       (all_left Never (of_signatures text d s) of_queries
-      (all_right Never of_protocols (of_signatures text d s ++ of_queries) (all_right Never (of_spaces d) (of_protocols ++ (of_signatures text d s ++ of_queries)) none))))
+      (all_right Never of_protocols (of_signatures text d s ++ of_queries)
+      (all_right Never (of_spaces d) (of_protocols ++ (of_signatures text d s ++ of_queries)) none))))
 
   pub protocols_differ : (from : ℕ) → AreRising name_start from s.protocols → IsDistinct bytes_eq (protocol_names text s.protocols)
   protocols_differ from rising =

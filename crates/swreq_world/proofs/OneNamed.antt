@@ -28,7 +28,8 @@ pub record StandApart (w : WordsView) : Type 0 where
   pub structs : AreRising struct_start from w.skeleton.structs
   pub functions : AreRising function_start from w.skeleton.functions
   pub inner : (t : StructDecl) → Contains w.skeleton.structs t → AreInOrder t
-  pub apart : (t : StructDecl) (f : FunctionDecl) → Contains w.skeleton.structs t → Contains w.skeleton.functions f → struct_start t ≡ function_start f → ⊥
+  pub apart : (t : StructDecl) (f : FunctionDecl) → Contains w.skeleton.structs t → Contains w.skeleton.functions f
+      → struct_start t ≡ function_start f → ⊥
 
 module _ (w : WordsView) (names : HasNames w.text w.skeleton) (stand : StandApart w) where
   abbrev d : Spaces
@@ -69,7 +70,8 @@ module _ (w : WordsView) (names : HasNames w.text w.skeleton) (stand : StandApar
       none : All Never (duplicates nested nested)
       none =
           all_left Never (duplicates nested nested) (by_place (of_nested w.text d i) 0 t.functions)
-          (all_right Never (of_signature w.text d (Struct i) t.params t.clause) (duplicates nested nested ++ by_place (of_nested w.text d i) 0 t.functions)
+          (all_right Never (of_signature w.text d (Struct i) t.params t.clause)
+          (duplicates nested nested ++ by_place (of_nested w.text d i) 0 t.functions)
           (none_of_struct w.text w.skeleton names i t at))
 
   -- ---- one name
@@ -80,20 +82,24 @@ module _ (w : WordsView) (names : HasNames w.text w.skeleton) (stand : StandApar
   one_function : (i k : ℕ) (f g : FunctionDecl) → FunctionAt i f → FunctionAt k g → name_of_function f ≡ name_of_function g → i ≡ k
   one_function i k f g e h same = same_Some i k (sym (function_first i f e) ∙ ap (place d.functions) same ∙ function_first k g h)
 
-  one_inner : (i : ℕ) (t : StructDecl) → StructAt i t → (j l : ℕ) (f g : FunctionDecl) → slice_get t.functions j ≡ Some f → slice_get t.functions l ≡ Some g
+  one_inner : (i : ℕ) (t : StructDecl) → StructAt i t → (j l : ℕ) (f g : FunctionDecl) → slice_get t.functions j ≡ Some f
+      → slice_get t.functions l ≡ Some g
       → name_of_function f ≡ name_of_function g → j ≡ l
   one_inner i t at j l f g e h same =
       same_Some j l (sym (inner_first i t at j f e) ∙ ap (place (inner_names w t)) same ∙ inner_first i t at l g h)
 
   not_both : (i k : ℕ) (t : StructDecl) (f : FunctionDecl) → StructAt i t → FunctionAt k f → name_of_struct t ≡ name_of_function f → ⊥
   not_both i k t f e h same =
-      stand.apart t f (get_contains w.skeleton.structs i t e) (get_contains w.skeleton.functions k f h) (omega (arith, no_later, no_earlier))
+      stand.apart t f (get_contains w.skeleton.structs i t e) (get_contains w.skeleton.functions k f h)
+      (omega (arith, no_later, no_earlier))
     where
       function_offset : offset_of d.functions k ≡ function_start f
-      function_offset = ap (λ o. elim o as (λ _. ℕ) [ None ↦ 0 | Some a ↦ a.at ]) (stands w.text (λ (f : FunctionDecl). f.name) w.skeleton.functions k f h)
+      function_offset = ap (λ o. elim o as (λ _. ℕ) [ None ↦ 0 | Some a ↦ a.at ])
+          (stands w.text (λ (f : FunctionDecl). f.name) w.skeleton.functions k f h)
 
       struct_offset : offset_of d.structs i ≡ struct_start t
-      struct_offset = ap (λ o. elim o as (λ _. ℕ) [ None ↦ 0 | Some a ↦ a.at ]) (stands w.text (λ (t : StructDecl). t.name) w.skeleton.structs i t e)
+      struct_offset =
+          ap (λ o. elim o as (λ _. ℕ) [ None ↦ 0 | Some a ↦ a.at ]) (stands w.text (λ (t : StructDecl). t.name) w.skeleton.structs i t e)
 
       no_later : struct_start t ≤ function_start f
       no_later =
@@ -136,7 +142,8 @@ module _ (w : WordsView) (names : HasNames w.text w.skeleton) (stand : StandApar
       let struct_same = same_Some t u (sym at ∙ ap (slice_get w.skeleton.structs) same ∙ there) in
       let called = sym (ap (λ o. function_name w (slice_get (functions_of o) j)) at ∙ ap (function_name w) at_f) ∙ m.called in
       let so = sym (ap (λ o. function_name w (slice_get (functions_of o) l)) there ∙ ap (function_name w) at_g) ∙ n.called in
-      let functions = one_inner i t at j l f g at_f (ap (λ (v : StructDecl). slice_get v.functions l) struct_same ∙ at_g) (called ∙ sym so) in
+      let functions =
+      one_inner i t at j l f g at_f (ap (λ (v : StructDecl). slice_get v.functions l) struct_same ∙ at_g) (called ∙ sym so) in
       λ x. Nested (same x) (functions x)
   one outer name (Struct i) (Nested k l) m n = let clash = m.around ∙ sym n.around in absurd cc
   one outer name (Function i) (Nested k l) m n = let clash = m.around ∙ sym n.around in absurd cc

@@ -39,7 +39,8 @@ use Rattle.swreq_world.proofs.Standing.{IsIn}
 module _ (text : Bytes) (outer own : List ParamDecl) where
   -- what a name refers to
   abbrev param_in : Bytes → Option Param
-  param_in name = elim (place (of_params text outer) name) as (λ _. Option Param) [ None ↦ option_map Own (place (of_params text own) name) | Some k ↦ Some (Outer k) ]
+  param_in name = elim (place (of_params text outer) name)
+      as (λ _. Option Param) [ None ↦ option_map Own (place (of_params text own) name) | Some k ↦ Some (Outer k) ]
 
   abbrev depth : ℕ
   depth = depth_within outer
@@ -60,7 +61,8 @@ module _ (text : Bytes) (outer own : List ParamDecl) where
   found name p e = by (place (of_params text outer) name) (place (of_params text own) name) refl refl e
     where
       by : (o m : Option ℕ) → place (of_params text outer) name ≡ o → place (of_params text own) name ≡ m
-          → option_map (param_id depth) (elim o as (λ _. Option Param) [ None ↦ option_map Own m | Some k ↦ Some (Outer k) ]) ≡ Some p → IsCalled name p
+          → option_map (param_id depth) (elim o as (λ _. Option Param) [ None ↦ option_map Own m | Some k ↦ Some (Outer k) ]) ≡ Some p
+          → IsCalled name p
       by (Some k) m n n' h =
           let (q, at, called) = declared_at text (λ (q : ParamDecl). q.name) outer name k n in
           subst (IsCalled name) (same_Some (param_id depth (Outer k)) p h) (q, at_outer k q outer at, called)
@@ -106,16 +108,19 @@ module _ (text : Bytes) (outer own : List ParamDecl) (told : AreToldApart text o
   outer_means : (name : Bytes) (k : ℕ) → place (of_params text outer) name ≡ Some k
       → option_map (param_id (depth_within outer)) (param_in text outer own name) ≡ Some (record { depth = 0; index = k })
   outer_means name k e =
-      ap (λ o. option_map (param_id (depth_within outer)) (elim o as (λ _. Option Param) [ None ↦ option_map Own (place (of_params text own) name) | Some k ↦ Some (Outer k) ]))
+      ap (λ o. option_map (param_id (depth_within outer))
+      (elim o as (λ _. Option Param) [ None ↦ option_map Own (place (of_params text own) name) | Some k ↦ Some (Outer k) ]))
       e
 
   own_means : (name : Bytes) (k : ℕ) → place (of_params text outer) name ≡ None → place (of_params text own) name ≡ Some k
       → option_map (param_id (depth_within outer)) (param_in text outer own name) ≡ Some (record { depth = depth_within outer; index = k })
   own_means name k n e =
-      ap (λ o. option_map (param_id (depth_within outer)) (elim o as (λ _. Option Param) [ None ↦ option_map Own (place (of_params text own) name) | Some k ↦ Some (Outer k) ])) n
+      ap (λ o. option_map (param_id (depth_within outer))
+      (elim o as (λ _. Option Param) [ None ↦ option_map Own (place (of_params text own) name) | Some k ↦ Some (Outer k) ])) n
       ∙ ap (λ o. option_map (param_id (depth_within outer)) (option_map Own o)) e
 
-means : (text : Bytes) (outer own : List ParamDecl) → AreToldApart text outer own → (d k : ℕ) (q : ParamDecl) → slice_get (param_decls_of_depth outer own d) k ≡ Some q
+means : (text : Bytes) (outer own : List ParamDecl) → AreToldApart text outer own → (d k : ℕ) (q : ParamDecl)
+    → slice_get (param_decls_of_depth outer own d) k ≡ Some q
     → option_map (param_id (depth_within outer)) (param_in text outer own (word text q.name)) ≡ Some (record { depth = d; index = k })
 means text [] own told zero k q e = own_means text [] own told (word text q.name) k refl (own_first text [] own told k q e)
 means text [] own told (suc d) k q e = absurd cc
@@ -133,12 +138,15 @@ module _ (text : Bytes) (s : Skeleton) (g : Signature) where
 
   param_is : (name : Bytes) → param_of (spaces text s) g name ≡ param_in text (outer_param_decls s g) (own_param_decls s g) name
   param_is name =
-      λ i. elim (place (outer_declared text s g i) name) as (λ _. Option Param) [ None ↦ option_map Own (place (own_declared text s g i) name) | Some k ↦ Some (Outer k) ]
+      λ i. elim (place (outer_declared text s g i) name)
+      as (λ _. Option Param) [ None ↦ option_map Own (place (own_declared text s g i) name) | Some k ↦ Some (Outer k) ]
 
   pub param_says : (name : Bytes) (p : ParamId) → meant name ≡ Some p → IsParamNamed text s g name p
-  param_says name p e = found text (outer_param_decls s g) (own_param_decls s g) name p (sym (ap (option_map (param_id (own_depth s g))) (param_is name)) ∙ e)
+  param_says name p e =
+      found text (outer_param_decls s g) (own_param_decls s g) name p (sym (ap (option_map (param_id (own_depth s g))) (param_is name)) ∙ e)
 
-  pub param_named : AreToldApart text (outer_param_decls s g) (own_param_decls s g) → (name : Bytes) (p : ParamId) → (meant name ≡ Some p) ↔ IsParamNamed text s g name p
+  pub param_named : AreToldApart text (outer_param_decls s g) (own_param_decls s g) → (name : Bytes) (p : ParamId)
+      → (meant name ≡ Some p) ↔ IsParamNamed text s g name p
   param_named told name p = (
     param_says name p,
     λ called.
@@ -162,7 +170,8 @@ module _ (text : Bytes) (s : Skeleton) (names : HasNames text s) (of_structs : (
     own_declarations = declarations.own_params d g
 
     abbrev others : List Refusal
-    others = flat_map (of_param text d (begins_in_signature d g)) params ++ flat_map (of_requirement text d (begins_in_signature d g)) clause
+    others =
+        flat_map (of_param text d (begins_in_signature d g)) params ++ flat_map (of_requirement text d (begins_in_signature d g)) clause
 
     once : All Never (duplicates (of_params text (own_param_decls s g)) (of_params text (own_param_decls s g)))
     once =
@@ -176,8 +185,10 @@ module _ (text : Bytes) (s : Skeleton) (names : HasNames text s) (of_structs : (
         (all_left Never (duplicates outer_declarations own_declarations) others
         (all_right Never (duplicates own_declarations own_declarations) (duplicates outer_declarations own_declarations ++ others) none)))
 
-  top : (g : Signature) (ps : List ParamDecl) → own_param_decls s g ≡ ps → outer_param_decls s g ≡ [] → (from : ℕ) → AreRising param_start from ps
-      → All Never (duplicates (of_params text (own_param_decls s g)) (of_params text (own_param_decls s g))) → AreToldApart text [] (own_param_decls s g)
+  top : (g : Signature) (ps : List ParamDecl) → own_param_decls s g ≡ ps → outer_param_decls s g ≡ [] → (from : ℕ)
+      → AreRising param_start from ps
+      → All Never (duplicates (of_params text (own_param_decls s g)) (of_params text (own_param_decls s g)))
+      → AreToldApart text [] (own_param_decls s g)
   top g ps own outer from rising once = record {
     outer_from = 0;
     outer_rising = tt;
@@ -200,7 +211,8 @@ module _ (text : Bytes) (s : Skeleton) (names : HasNames text s) (of_structs : (
     outer_rising = subst (AreRising param_start order.from) (sym outer) order.own;
     own_from = order.from;
     own_rising = subst (AreRising param_start order.from) (sym own) (order.inner f inside);
-    later = λ p c. subst (AreRising param_start (suc (param_start p))) (sym own) (order.later p (subst (λ ps. Contains ps p) outer c) f inside);
+    later =
+        λ p c. subst (AreRising param_start (suc (param_start p))) (sym own) (order.later p (subst (λ ps. Contains ps p) outer c) f inside);
     outer_once = once (Struct i) t.params t.clause of_it;
     own_once = once (Nested i j) f.params f.clause of_inner;
     own_apart = apart (Nested i j) f.params f.clause of_inner;
@@ -225,14 +237,16 @@ module _ (text : Bytes) (s : Skeleton) (names : HasNames text s) (of_structs : (
       all_of_inner = by_place (of_nested text d i) 0 t.functions
 
       of_it : All Never (of_signature text d (Struct i) t.params t.clause)
-      of_it = all_left Never (of_signature text d (Struct i) t.params t.clause) (duplicates functions functions ++ all_of_inner) (none_of_struct text s names i t at)
+      of_it = all_left Never (of_signature text d (Struct i) t.params t.clause) (duplicates functions functions ++ all_of_inner)
+          (none_of_struct text s names i t at)
 
       of_inner : All Never (of_signature text d (Nested i j) f.params f.clause)
       of_inner =
           let first : 0 + j ≡ j = omega arith in
           placed_piece Never (of_nested text d i) 0 t.functions j j f first there
           (all_right Never (duplicates functions functions) all_of_inner
-          (all_right Never (of_signature text d (Struct i) t.params t.clause) (duplicates functions functions ++ all_of_inner) (none_of_struct text s names i t at)))
+          (all_right Never (of_signature text d (Struct i) t.params t.clause) (duplicates functions functions ++ all_of_inner)
+          (none_of_struct text s names i t at)))
 
   pub told_apart : (g : Signature) → IsIn s g → AreToldApart text (outer_param_decls s g) (own_param_decls s g)
   told_apart (Struct i) h =
@@ -241,10 +255,12 @@ module _ (text : Bytes) (s : Skeleton) (names : HasNames text s) (of_structs : (
       let functions : List Declaration = get_or d.nested i [] in
       top (Struct i) t.params (ap params_of_struct at) refl order.from order.own
       (once (Struct i) t.params t.clause
-      (all_left Never (of_signature text d (Struct i) t.params t.clause) (duplicates functions functions ++ by_place (of_nested text d i) 0 t.functions)
+      (all_left Never (of_signature text d (Struct i) t.params t.clause)
+      (duplicates functions functions ++ by_place (of_nested text d i) 0 t.functions)
       (none_of_struct text s names i t at)))
   told_apart (Function k) h =
       let (f, at) = there_is s.functions k h in
       let order = of_functions f (get_contains s.functions k f at) in
-      top (Function k) f.params (ap params_of_function at) refl order.0 order.1 (once (Function k) f.params f.clause (none_of_function text s names k f at))
+      top (Function k) f.params (ap params_of_function at) refl order.0 order.1
+      (once (Function k) f.params f.clause (none_of_function text s names k f at))
   told_apart (Nested i j) (t, at, l) = let (f, there) = there_is t.functions j l in nested i j t f at there

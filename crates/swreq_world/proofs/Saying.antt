@@ -69,21 +69,25 @@ module _ (text : Bytes) (s : Skeleton) (x : LexiconView) (is : IsLexiconOf text 
   -- a name that means a protocol
   reference_says : (p : Span) (k : ℕ) → protocol_of (spaces text s) (word text p) ≡ Some k → SaysProtocol text x (proto_of words p) p
   reference_says p k e =
-      let (q, at, called) = protocol_named text s x is (word text p) k (subst (λ (d : Spaces). protocol_of d (word text p) ≡ Some k) (sym is.resolved.declared) e) in
+      let (q, at, called) = protocol_named text s x is (word text p) k
+      (subst (λ (d : Spaces). protocol_of d (word text p) ≡ Some k) (sym is.resolved.declared) e) in
       subst (λ n. slice_get x.protocols (rank x.protocols n) ≡ Some n) called (protocol_says k q at)
 
   -- the names that protocols declare
-  member_says : (p : ProtocolDecl) (m : AssocDecl) → Contains s.protocols p → Contains p.members m → SaysName text x (name_of words m.name) m.name
+  member_says : (p : ProtocolDecl) (m : AssocDecl) → Contains s.protocols p → Contains p.members m
+      → SaysName text x (name_of words m.name) m.name
   member_says p m c d =
       let a = word text m.name in
       name_says a
       (Contains-append_left (flat_map (names.declared_by text) s.protocols) (flat_map (λ t. names.members_in text t.1) (types s)) a
       (in_pieces (names.declared_by text) s.protocols p a c (contains_map (λ (n : AssocDecl). word text n.name) p.members m d)))
 
-  member_name_says : (inherits : ℕ → ℕ → Bool) (k : ℕ) (a : Bytes) → has_member (spaces text s) inherits k a ≡ true → slice_get x.names (rank x.names a) ≡ Some a
+  member_name_says : (inherits : ℕ → ℕ → Bool) (k : ℕ) (a : Bytes) → has_member (spaces text s) inherits k a ≡ true
+      → slice_get x.names (rank x.names a) ≡ Some a
   member_name_says inherits k a e =
       let (j, h) = declared_somewhere (spaces text s) inherits k a e in
-      let (p, m, at, c, called) = declared_member text s x is j a (subst (λ (d : Spaces). declares d j a ≡ true) (sym is.resolved.declared) h) in
+      let (p, m, at, c, called) =
+      declared_member text s x is j a (subst (λ (d : Spaces). declares d j a ≡ true) (sym is.resolved.declared) h) in
       subst (λ n. slice_get x.names (rank x.names n) ≡ Some n) called (member_says p m (get_contains s.protocols j p at) c)
 
   -- ---- steps
@@ -94,9 +98,11 @@ module _ (text : Bytes) (s : Skeleton) (x : LexiconView) (is : IsLexiconOf text 
         let a = word text (member_of y) in
         name_says a
         (Contains-append_right (flat_map (names.declared_by text) s.protocols) (flat_map (λ t. names.members_in text t.1) (types s)) a
-        (in_pieces (λ (u : parts.Scope × TypeDecl). names.members_in text u.1) (types s) (scope, t) a c (contains_map (λ z. word text (member_of z)) t.steps y k)))
+        (in_pieces (λ (u : parts.Scope × TypeDecl). names.members_in text u.1) (types s) (scope, t) a c
+        (contains_map (λ z. word text (member_of z)) t.steps y k)))
 
-    bound_says : (p a : Span) → Contains t.steps (decls.Bound p a) → (o : Option ℕ) → protocol_of (spaces text s) (word text p) ≡ o → All Never (of_bound text (spaces text s) p a o)
+    bound_says : (p a : Span) → Contains t.steps (decls.Bound p a) → (o : Option ℕ) → protocol_of (spaces text s) (word text p) ≡ o
+        → All Never (of_bound text (spaces text s) p a o)
         → SaysStep text x (step_of words (decls.Bound p a)) (decls.Bound p a)
     bound_says p a k None e h = absurd (refused NotAProtocol p.start h)
     bound_says p a k (Some i) e h =
@@ -104,7 +110,8 @@ module _ (text : Bytes) (s : Skeleton) (x : LexiconView) (is : IsLexiconOf text 
         let declares_it = passes (declares (spaces text s) i (word text a)) NoSuchMember a.start h in
         record {
           pair = pair (proto_of words p) (name_of words a);
-          there = associated_stands text s x is (word text p) (word text a) i (subst (λ (d : Spaces). protocol_of d (word text p) ≡ Some i) back e)
+          there = associated_stands text s x is (word text p) (word text a) i
+              (subst (λ (d : Spaces). protocol_of d (word text p) ≡ Some i) back e)
               (subst (λ (d : Spaces). declares d i (word text a) ≡ true) back declares_it);
           protocol = reference_says p i e;
           name = step_name_says (decls.Bound p a) k;
@@ -114,7 +121,8 @@ module _ (text : Bytes) (s : Skeleton) (x : LexiconView) (is : IsLexiconOf text 
     step_says (decls.Plain a) k h = step_name_says (decls.Plain a) k
     step_says (decls.Bound p a) k h = bound_says p a k (protocol_of (spaces text s) (word text p)) refl h
 
-  steps_say : (ds : List StepDecl) → ((y : StepDecl) → Contains ds y → SaysStep text x (step_of words y) y) → SaySteps text x (map (step_of words) ds) ds
+  steps_say : (ds : List StepDecl) → ((y : StepDecl) → Contains ds y → SaysStep text x (step_of words y) y)
+      → SaySteps text x (map (step_of words) ds) ds
   steps_say [] f = tt
   steps_say (y ∷ ds) f = (f y (first_member y ds), steps_say ds (λ z c. f z (later_member y z ds c)))
 
@@ -134,7 +142,8 @@ module _ (text : Bytes) (s : Skeleton) (x : LexiconView) (is : IsLexiconOf text 
           primaries = λ a h. member_name_says no_refusal.inherits k (word text a) (primary_is_member text s no_refusal k p at a h);
         }
 
-    pub entity_says : (scope : parts.Scope) (e : Entity) → Contains (entities s) (scope, e) → e.layout ≡ false → SaysProtocol text x (proto_of words e.span) e.span
+    pub entity_says : (scope : parts.Scope) (e : Entity) → Contains (entities s) (scope, e) → e.layout ≡ false
+        → SaysProtocol text x (proto_of words e.span) e.span
     entity_says scope e c no_layout = let (k, h) = is_protocol text s no_refusal scope e c no_layout in reference_says e.span k h
 
     -- the primary names of what stands on the right of a colon
@@ -148,14 +157,16 @@ module _ (text : Bytes) (s : Skeleton) (x : LexiconView) (is : IsLexiconOf text 
 
     -- ---- types
 
-    module _ (scope : parts.Scope) (t : TypeDecl) (c : Contains (types s) (scope, t)) (begins : Bytes → Bool) (starts : begins_at text s no_refusal.inherits scope ≡ Some begins) where
+    module _ (scope : parts.Scope) (t : TypeDecl) (c : Contains (types s) (scope, t)) (begins : Bytes → Bool)
+        (starts : begins_at text s no_refusal.inherits scope ≡ Some begins) where
       all_steps_say : SaySteps text x (map (step_of words) t.steps) t.steps
       all_steps_say = steps_say t.steps (λ y k. step_says scope t c y k (none_of_step text s no_refusal scope t c begins starts y k))
 
       first_word : begins (word text t.head) ≡ true
       first_word = begins_so text s no_refusal scope t c begins starts
 
-    in_protocol_says : (i : ℕ) (t : TypeDecl) → Contains (types s) (in_protocol i, t) → SaysType text s x contexts.Protocol (type_in words contexts.Protocol t) t
+    in_protocol_says : (i : ℕ) (t : TypeDecl) → Contains (types s) (in_protocol i, t)
+        → SaysType text s x contexts.Protocol (type_in words contexts.Protocol t) t
     in_protocol_says i t c = by (bytes_eq self_bytes name) refl
       where
         name : Bytes
@@ -167,8 +178,10 @@ module _ (text : Bytes) (s : Skeleton) (x : LexiconView) (is : IsLexiconOf text 
         all_say : SaySteps text x (map (step_of words) t.steps) t.steps
         all_say = all_steps_say (in_protocol i) t c begins refl
 
-        by : (b : Bool) → bytes_eq self_bytes name ≡ b → SaysType text s x contexts.Protocol (with_steps (cond b self (member_named words self t.head)) (map (step_of words) t.steps)) t
-        by true h = of_self (sym ((bytes_eq-Decides self_bytes name).0 h)) (record { steps = map (step_of words) t.steps; is = refl; say = all_say })
+        by : (b : Bool) → bytes_eq self_bytes name ≡ b → SaysType text s x contexts.Protocol
+            (with_steps (cond b self (member_named words self t.head)) (map (step_of words) t.steps)) t
+        by true h = of_self (sym ((bytes_eq-Decides self_bytes name).0 h))
+            (record { steps = map (step_of words) t.steps; is = refl; say = all_say })
         by false h =
             let is_member : has_member d no_refusal.inherits i name ≡ true
             = ⊎_elim (λ e. absurd (true≢false (sym e ∙ h))) (λ e. e)
@@ -179,7 +192,8 @@ module _ (text : Bytes) (s : Skeleton) (x : LexiconView) (is : IsLexiconOf text 
               say = (member_name_says no_refusal.inherits i name is_member, all_say);
             })
 
-    in_signature_says : (scope : parts.Scope) (g : Signature) (t : TypeDecl) → Contains (types s) (scope, t) → begins_at text s no_refusal.inherits scope ≡ Some (begins_in_signature d g)
+    in_signature_says : (scope : parts.Scope) (g : Signature) (t : TypeDecl) → Contains (types s) (scope, t)
+        → begins_at text s no_refusal.inherits scope ≡ Some (begins_in_signature d g)
         → SaysType text s x (contexts.Signature g) (type_in words (contexts.Signature g) t) t
     in_signature_says scope g t c starts = by (param_named words g (word text t.head)) refl
       where
@@ -208,7 +222,8 @@ module _ (text : Bytes) (s : Skeleton) (x : LexiconView) (is : IsLexiconOf text 
     asked_same (Some o) f = ap (λ (e : Spaces). nested_of e (word text o) (word text f)) is.resolved.declared
 
     -- The signature that a query asks is the one that is named in it.
-    pub asks_named : (q : QueryDecl) → Contains s.queries q → signature_in_query words q.outer q.function ≡ Some (asked_signature (signature_in_query words q.outer q.function))
+    pub asks_named : (q : QueryDecl) → Contains s.queries q
+        → signature_in_query words q.outer q.function ≡ Some (asked_signature (signature_in_query words q.outer q.function))
     asks_named q c =
         let (g, e) = asks text s no_refusal q c in
         let named = asked_same q.outer q.function ∙ e in
@@ -222,48 +237,66 @@ module _ (text : Bytes) (s : Skeleton) (x : LexiconView) (is : IsLexiconOf text 
         let asked = sym (asked_same q.outer q.function) ∙ asks_named q (get_contains s.queries k q at) in
         in_signature_says (in_query k) g t c (begins_asked text s no_refusal k q g at asked)
 
-    pub type_says : (part : parts.Scope) (t : TypeDecl) → Contains (types s) (part, t) → (context : Context) → IsReadIn words part context → SaysType text s x context (type_in words context t) t
+    pub type_says : (part : parts.Scope) (t : TypeDecl) → Contains (types s) (part, t) → (context : Context) → IsReadIn words part context
+        → SaysType text s x context (type_in words context t) t
     type_says (in_protocol i) t c context e = subst (λ r. SaysType text s x r (type_in words r t) t) (sym e) (in_protocol_says i t c)
-    type_says (in_signature g) t c context e = subst (λ r. SaysType text s x r (type_in words r t) t) (sym e) (in_signature_says (in_signature g) g t c refl)
-    type_says (in_query k) t c context (q, at, e) = subst (λ r. SaysType text s x r (type_in words r t) t) (sym e) (query_type_says k q at t c)
+    type_says (in_signature g) t c context e =
+        subst (λ r. SaysType text s x r (type_in words r t) t) (sym e) (in_signature_says (in_signature g) g t c refl)
+    type_says (in_query k) t c context (q, at, e) =
+        subst (λ r. SaysType text s x r (type_in words r t) t) (sym e) (query_type_says k q at t c)
 
     -- ---- constraints
 
-    module _ (part : parts.Scope) (c : Constraint) (there : Contains (constraints s) (part, c)) (context : Context) (reads : IsReadIn words part context) where
+    module _ (part : parts.Scope) (c : Constraint) (there : Contains (constraints s) (part, c)) (context : Context)
+        (reads : IsReadIn words part context) where
       said : (t : TypeDecl) → Contains (parts.types_of c) t → IsSaid words context t
       said t k =
           type_says part t
           (Contains-append_left (flat_map parts.types_at (constraints s)) (flat_map parts.asked_at (numbered 0 s.queries)) (part, t)
-          (in_pieces parts.types_at (constraints s) (part, c) (part, t) there (contains_map (λ u. (part, u)) (parts.types_of c) t k))) context reads
+          (in_pieces parts.types_at (constraints s) (part, c) (part, t) there (contains_map (λ u. (part, u)) (parts.types_of c) t k)))
+          context reads
 
       stands : (e : Entity) → Contains (parts.entities_of c) e → Contains (entities s) (part, e)
       stands e k =
-          Contains-append_left (flat_map parts.entities_at (constraints s)) (flat_map parts.asked_entities_at (numbered 0 s.queries)) (part, e)
+          Contains-append_left (flat_map parts.entities_at (constraints s))
+          (flat_map parts.asked_entities_at (numbered 0 s.queries)) (part, e)
           (in_pieces parts.entities_at (constraints s) (part, c) (part, e) there (contains_map (λ i. (part, i)) (parts.entities_of c) e k))
 
     subject_says : (part : parts.Scope) (context : Context) → IsReadIn words part context → (y : Subject) → IsDeclaredIn s part y
-        → ((t : TypeDecl) → Contains (parts.types_of_subject y) t → IsSaid words context t) → SaysSubject text s x context (subject_of words context y) y
+        → ((t : TypeDecl) → Contains (parts.types_of_subject y) t → IsSaid words context t)
+        → SaysSubject text s x context (subject_of words context y) y
     subject_says part context reads (self_of p) h f = refl
     subject_says (in_protocol i) context reads (associated a) (p, m, c, n, called) f =
-        record { steps = steps.Name (name_of words a) ∷ []; is = refl; say = (subst (λ b. SaysName text x (name_of words b) b) called (member_says p m c n), tt) }
+        record {
+          steps = steps.Name (name_of words a) ∷ [];
+          is = refl;
+          say = (subst (λ b. SaysName text x (name_of words b) b) called (member_says p m c n), tt);
+        }
     subject_says (in_signature g) context reads (associated a) h f = absurd h
     subject_says (in_query k) context reads (associated a) h f = absurd h
     subject_says (in_protocol i) context reads (parameter k p) h f = absurd h
     subject_says (in_signature g) context reads (parameter k p) (q, at, called) f =
-        subst (λ r. SaysSubject text s x r (subject_of words r (parameter k p)) (parameter k p)) (sym reads)
-        (param_id (own_depth s g) (Own k), refl, (q, at_own text (outer_param_decls s g) (own_param_decls s g) k q (outer_param_decls s g) at, ap (word text) called))
+        subst (λ r. SaysSubject text s x r (subject_of words r (parameter k p)) (parameter k p)) (sym reads) (
+          param_id (own_depth s g) (Own k),
+          refl,
+          (q, at_own text (outer_param_decls s g) (own_param_decls s g) k q (outer_param_decls s g) at, ap (word text) called),
+        )
     subject_says (in_query j) context reads (parameter k p) h f = absurd h
     subject_says part context reads (written t) h f = f t (first_member t [])
 
-    pub constraint_says : (part : parts.Scope) (c : Constraint) → Contains (constraints s) (part, c) → (context : Context) → IsReadIn words part context → SaysConstraint words context c
+    pub constraint_says : (part : parts.Scope) (c : Constraint) → Contains (constraints s) (part, c) → (context : Context)
+        → IsReadIn words part context → SaysConstraint words context c
     constraint_says part (same t u) there context reads =
-        let say = said part (same t u) there context reads in (say t (first_member t (u ∷ [])), say u (later_member t u (u ∷ []) (first_member u [])))
+        let say = said part (same t u) there context reads in
+        (say t (first_member t (u ∷ [])), say u (later_member t u (u ∷ []) (first_member u [])))
     constraint_says part (bound subject bounds) there context reads = (
-      subject_says part context reads subject (stands_in s part (bound subject bounds) there) (λ t k. say t (Contains-append_left (parts.types_of_subject subject) of_bounds t k)),
+      subject_says part context reads subject (stands_in s part (bound subject bounds) there)
+          (λ t k. say t (Contains-append_left (parts.types_of_subject subject) of_bounds t k)),
       λ e k. record {
         protocol = entity_says part e (stands part (bound subject bounds) there context reads e k);
         primaries = λ n. primaries_say part e (stands part (bound subject bounds) there context reads e k) n context;
-        arguments = λ u l. say u (Contains-append_right (parts.types_of_subject subject) of_bounds u (in_pieces parts.types_of_entity bounds e u k l));
+        arguments = λ u l.
+            say u (Contains-append_right (parts.types_of_subject subject) of_bounds u (in_pieces parts.types_of_entity bounds e u k l));
       },
     )
       where

@@ -50,7 +50,8 @@ module _ (text : Bytes) (s : Skeleton) (v : TextWorld) (is : IsWorldOf text s v)
     asked_is (asked_for.Reduced t) = refl
     asked_is (asked_for.Is t e) = by e.layout
       where
-        by : (b : Bool) → asked (cond b (AsksAnyObject f (type_in words (contexts.Signature g) t)) (AsksConforms f (type_in words (contexts.Signature g) t) (proto_of words e.span))) ≡ f
+        by : (b : Bool) → asked (cond b (AsksAnyObject f (type_in words (contexts.Signature g) t))
+            (AsksConforms f (type_in words (contexts.Signature g) t) (proto_of words e.span))) ≡ f
         by true = refl
         by false = refl
     asked_is (asked_for.Same t u) = refl
@@ -64,7 +65,8 @@ module _ (text : Bytes) (s : Skeleton) (v : TextWorld) (is : IsWorldOf text s v)
       says_in t h = subst (λ i. SaysType text s v.lexicon (contexts.Signature i) (type_in words (contexts.Signature g) t) t) (sym here) h
 
       ask_says : (a : Ask) → ((t : TypeDecl) → Contains (parts.types_of_ask a) t → IsSaid t)
-          → ((e : Entity) → Contains (parts.entities_of_ask a) e → e.layout ≡ false → SaysProtocol text v.lexicon (proto_of words e.span) e.span)
+          → ((e : Entity) → Contains (parts.entities_of_ask a) e → e.layout ≡ false
+          → SaysProtocol text v.lexicon (proto_of words e.span) e.span)
           → SaysAsk text s v (asked_of words g f a) a
       ask_says asked_for.Signature types_say entities_say = tt
       ask_says (asked_for.Reduced t) types_say entities_say = says_in t (types_say t (first_member t []))
@@ -74,7 +76,8 @@ module _ (text : Bytes) (s : Skeleton) (v : TextWorld) (is : IsWorldOf text s v)
           said = says_in t (types_say t (first_member t (parts.types_of_entity e)))
 
           by : (b : Bool) → e.layout ≡ b
-              → SaysAsk text s v (cond b (AsksAnyObject f (type_in words (contexts.Signature g) t)) (AsksConforms f (type_in words (contexts.Signature g) t) (proto_of words e.span))) (asked_for.Is t e)
+              → SaysAsk text s v (cond b (AsksAnyObject f (type_in words (contexts.Signature g) t))
+              (AsksConforms f (type_in words (contexts.Signature g) t) (proto_of words e.span))) (asked_for.Is t e)
           by true h = (said, h)
           by false h = (said, h, entities_say e (first_member e []) h)
       ask_says (asked_for.Same t u) types_say entities_say =
@@ -100,12 +103,15 @@ module _ (text : Bytes) (s : Skeleton) (v : TextWorld) (is : IsWorldOf text s v)
     type_there : (t : TypeDecl) → Contains (parts.types_of_ask q.ask) t → Contains (types s) (in_query k, t)
     type_there t c =
         Contains-append_right (flat_map parts.types_at (constraints s)) (flat_map parts.asked_at (numbered 0 s.queries)) (in_query k, t)
-        (in_pieces parts.asked_at (numbered 0 s.queries) (k, q) (in_query k, t) (has_number k s.queries q at) (contains_map (λ u. (in_query k, u)) (parts.types_of_ask q.ask) t c))
+        (in_pieces parts.asked_at (numbered 0 s.queries) (k, q) (in_query k, t) (has_number k s.queries q at)
+        (contains_map (λ u. (in_query k, u)) (parts.types_of_ask q.ask) t c))
 
     entity_there : (e : Entity) → Contains (parts.entities_of_ask q.ask) e → Contains (entities s) (in_query k, e)
     entity_there e c =
-        Contains-append_right (flat_map parts.entities_at (constraints s)) (flat_map parts.asked_entities_at (numbered 0 s.queries)) (in_query k, e)
-        (in_pieces parts.asked_entities_at (numbered 0 s.queries) (k, q) (in_query k, e) (has_number k s.queries q at) (contains_map (λ i. (in_query k, i)) (parts.entities_of_ask q.ask) e c))
+        Contains-append_right (flat_map parts.entities_at (constraints s))
+        (flat_map parts.asked_entities_at (numbered 0 s.queries)) (in_query k, e)
+        (in_pieces parts.asked_entities_at (numbered 0 s.queries) (k, q) (in_query k, e) (has_number k s.queries q at)
+        (contains_map (λ i. (in_query k, i)) (parts.entities_of_ask q.ask) e c))
 
     pub query_says : (a : TermQuery) × (slice_get v.queries k ≡ Some a) × SaysQuery text s v a q
     query_says = (

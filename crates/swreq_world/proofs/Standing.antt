@@ -51,9 +51,11 @@ same_signature (Function i) (Function k) e = ap Function (same_number i k e)
 same_signature (Function i) (Nested k l) e = absurd cc
 same_signature (Nested i j) (Struct k) e = absurd cc
 same_signature (Nested i j) (Function k) e = absurd cc
-same_signature (Nested i j) (Nested k l) e = λ n. Nested (same_number i k (and_parts (nat_eq i k) (nat_eq j l) e).0 n) (same_number j l (and_parts (nat_eq i k) (nat_eq j l) e).1 n)
+same_signature (Nested i j) (Nested k l) e =
+    λ n. Nested (same_number i k (and_parts (nat_eq i k) (nat_eq j l) e).0 n) (same_number j l (and_parts (nat_eq i k) (nat_eq j l) e).1 n)
 
-place_of : (order : List Signature) (g : Signature) → is_signature g g ≡ true → Contains order g → (k : ℕ) × (place_in order g ≡ Some k) × (slice_get order k ≡ Some g)
+place_of : (order : List Signature) (g : Signature) → is_signature g g ≡ true → Contains order g
+    → (k : ℕ) × (place_in order g ≡ Some k) × (slice_get order k ≡ Some g)
 place_of order g s c = by (place_in order g) refl
   where
     by : (o : Option ℕ) → place_in order g ≡ o → (k : ℕ) × (place_in order g ≡ Some k) × (slice_get order k ≡ Some g)
@@ -70,13 +72,15 @@ place_of order g s c = by (place_in order g) refl
 functions_there : (k n m : ℕ) → k ≤ m → m < k + n → Contains (functions_from k n) (Function m)
 functions_there k zero m h l = absurd (omega arith)
 functions_there k (suc n) m h l =
-    ⊎_elim (λ b. Contains-append_right (Function k ∷ []) (functions_from (k + 1) n) (Function m) (functions_there (k + 1) n m (omega arith) (omega arith)))
+    ⊎_elim (λ b. Contains-append_right (Function k ∷ []) (functions_from (k + 1) n) (Function m)
+    (functions_there (k + 1) n m (omega arith) (omega arith)))
     (λ b. (0, omega arith, ap Function (same b))) (cases_lt k m)
   where
     same : m ≤ k → k ≡ m
     same b = omega arith
 
-function_there : (i : ℕ) (ss : List StructDecl) (k : ℕ) (fs : List FunctionDecl) (m : ℕ) → k ≤ m → m < k + length fs → Contains (merged_from i ss k fs) (Function m)
+function_there : (i : ℕ) (ss : List StructDecl) (k : ℕ) (fs : List FunctionDecl) (m : ℕ) → k ≤ m → m < k + length fs
+    → Contains (merged_from i ss k fs) (Function m)
 function_there i [] k fs m h l = functions_there k (length fs) m h l
 function_there i (s ∷ ss) k fs m h l =
     let n = prefix_len (stands_before s) fs in
@@ -84,15 +88,18 @@ function_there i (s ∷ ss) k fs m h l =
     let e = length_rest fs n in
     ⊎_elim (λ b. Contains-append_left (functions_from k n) (with_nested i s ++ later) (Function m) (functions_there k n m h b))
     (λ b. Contains-append_right (functions_from k n) (with_nested i s ++ later) (Function m)
-    (Contains-append_right (with_nested i s) later (Function m) (function_there (i + 1) ss (k + n) (drop n fs) m b (omega arith)))) (cases_lt m (k + n))
+    (Contains-append_right (with_nested i s) later (Function m) (function_there (i + 1) ss (k + n) (drop n fs) m b (omega arith))))
+    (cases_lt m (k + n))
 
-struct_there : (i : ℕ) (ss : List StructDecl) (k : ℕ) (fs : List FunctionDecl) (m : ℕ) → i ≤ m → m < i + length ss → Contains (merged_from i ss k fs) (Struct m)
+struct_there : (i : ℕ) (ss : List StructDecl) (k : ℕ) (fs : List FunctionDecl) (m : ℕ) → i ≤ m → m < i + length ss
+    → Contains (merged_from i ss k fs) (Struct m)
 struct_there i [] k fs m h l = absurd (omega arith)
 struct_there i (s ∷ ss) k fs m h l =
     let n = prefix_len (stands_before s) fs in
     let later = merged_from (i + 1) ss (k + n) (drop n fs) in
     Contains-append_right (functions_from k n) (with_nested i s ++ later) (Struct m)
-    (⊎_elim (λ b. Contains-append_right (with_nested i s) later (Struct m) (struct_there (i + 1) ss (k + n) (drop n fs) m (omega arith) (omega arith)))
+    (⊎_elim (λ b.
+    Contains-append_right (with_nested i s) later (Struct m) (struct_there (i + 1) ss (k + n) (drop n fs) m (omega arith) (omega arith)))
     (λ b. (0, omega arith, ap Struct (same b))) (cases_lt i m))
   where
     same : m ≤ i → i ≡ m
@@ -161,21 +168,27 @@ module _ (i : ℕ) (s : StructDecl) (ss : List StructDecl) (before later : List 
         stands = ap (slice_get (s ∷ ss)) next ∙ f.stands;
         functions = λ j g.
             let at : p + (1 + j) ≡ length before + (length own + (r + (1 + j))) = omega (arith, a, b) in
-            ap (slice_get all) at ∙ get_after before (own ++ later) (length own + (r + (1 + j))) ∙ get_after own later (r + (1 + j)) ∙ f.functions j g;
+            ap (slice_get all) at ∙ get_after before (own ++ later) (length own + (r + (1 + j)))
+            ∙ get_after own later (r + (1 + j)) ∙ f.functions j g;
       }
 
-  first_or_later : ((r : ℕ) → slice_get later r ≡ Some (Struct m) → IsFollowed later (i + 1) ss m r) → (slice_get before p ≡ Some (Struct m) → ⊥) → slice_get all p ≡ Some (Struct m)
+  first_or_later : ((r : ℕ) → slice_get later r ≡ Some (Struct m) → IsFollowed later (i + 1) ss m r)
+      → (slice_get before p ≡ Some (Struct m) → ⊥) → slice_get all p ≡ Some (Struct m)
       → IsFollowed all i (s ∷ ss) m p
-  first_or_later rest none e = ⊎_elim (λ h. absurd (none h)) (λ h. past h.0 h.1 (get_either own later h.0 (Struct m) h.2)) (get_either before (own ++ later) p (Struct m) e)
+  first_or_later rest none e = ⊎_elim (λ h. absurd (none h)) (λ h. past h.0 h.1 (get_either own later h.0 (Struct m) h.2))
+      (get_either before (own ++ later) p (Struct m) e)
     where
-      past : (q : ℕ) → p ≡ length before + q → (slice_get own q ≡ Some (Struct m)) ⊎ ((r : ℕ) × (q ≡ length own + r) × (slice_get later r ≡ Some (Struct m))) → IsFollowed all i (s ∷ ss) m p
+      past : (q : ℕ) → p ≡ length before + q → (slice_get own q ≡ Some (Struct m))
+          ⊎ ((r : ℕ) × (q ≡ length own + r) × (slice_get later r ≡ Some (Struct m))) → IsFollowed all i (s ∷ ss) m p
       past q a o = ⊎_elim (λ h. here q a h) (λ h. further q h.0 a h.1 (rest h.0 h.2)) o
 
-followed : (i : ℕ) (ss : List StructDecl) (k : ℕ) (fs : List FunctionDecl) (m p : ℕ) → slice_get (merged_from i ss k fs) p ≡ Some (Struct m) → IsFollowed (merged_from i ss k fs) i ss m p
+followed : (i : ℕ) (ss : List StructDecl) (k : ℕ) (fs : List FunctionDecl) (m p : ℕ) → slice_get (merged_from i ss k fs) p ≡ Some (Struct m)
+    → IsFollowed (merged_from i ss k fs) i ss m p
 followed i [] k fs m p e = absurd (no_struct_at_top k (length fs) m p e)
 followed i (s ∷ ss) k fs m p e =
     let n = prefix_len (stands_before s) fs in
-    first_or_later i s ss (functions_from k n) (merged_from (i + 1) ss (k + n) (drop n fs)) m p (λ r h. followed (i + 1) ss (k + n) (drop n fs) m r h) (no_struct_at_top k n m p) e
+    first_or_later i s ss (functions_from k n) (merged_from (i + 1) ss (k + n) (drop n fs)) m p
+    (λ r h. followed (i + 1) ss (k + n) (drop n fs) m r h) (no_struct_at_top k n m p) e
 
 -- ---- each signature
 
@@ -192,7 +205,8 @@ stands s (Nested i j) h =
     let f = followed 0 s.structs 0 s.functions i p.0 p.2 in
     let z : i - 0 ≡ i = omega arith in
     let same = same_Some h.0 f.is (sym h.1 ∙ ap (slice_get s.structs) (sym z) ∙ f.stands) in
-    ap (λ o. slice_get (in_order s) (unwrap_or o 0 + (1 + j))) p.1 ∙ f.functions j (subst (λ (t : StructDecl). j < length t.functions) same h.2)
+    ap (λ o. slice_get (in_order s) (unwrap_or o 0 + (1 + j))) p.1
+    ∙ f.functions j (subst (λ (t : StructDecl). j < length t.functions) same h.2)
 
 -- ---- each signature that is declared
 
@@ -212,7 +226,8 @@ is_in s (Nested i j) h = by (slice_get s.structs i) refl h.1
 pub has_place : (s : Skeleton) (g : Signature) → HasSignature s g → slice_get (in_order s) (func_id (in_order s) g).place ≡ Some g
 has_place s g h = stands s g (is_in s g h)
 
-pub signature_stands : (w : WordsView) (gs : List (SignatureOver PlacedRequirement)) → gs ≡ signatures w → (f : FuncId) (g : Signature) → slice_get (in_order w.skeleton) f.place ≡ Some g
+pub signature_stands : (w : WordsView) (gs : List (SignatureOver PlacedRequirement)) → gs ≡ signatures w → (f : FuncId) (g : Signature)
+    → slice_get (in_order w.skeleton) f.place ≡ Some g
     → slice_get gs f.place ≡ Some (signature_in w (in_order w.skeleton) g)
 signature_stands w gs is f g e =
     ap (λ hs. slice_get hs f.place) is ∙ stands_mapped (signature_in w (in_order w.skeleton)) (in_order w.skeleton) f.place g e
@@ -226,7 +241,9 @@ some_within order g h = by (place_in order g) refl
     by None e = h
     by (Some k) e = let l = from_below (is_signature g) 0 order k e in omega arith
 
-pub outer_within : (order : List Signature) (g : Signature) (f : FuncId) → 0 < length order → outer_of order g ≡ Some f → f.place < length order
+pub outer_within : (order : List Signature) (g : Signature) (f : FuncId) → 0 < length order → outer_of order g ≡ Some f
+    → f.place < length order
 outer_within order (Struct i) f h e = absurd cc
 outer_within order (Function i) f h e = absurd cc
-outer_within order (Nested i j) f h e = subst (λ (o : FuncId). o.place < length order) (same_Some (func_id order (Struct i)) f e) (some_within order (Struct i) h)
+outer_within order (Nested i j) f h e =
+    subst (λ (o : FuncId). o.place < length order) (same_Some (func_id order (Struct i)) f e) (some_within order (Struct i) h)

@@ -29,7 +29,8 @@ IsDeclaration _ = Unit {0}
 module _ (s : Skeleton) where
   -- An associated type is of a protocol, and a generic parameter of the signature stands at its place.
   abbrev pub IsDeclaredIn : Scope → Subject → Type 0
-  IsDeclaredIn (in_protocol i) (associated a) = (p : ProtocolDecl) × (m : AssocDecl) × Contains s.protocols p × Contains p.members m × (m.name ≡ a)
+  IsDeclaredIn (in_protocol i) (associated a) =
+      (p : ProtocolDecl) × (m : AssocDecl) × Contains s.protocols p × Contains p.members m × (m.name ≡ a)
   IsDeclaredIn (in_protocol i) (parameter k p) = ⊥
   IsDeclaredIn (in_signature g) (parameter k p) = (q : ParamDecl) × (slice_get (own_param_decls s g) k ≡ Some q) × (q.name ≡ p)
   IsDeclaredIn (in_signature g) (associated a) = ⊥
@@ -43,7 +44,8 @@ module _ (s : Skeleton) where
   abbrev Stands : Scope × Constraint → Type 0
   Stands c = StandsIn c.0 c.1
 
-  all_stand : (scope : Scope) (cs : List Constraint) → ((k : Constraint) → Contains cs k → StandsIn scope k) → (c : Scope × Constraint) → Contains (standing scope cs) c → Stands c
+  all_stand : (scope : Scope) (cs : List Constraint) → ((k : Constraint) → Contains cs k → StandsIn scope k) → (c : Scope × Constraint)
+      → Contains (standing scope cs) c → Stands c
   all_stand scope cs f c h = let (k, n, e) = contains_of_map (λ (x : Constraint). (scope, x)) cs c h in subst Stands (sym e) (f k n)
 
   -- ---- clauses
@@ -57,12 +59,15 @@ module _ (s : Skeleton) where
   of_requirement scope d (requirements.Bound t bounds) = written_in scope d t
   of_requirement scope d (requirements.Same t u) = d
 
-  of_clause : (scope : Scope) → IsDeclaration scope → (rs : List ReqDecl) (k : Constraint) → Contains (parts.of_clause rs) k → StandsIn scope k
-  of_clause scope d rs k h = let (r, n, e) = contains_of_map parts.of_requirement rs k h in subst (StandsIn scope) (sym e) (of_requirement scope d r)
+  of_clause : (scope : Scope) → IsDeclaration scope → (rs : List ReqDecl) (k : Constraint)
+      → Contains (parts.of_clause rs) k → StandsIn scope k
+  of_clause scope d rs k h =
+      let (r, n, e) = contains_of_map parts.of_requirement rs k h in subst (StandsIn scope) (sym e) (of_requirement scope d r)
 
   -- ---- protocols
 
-  of_protocol : (i : ℕ) (p : ProtocolDecl) → Contains s.protocols p → (k : Constraint) → Contains (parts.of_protocol p) k → StandsIn (in_protocol i) k
+  of_protocol : (i : ℕ) (p : ProtocolDecl) → Contains s.protocols p → (k : Constraint) → Contains (parts.of_protocol p) k
+      → StandsIn (in_protocol i) k
   of_protocol i p c k h =
       ⊎_elim (λ e. subst (StandsIn (in_protocol i)) (sym e) tt)
       (λ l. ⊎_elim (of_clause (in_protocol i) tt p.clause k) (λ m. of_member (from_pieces parts.of_member p.members k m))
@@ -76,7 +81,8 @@ module _ (s : Skeleton) where
 
   -- ---- signatures
 
-  of_signature : (g : Signature) (ps : List ParamDecl) (rs : List ReqDecl) → own_param_decls s g ≡ ps → (k : Constraint) → Contains (parts.of_signature ps rs) k → StandsIn (in_signature g) k
+  of_signature : (g : Signature) (ps : List ParamDecl) (rs : List ReqDecl) → own_param_decls s g ≡ ps → (k : Constraint)
+      → Contains (parts.of_signature ps rs) k → StandsIn (in_signature g) k
   of_signature g ps rs own k h =
       ⊎_elim
       (λ l. let (q, n, e) = contains_of_map parts.of_param (numbered 0 ps) k l in
@@ -84,7 +90,8 @@ module _ (s : Skeleton) where
       (of_clause (in_signature g) tt rs k)
       (Contains-append_cases (map parts.of_param (numbered 0 ps)) (parts.of_clause rs) k h)
 
-  of_struct : (t : ℕ × StructDecl) → Contains (numbered 0 s.structs) t → (c : Scope × Constraint) → Contains (parts.in_struct_at t) c → Stands c
+  of_struct : (t : ℕ × StructDecl) → Contains (numbered 0 s.structs) t → (c : Scope × Constraint)
+      → Contains (parts.in_struct_at t) c → Stands c
   of_struct t n c h =
       ⊎_elim (all_stand (in_signature (Struct t.0)) mine (of_signature (Struct t.0) t.1.params t.1.clause (ap params_of_struct at)) c)
       (λ l. of_nested (from_pieces (parts.in_nested_at t.0) (numbered 0 t.1.functions) c l))
@@ -102,7 +109,8 @@ module _ (s : Skeleton) where
           (of_signature (Nested t.0 f.0) f.1.params f.1.clause
           (ap (λ o. params_of_function (slice_get (functions_of o) f.0)) at ∙ ap params_of_function (number_of t.1.functions f m))) c l
 
-  of_function : (f : ℕ × FunctionDecl) → Contains (numbered 0 s.functions) f → (c : Scope × Constraint) → Contains (parts.in_function_at f) c → Stands c
+  of_function : (f : ℕ × FunctionDecl) → Contains (numbered 0 s.functions) f → (c : Scope × Constraint)
+      → Contains (parts.in_function_at f) c → Stands c
   of_function f n =
       all_stand (in_signature (Function f.0)) (parts.of_signature f.1.params f.1.clause)
       (of_signature (Function f.0) f.1.params f.1.clause (ap params_of_function (number_of s.functions f n)))
@@ -113,7 +121,8 @@ module _ (s : Skeleton) where
   stands_in scope k h =
       ⊎_elim
       (λ l. let (p, n, m) = from_pieces parts.in_protocol_at (numbered 0 s.protocols) c l in
-      all_stand (in_protocol p.0) (parts.of_protocol p.1) (of_protocol p.0 p.1 (get_contains s.protocols p.0 p.1 (number_of s.protocols p n))) c m)
+      all_stand (in_protocol p.0) (parts.of_protocol p.1)
+      (of_protocol p.0 p.1 (get_contains s.protocols p.0 p.1 (number_of s.protocols p n))) c m)
       (λ l. ⊎_elim (λ m. let (t, n, o) = from_pieces parts.in_struct_at (numbered 0 s.structs) c m in of_struct t n c o)
       (λ m. let (f, n, o) = from_pieces parts.in_function_at (numbered 0 s.functions) c m in of_function f n c o)
       (Contains-append_cases structs functions c l))

@@ -77,18 +77,21 @@ module _ (text : Bytes) (s : Skeleton) (names : HasNames text s) where
       → has_member d names.inherits i (word text a) ≡ true
   primary_is_member i p at a c =
       passes (has_member d names.inherits i (word text a)) NoSuchMember a.start
-      (of_part (primary_of d names.inherits i) (declarations text p.primaries) each (declaration text a) (contains_map (declaration text) p.primaries a c))
+      (of_part (primary_of d names.inherits i) (declarations text p.primaries) each (declaration text a)
+      (contains_map (declaration text) p.primaries a c))
     where
       protocols : List Refusal
       protocols = flat_map (own_of_protocol text s names.inherits) (numbered 0 s.protocols)
 
       signatures : List Refusal
-      signatures = flat_map (again_in_struct text s names.inherits) (numbered 0 s.structs) ++ flat_map (again_in_function text s names.inherits) (numbered 0 s.functions)
+      signatures = flat_map (again_in_struct text s names.inherits) (numbered 0 s.structs)
+          ++ flat_map (again_in_function text s names.inherits) (numbered 0 s.functions)
 
       own_names : All Never (own_of_protocol text s names.inherits (i, p))
       own_names =
           of_part (own_of_protocol text s names.inherits) (numbered 0 s.protocols)
-          (all_left Never protocols signatures (all_left Never in_declarations (in_queries ++ (in_entities ++ in_types)) none_of_parts)) (i, p) (has_number i s.protocols p at)
+          (all_left Never protocols signatures (all_left Never in_declarations (in_queries ++ (in_entities ++ in_types)) none_of_parts))
+          (i, p) (has_number i s.protocols p at)
 
       same : get_or d.primaries i [] ≡ declarations text p.primaries
       same = at_mapped (λ (q : ProtocolDecl). declarations text q.primaries) s.protocols i p [] at
@@ -96,11 +99,13 @@ module _ (text : Bytes) (s : Skeleton) (names : HasNames text s) where
       each : All Never (flat_map (primary_of d names.inherits i) (declarations text p.primaries))
       each =
           subst (λ ds. All Never (flat_map (primary_of d names.inherits i) ds)) same
-          (all_right Never (again_in_protocol text s names.inherits i) (flat_map (primary_of d names.inherits i) (get_or d.primaries i [])) own_names)
+          (all_right Never (again_in_protocol text s names.inherits i)
+          (flat_map (primary_of d names.inherits i) (get_or d.primaries i [])) own_names)
 
   -- ---- types
 
-  module _ (scope : Scope) (t : TypeDecl) (c : Contains (types s) (scope, t)) (begins : Bytes → Bool) (starts : begins_at text s names.inherits scope ≡ Some begins) where
+  module _ (scope : Scope) (t : TypeDecl) (c : Contains (types s) (scope, t)) (begins : Bytes → Bool)
+      (starts : begins_at text s names.inherits scope ≡ Some begins) where
     abbrev of_head : List Refusal
     of_head = when (not (begins (word text t.head))) ConcreteType t.head.start
 
@@ -111,7 +116,8 @@ module _ (text : Bytes) (s : Skeleton) (names : HasNames text s) where
 
     -- The first word is one with which a type begins there.
     pub begins_so : begins (word text t.head) ≡ true
-    begins_so = passes (begins (word text t.head)) ConcreteType t.head.start (all_left Never of_head (flat_map (of_step text d) t.steps) none_of_type)
+    begins_so = passes (begins (word text t.head)) ConcreteType t.head.start
+        (all_left Never of_head (flat_map (of_step text d) t.steps) none_of_type)
 
     pub none_of_step : (y : StepDecl) → Contains t.steps y → All Never (of_step text d y)
     none_of_step y k = of_part (of_step text d) t.steps (all_right Never of_head (flat_map (of_step text d) t.steps) none_of_type) y k
@@ -120,7 +126,8 @@ module _ (text : Bytes) (s : Skeleton) (names : HasNames text s) where
 
   -- A query asks a signature.
   pub asks : (q : QueryDecl) → Contains s.queries q → (g : Signature) × (signature_asked text s q.outer q.function ≡ Some g)
-  asks q c = by q.outer (of_part (unknown text s names.inherits) s.queries (all_left Never in_queries (in_entities ++ in_types) none_after) q c)
+  asks q c =
+      by q.outer (of_part (unknown text s names.inherits) s.queries (all_left Never in_queries (in_entities ++ in_types) none_after) q c)
     where
       some : (o : Option Signature) → All Never (unknown_signature text s names.inherits q o) → (g : Signature) × (o ≡ Some g)
       some None h = absurd (refused UnknownSignature q.function.start h)
@@ -131,15 +138,18 @@ module _ (text : Bytes) (s : Skeleton) (names : HasNames text s) where
       some_within outer None h = absurd (refused UnknownSignature outer.start h)
       some_within outer (Some i) h = some (nested_in d i (word text q.function)) h
 
-      by : (o : Option Span) → All Never (unknown_in text s names.inherits q o) → (g : Signature) × (signature_asked text s o q.function ≡ Some g)
+      by : (o : Option Span) → All Never (unknown_in text s names.inherits q o)
+          → (g : Signature) × (signature_asked text s o q.function ≡ Some g)
       by None h = some (signature_of d (word text q.function)) h
       by (Some outer) h = some_within outer (struct_of d (word text outer)) h
 
   -- A type in it begins with a generic parameter of that signature.
-  pub begins_asked : (k : ℕ) (q : QueryDecl) (g : Signature) → slice_get s.queries k ≡ Some q → signature_asked text s q.outer q.function ≡ Some g
+  pub begins_asked : (k : ℕ) (q : QueryDecl) (g : Signature) → slice_get s.queries k ≡ Some q
+      → signature_asked text s q.outer q.function ≡ Some g
       → begins_at text s names.inherits (in_query k) ≡ Some (begins_in_signature d g)
   begins_asked k q g at e =
-      ap (λ p. option_map (begins_in_signature d) (elim p as (λ _. Option Signature) [ None ↦ None | Some q ↦ signature_asked text s q.outer q.function ])) at
+      ap (λ p. option_map (begins_in_signature d)
+      (elim p as (λ _. Option Signature) [ None ↦ None | Some q ↦ signature_asked text s q.outer q.function ])) at
       ∙ ap (option_map (begins_in_signature d)) e
 
   -- ---- entities
@@ -162,12 +172,16 @@ module _ (text : Bytes) (s : Skeleton) (names : HasNames text s) where
       (λ h. let (q, n, k) = from_pieces parts.asked_entities_at (numbered 0 s.queries) (scope, e) h in
       let at = number_of s.queries q n in
       let (g, a) = asks q.1 (get_contains s.queries q.0 q.1 at) in
-      subst IsLookedAt (sym (scope_of (in_query q.0) (parts.entities_of_ask q.1.ask) (scope, e) k)) (begins_in_signature d g, begins_asked q.0 q.1 g at a))
-      (Contains-append_cases (flat_map parts.entities_at (constraints s)) (flat_map parts.asked_entities_at (numbered 0 s.queries)) (scope, e) c)
+      subst IsLookedAt (sym (scope_of (in_query q.0) (parts.entities_of_ask q.1.ask) (scope, e) k))
+      (begins_in_signature d g, begins_asked q.0 q.1 g at a))
+      (Contains-append_cases (flat_map parts.entities_at (constraints s))
+      (flat_map parts.asked_entities_at (numbered 0 s.queries)) (scope, e) c)
 
   -- What stands on the right of a colon, and is not the layout, is the name of a protocol.
-  pub is_protocol : (scope : Scope) (e : Entity) → Contains (entities s) (scope, e) → e.layout ≡ false → (k : ℕ) × (protocol_of d (word text e.span) ≡ Some k)
-  is_protocol scope e c no_layout = by (protocol_of d (word text e.span)) refl (subst (λ l. All Never (cond l [] (of_protocol_name d e.span (length e.args) (protocol_of d (word text e.span))))) no_layout none_of_entity)
+  pub is_protocol : (scope : Scope) (e : Entity) → Contains (entities s) (scope, e) → e.layout ≡ false
+      → (k : ℕ) × (protocol_of d (word text e.span) ≡ Some k)
+  is_protocol scope e c no_layout = by (protocol_of d (word text e.span)) refl (subst (λ l.
+      All Never (cond l [] (of_protocol_name d e.span (length e.args) (protocol_of d (word text e.span))))) no_layout none_of_entity)
     where
       none_of_entity : All Never (of_named text d e)
       none_of_entity =
@@ -175,6 +189,7 @@ module _ (text : Bytes) (s : Skeleton) (names : HasNames text s) where
           subst (λ o. All Never (named_by text s names.inherits o e)) starts
           (of_part (named_at text s names.inherits) (entities s) (all_left Never in_entities in_types none_last) (scope, e) c)
 
-      by : (o : Option ℕ) → protocol_of d (word text e.span) ≡ o → All Never (of_protocol_name d e.span (length e.args) o) → (k : ℕ) × (protocol_of d (word text e.span) ≡ Some k)
+      by : (o : Option ℕ) → protocol_of d (word text e.span) ≡ o → All Never (of_protocol_name d e.span (length e.args) o)
+          → (k : ℕ) × (protocol_of d (word text e.span) ≡ Some k)
       by None n h = absurd (refused NotAProtocol e.span.start h)
       by (Some k) n h = (k, n)

@@ -34,29 +34,36 @@ alike_at f g (x ∷ xs) (y ∷ ys) l h =
     let rest : length xs ≡ length ys = omega (arith, l) in
     λ i. h 0 x y refl refl i ∷ alike_at f g xs ys rest (λ k a b p q. h (suc k) a b p q) i
 
-viewed : (terms : List Term) (all es : List Entry) → map (signature_by terms) (map (entry_view all) es) ≡ map (λ e. signature_by terms (entry_view all e)) es
+viewed : (terms : List Term) (all es : List Entry)
+    → map (signature_by terms) (map (entry_view all) es) ≡ map (λ e. signature_by terms (entry_view all e)) es
 viewed terms all [] = refl
 viewed terms all (e ∷ es) = ap (λ gs. signature_by terms (entry_view all e) ∷ gs) (viewed terms all es)
 
 module _ (w : WordsView) (order : List Signature) (terms : List Term) (es : List Entry) (standing : order ≡ in_order w.skeleton)
-    (has : (k : ℕ) (g : Signature) → slice_get order k ≡ Some g → IsIn w.skeleton g) (meant : map (entry_meant terms) es ≡ map (own_signature w order) order) where
+    (has : (k : ℕ) (g : Signature) → slice_get order k ≡ Some g → IsIn w.skeleton g)
+    (meant : map (entry_meant terms) es ≡ map (own_signature w order) order) where
   count : length es ≡ length order
   count = sym (length-map es (entry_meant terms)) ∙ ap length meant ∙ length-map order (own_signature w order)
 
-  at : (k : ℕ) (e : Entry) (g : Signature) → slice_get es k ≡ Some e → slice_get order k ≡ Some g → entry_meant terms e ≡ own_signature w order g
+  at : (k : ℕ) (e : Entry) (g : Signature) → slice_get es k ≡ Some e → slice_get order k ≡ Some g
+      → entry_meant terms e ≡ own_signature w order g
   at k e g a b =
       same_Some (entry_meant terms e) (own_signature w order g)
-      (sym (stands_mapped (entry_meant terms) es k e a) ∙ ap (λ xs. slice_get xs k) meant ∙ stands_mapped (own_signature w order) order k g b)
+      (sym (stands_mapped (entry_meant terms) es k e a) ∙ ap (λ xs. slice_get xs k) meant
+      ∙ stands_mapped (own_signature w order) order k g b)
 
   -- what a struct requires, where it stands
-  of_struct_at : (i p : ℕ) → slice_get order p ≡ Some (Struct i) → placed terms (get_or (map (λ e. e.own) es) p []) ≡ of_struct w i (slice_get w.skeleton.structs i)
+  of_struct_at : (i p : ℕ) → slice_get order p ≡ Some (Struct i)
+      → placed terms (get_or (map (λ e. e.own) es) p []) ≡ of_struct w i (slice_get w.skeleton.structs i)
   of_struct_at i p s =
       let l = slice_get_within order p (Struct i) s in
       let (e, a) = there_is es p (omega (arith, l, count)) in
-      ap (placed terms) (at_mapped (λ (e : Entry). e.own) es p e [] a) ∙ ap (λ (g : SignatureOver PlacedRequirement). g.requirements) (at p e (Struct i) a s)
+      ap (placed terms) (at_mapped (λ (e : Entry). e.own) es p e [] a)
+      ∙ ap (λ (g : SignatureOver PlacedRequirement). g.requirements) (at p e (Struct i) a s)
 
   struct_stands : (i : ℕ) → i < length w.skeleton.structs → slice_get order (func_id order (Struct i)).place ≡ Some (Struct i)
-  struct_stands i l = subst (λ (gs : List Signature). slice_get gs (func_id gs (Struct i)).place ≡ Some (Struct i)) (sym standing) (stands w.skeleton (Struct i) l)
+  struct_stands i l = subst (λ (gs : List Signature). slice_get gs (func_id gs (Struct i)).place ≡ Some (Struct i)) (sym standing)
+      (stands w.skeleton (Struct i) l)
 
   together : (g : Signature) → IsIn w.skeleton g → placed terms (around es (outer_of order g)) ++ own_list w g ≡ list_of w g
   together (Struct i) h = refl
@@ -70,12 +77,21 @@ module _ (w : WordsView) (order : List Signature) (terms : List Term) (es : List
       ∙ sym (λ k. of_nested w i j t (its k))
       ∙ sym (λ k. of_nested_in w i j (there k))
 
-  entry_is : (k : ℕ) (e : Entry) (g : Signature) → slice_get es k ≡ Some e → slice_get order k ≡ Some g → signature_by terms (entry_view es e) ≡ signature_in w order g
+  entry_is : (k : ℕ) (e : Entry) (g : Signature) → slice_get es k ≡ Some e → slice_get order k ≡ Some g
+      → signature_by terms (entry_view es e) ≡ signature_in w order g
   entry_is k e g a b =
       let m = at k e g a b in
       let requires : placed terms (around es e.outer ++ e.own) ≡ list_of w g =
-      map-append (placed_by terms) (around es e.outer) e.own ∙ (λ i. placed terms (around es (m i).outer) ++ (m i).requirements) ∙ together g (has k g b) in
-      λ i. record { signature = (m i).signature; name = (m i).name; outer = (m i).outer; own_depth = (m i).own_depth; params = (m i).params; requirements = requires i }
+      map-append (placed_by terms) (around es e.outer) e.own ∙ (λ i. placed terms (around es (m i).outer) ++ (m i).requirements)
+      ∙ together g (has k g b) in
+      λ i. record {
+        signature = (m i).signature;
+        name = (m i).name;
+        outer = (m i).outer;
+        own_depth = (m i).own_depth;
+        params = (m i).params;
+        requirements = requires i;
+      }
 
   pub whole_lists : map (signature_by terms) (map (entry_view es) es) ≡ map (signature_in w order) order
   whole_lists = viewed terms es es ∙ alike_at (λ e. signature_by terms (entry_view es e)) (signature_in w order) es order count entry_is
@@ -92,7 +108,8 @@ module _ (terms : List Term) (es : List Entry) (are : All (IsEntryOf terms) es) 
     where
       by : (o : Option Entry) → slice_get es f.place ≡ o → AreOf terms (around es (Some f))
       by None n = subst (AreOf terms) (sym (past_mapped (λ (e : Entry). e.own) es f.place [] n)) (All-nil Has)
-      by (Some e) n = subst (AreOf terms) (sym (at_mapped (λ (e : Entry). e.own) es f.place e [] n)) (all_at (IsEntryOf terms) es f.place e are n)
+      by (Some e) n =
+          subst (AreOf terms) (sym (at_mapped (λ (e : Entry). e.own) es f.place e [] n)) (all_at (IsEntryOf terms) es f.place e are n)
 
   pub whole_of : All (λ g. AreOf terms g.requirements) (map (entry_view es) es)
   whole_of =

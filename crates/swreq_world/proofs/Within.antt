@@ -16,7 +16,8 @@ found_within None n h = omega arith
 found_within (Some k) n h = let l = h k refl in omega arith
 
 pub place_within : (order : List Signature) (g : Signature) (n : ℕ) → length order ≤ n → unwrap_or (place_in order g) 0 ≤ n
-place_within order g n h = let i = found_within (place_in order g) (length order) (λ k e. let l = from_below (is_signature g) 0 order k e in omega arith) in omega arith
+place_within order g n h = let i =
+    found_within (place_in order g) (length order) (λ k e. let l = from_below (is_signature g) 0 order k e in omega arith) in omega arith
 
 -- ---- functions within their structs
 
@@ -34,9 +35,11 @@ nested_small (Some k) i n h l = let m = h k refl in omega arith
 
 in_struct_small : (d : Spaces) → Short d → (i : ℕ) (name : List ℕ) → IsSmallIf (nested_in d i name)
 unfolding Short
-in_struct_small d short i name = nested_small (place (get_or d.nested i []) name) i (length (get_or d.nested i [])) (place_below (get_or d.nested i []) name) (short i)
+in_struct_small d short i name =
+    nested_small (place (get_or d.nested i []) name) i (length (get_or d.nested i [])) (place_below (get_or d.nested i []) name) (short i)
 
-of_struct_small : (d : Spaces) → Short d → (o : Option ℕ) (name : List ℕ) → IsSmallIf (elim o as (λ _. Option Signature) [ None ↦ None | Some i ↦ nested_in d i name ])
+of_struct_small : (d : Spaces) → Short d → (o : Option ℕ) (name : List ℕ)
+    → IsSmallIf (elim o as (λ _. Option Signature) [ None ↦ None | Some i ↦ nested_in d i name ])
 unfolding IsSmallIf
 of_struct_small d short None name = tt
 of_struct_small d short (Some i) name = in_struct_small d short i name
@@ -56,10 +59,12 @@ unfolding IsSmallIf
 asked_by None h = tt
 asked_by (Some g) h = h
 
-pub asked_small : (w : WordsView) → ((i : ℕ) → length (get_or (declared w).nested i []) ≤ 1048576) → (outer : Option Span) (f : Span) → IsSmall (asked_signature (signature_in_query w outer f))
+pub asked_small : (w : WordsView) → ((i : ℕ) → length (get_or (declared w).nested i []) ≤ 1048576) → (outer : Option Span) (f : Span)
+    → IsSmall (asked_signature (signature_in_query w outer f))
 unfolding Short
 asked_small w short outer f = asked_by (signature_in_query w outer f) (named_small w short outer f)
 
-pub found_small : (d : Spaces) → ((i : ℕ) → length (get_or d.nested i []) ≤ 1048576) → (outer name : List ℕ) (g : Signature) → nested_of d outer name ≡ Some g → IsSmall g
+pub found_small : (d : Spaces) → ((i : ℕ) → length (get_or d.nested i []) ≤ 1048576) → (outer name : List ℕ) (g : Signature)
+    → nested_of d outer name ≡ Some g → IsSmall g
 unfolding Short IsSmallIf
 found_small d short outer name g e = subst IsSmallIf e (of_struct_small d short (struct_of d outer) name)

@@ -45,17 +45,20 @@ module _ {A : Type 0} where
   prefix_first p x xs b e = ap (λ (c : Bool). cond c (1 + prefix_len p xs) 0) e
 
   -- one more passes
-  pub prefix_more : (p : A → Bool) (xs : List A) (i : ℕ) (x : A) → i < length xs → x ≡ get_or xs i x → p x ≡ true → prefix_len p (drop i xs) ≡ 1 + prefix_len p (drop (i + 1) xs)
+  pub prefix_more : (p : A → Bool) (xs : List A) (i : ℕ) (x : A) → i < length xs → x ≡ get_or xs i x → p x ≡ true
+      → prefix_len p (drop i xs) ≡ 1 + prefix_len p (drop (i + 1) xs)
   prefix_more p xs i x h e t = ap (prefix_len p) (drop_at xs i x h e) ∙ prefix_first p x (drop (i + 1) xs) true t
 
-  pub prefix_ends : (p : A → Bool) (xs : List A) (i : ℕ) (x : A) → i < length xs → x ≡ get_or xs i x → p x ≡ false → prefix_len p (drop i xs) ≡ 0
+  pub prefix_ends : (p : A → Bool) (xs : List A) (i : ℕ) (x : A) → i < length xs → x ≡ get_or xs i x → p x ≡ false
+      → prefix_len p (drop i xs) ≡ 0
   prefix_ends p xs i x h e f = ap (prefix_len p) (drop_at xs i x h e) ∙ prefix_first p x (drop (i + 1) xs) false f
 
   pub prefix_none : (p : A → Bool) (xs : List A) (i : ℕ) → length xs ≤ i → prefix_len p (drop i xs) ≡ 0
   prefix_none p xs i h = ap (prefix_len p) (drop_all i xs h)
 
 -- a struct with the functions before it, and its own
-pub merged_next : (ss : List StructDecl) (fs : List FunctionDecl) (all so more before after : List Signature) (i at n : ℕ) (s : StructDecl) → i < length ss → s ≡ get_or ss i s
+pub merged_next : (ss : List StructDecl) (fs : List FunctionDecl) (all so more before after : List Signature) (i at n : ℕ) (s : StructDecl)
+    → i < length ss → s ≡ get_or ss i s
     → n ≡ prefix_len (stands_before s) (drop at fs)
     → so ++ merged_from i (drop i ss) at (drop at fs) ≡ all → before ≡ so ++ functions_from at n → after ≡ before ++ with_nested i s
     → after ++ merged_from (i + 1) (drop (i + 1) ss) (at + n) (drop (at + n) fs) ≡ all
@@ -65,7 +68,8 @@ merged_next ss fs all so more before after i at n s h e c inv b a =
     ∙ append_assoc (so ++ functions_from at n) (with_nested i s) (merged_from (i + 1) (drop (i + 1) ss) (at + n) (drop (at + n) fs))
     ∙ append_assoc so (functions_from at n) (with_nested i s ++ merged_from (i + 1) (drop (i + 1) ss) (at + n) (drop (at + n) fs))
     ∙ (λ j. so ++ (functions_from at n ++ (with_nested i s ++ merged_from (i + 1) (drop (i + 1) ss) (at + n) (sym (drop_twice fs at n) j))))
-    ∙ (λ j. so ++ (functions_from at (c j) ++ (with_nested i s ++ merged_from (i + 1) (drop (i + 1) ss) (at + c j) (drop (c j) (drop at fs)))))
+    ∙ (λ j.
+    so ++ (functions_from at (c j) ++ (with_nested i s ++ merged_from (i + 1) (drop (i + 1) ss) (at + c j) (drop (c j) (drop at fs)))))
     ∙ (λ j. so ++ merged_from i (sym (drop_at ss i s h e) j) at (drop at fs))
     ∙ inv
 
@@ -73,4 +77,5 @@ merged_next ss fs all so more before after i at n s h e c inv b a =
 pub merged_last : (ss : List StructDecl) (fs : List FunctionDecl) (all so after : List Signature) (i at : ℕ) → length ss ≤ i
     → so ++ merged_from i (drop i ss) at (drop at fs) ≡ all → after ≡ so ++ functions_from at (length fs - at) → after ≡ all
 merged_last ss fs all so after i at h inv a =
-    a ∙ (λ j. so ++ functions_from at (sym (length_rest fs at) j)) ∙ (λ j. so ++ merged_from i (sym (drop_all i ss h) j) at (drop at fs)) ∙ inv
+    a ∙ (λ j. so ++ functions_from at (sym (length_rest fs at) j))
+    ∙ (λ j. so ++ merged_from i (sym (drop_all i ss h) j) at (drop at fs)) ∙ inv

@@ -7,7 +7,14 @@ use Rattle.swreq_lowering.specs.ByTable.{placed, query_by, AreOf, HasQueryIdsOf}
 use Rattle.swreq_world.specs.Worlds.{SignatureOver, IdWorld, TextWorld}
 
 abbrev pub signature_by : List Term → SignatureOver Written → SignatureOver PlacedRequirement
-signature_by terms g = record { signature = g.signature; name = g.name; outer = g.outer; own_depth = g.own_depth; params = g.params; requirements = placed terms g.requirements }
+signature_by terms g = record {
+  signature = g.signature;
+  name = g.name;
+  outer = g.outer;
+  own_depth = g.own_depth;
+  params = g.params;
+  requirements = placed terms g.requirements;
+}
 
 abbrev pub world_by : List Term → IdWorld → TextWorld
 world_by terms w = record {

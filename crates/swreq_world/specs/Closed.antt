@@ -21,9 +21,9 @@ use Rattle.swreq_world.specs.Worlds.{TextWorld, SignatureOver, signature_at}
 
 -- ---- protocols, names, associated types and member symbols
 
--- Protocols stand in written order, each once, and no others. Each associated type is a protocol of the text with a name of it, and each such pair is
--- one associated type. Member symbols are the pairs of a protocol and a member name of it, each once. Associated types and member symbols go
--- by their names first.
+-- Protocols stand in written order, each once, and no others. Each associated type is a protocol of the text with a name of it, and each
+-- such pair is one associated type. Member symbols are the pairs of a protocol and a member name of it, each once. Associated types and
+-- member symbols go by their names first.
 pub record AreIds (x : LexiconView) : Type 0 where
   pub written_order : (p : ProtoId) → Contains x.written_order p ↔ IsProtocol x p
   pub each_once : length x.written_order ≡ length x.protocols

@@ -17,11 +17,19 @@ around es (Some f) = slice_index_or (map (λ e. e.own) es) f.place []
 
 -- the signature among these, with its list: that of the struct around it, followed by its own requirements
 abbrev pub entry_view : List Entry → Entry → SignatureOver Written
-entry_view es e = record { signature = e.signature; name = e.name; outer = e.outer; own_depth = e.own_depth; params = e.params; requirements = around es e.outer ++ e.own }
+entry_view es e = record {
+  signature = e.signature;
+  name = e.name;
+  outer = e.outer;
+  own_depth = e.own_depth;
+  params = e.params;
+  requirements = around es e.outer ++ e.own;
+}
 
 -- the signature with its own requirements alone
 abbrev pub own_view : Entry → SignatureOver Written
-own_view e = record { signature = e.signature; name = e.name; outer = e.outer; own_depth = e.own_depth; params = e.params; requirements = e.own }
+own_view e =
+    record { signature = e.signature; name = e.name; outer = e.outer; own_depth = e.own_depth; params = e.params; requirements = e.own }
 
 abbrev pub entry_meant : List Term → Entry → SignatureOver PlacedRequirement
 entry_meant terms e = signature_by terms (own_view e)

@@ -9,7 +9,8 @@ use Rattle.swreq_lowering.specs.Queries.{TermQuery}
 use Rattle.swreq_lowering.specs.ByTable.{placed, AreOf, query_by, HasQueryIdsOf}
 
 -- The new table begins with the old one, it has the ids of the items, and by it the items mean these.
-pub record Fills {A B : Type 0} (HasIds : List Term → A → Type 0) (meaning : List Term → A → B) (old new : List Term) (meant : List B) (items : List A) : Type 0 where
+pub record Fills {A B : Type 0} (HasIds : List Term → A → Type 0) (meaning : List Term → A → B) (old new : List Term) (meant : List B)
+    (items : List A) : Type 0 where
   pub extends : Extends old new
   pub are_of : All (HasIds new) items
   pub means : map (meaning new) items ≡ meant

@@ -8,7 +8,12 @@ use Rattle.swreq_world.specs.Entries.{entry_view}
 use Rattle.swreq_world.specs.Worlds.{IdWorld}
 
 abbrev pub view_of : Inside → IdWorld
-view_of w = record { lexicon = w.lexicon.value; requirements = w.requirements; signatures = map (entry_view w.signatures) w.signatures; queries = w.queries }
+view_of w = record {
+  lexicon = w.lexicon.value;
+  requirements = w.requirements;
+  signatures = map (entry_view w.signatures) w.signatures;
+  queries = w.queries;
+}
 
 -- Each protocol has its list, the signatures stand in their order, and places fit 32 bits. Each declared pair is one associated type.
 pub record IsWhole (w : Inside) : Type 0 where

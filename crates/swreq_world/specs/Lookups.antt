@@ -27,7 +27,8 @@ func_named w outer name = option_map (func_id (order_of w)) (signature_named w.l
 
 -- the generic parameter of a signature that a name refers to
 abbrev pub param_of_signature : {R Q : Type 0} → WorldOver R Q → FuncId → List ℕ → Option ParamId
-param_of_signature w f name = option_map (param_id (signature_at w f).own_depth) (param_of w.lexicon.resolved.declared (signature_at w f).signature name)
+param_of_signature w f name =
+    option_map (param_id (signature_at w f).own_depth) (param_of w.lexicon.resolved.declared (signature_at w f).signature name)
 
 -- the name of the struct around a signature
 abbrev pub outer_name : {R Q : Type 0} → WorldOver R Q → Option FuncId → Option (List ℕ)
@@ -38,7 +39,8 @@ outer_name w (Some g) = Some (signature_at w g).name
 
 -- The signature at this place has this name. It is a function of the struct of the other name, or, without that name, in no struct.
 abbrev pub IsNamedAt : {R Q : Type 0} → WorldOver R Q → Option (List ℕ) → List ℕ → FuncId → Type 0
-IsNamedAt w outer name f = (f.place < length w.signatures) × ((signature_at w f).name ≡ name) × (outer_name w (signature_at w f).outer ≡ outer)
+IsNamedAt w outer name f =
+    (f.place < length w.signatures) × ((signature_at w f).name ≡ name) × (outer_name w (signature_at w f).outer ≡ outer)
 
 -- the generic parameters of a depth, of those around a signature and its own
 abbrev pub param_decls_of_depth : List ParamDecl → List ParamDecl → ℕ → List ParamDecl

@@ -48,7 +48,8 @@ abbrev pub requirements_of : {R Q : Type 0} → WorldOver R Q → ProtoId → Li
 requirements_of w p = slice_index_or w.requirements p.rank []
 
 abbrev pub no_signature : {R : Type 0} → SignatureOver R
-no_signature = record { signature = Function 0; name = []; outer = None; own_depth = 0; params = record { outer = 0; inner = 0 }; requirements = [] }
+no_signature =
+    record { signature = Function 0; name = []; outer = None; own_depth = 0; params = record { outer = 0; inner = 0 }; requirements = [] }
 
 abbrev pub signature_at : {R Q : Type 0} → WorldOver R Q → FuncId → SignatureOver R
 signature_at w f = slice_index_or w.signatures f.place no_signature

@@ -91,7 +91,8 @@ impl World {
         ensures ok { IsOk result → Resolve text.now s.now }
         ensures resolves { Resolve text.now s.now → IsOk result ⊎ (result ≡ Err Memory) }
         ensures refused { IfErr result (λ e. RefusesSkeleton text.now s.now e ⊎ (e ≡ Memory)) }
-        ensures refuses { (e : NameErr) → RefusesSkeleton text.now s.now e → (result ≡ Err e) ⊎ (result ≡ Err Memory) }
+        ensures refuses { (e : NameErr) → RefusesSkeleton text.now s.now e
+            → (result ≡ Err e) ⊎ (result ≡ Err Memory) }
     {
         worlds_are_closed(text);
         worlds_are_short(text);

@@ -13,7 +13,8 @@ impl<'a> FunctionFacts<'a> {
     /// The list of a signature, `World::bare_signature`.
     pub fn of(world: &'a World, f: FuncId, written: &'a [Requirement]) -> FunctionFacts<'a>
         requires f { f.place < length world.now.signatures }
-        requires written { written.now ≡ map (λ r. r.requirement) (signature_at world.now f).requirements }
+        requires written { written.now
+            ≡ map (λ r. r.requirement) (signature_at world.now f).requirements }
         ensures world { result.world.now ≡ world.now }
         ensures f { result.f ≡ f }
     {

@@ -21,7 +21,8 @@ use swreq_param::ParamTable;
 use swreq_text::Seq;
 
 fn struct_name<'a>(words: &Words<'a>, place: usize) -> &'a [u8]
-    ensures { result.now ≡ struct_name (words_by words.now) (slice_get words.now.skeleton.now.structs place) }
+    ensures { result.now
+        ≡ struct_name (words_by words.now) (slice_get words.now.skeleton.now.structs place) }
 {
     match words.skeleton.structs.items().get(place) {
         Some(s) => word(words.text, s.name),
@@ -78,7 +79,8 @@ fn list_of_struct(
     place: usize,
 ) -> Result<Vec<Written>, AllocError>
     requires { HasShortLists words.now.text.now words.now.skeleton.now }
-    ensures lists { IfOk result (λ v. Lists table.old table.new (of_struct (words_by words.now) place (slice_get words.now.skeleton.now.structs place)) v.items) }
+    ensures lists { IfOk result (λ v. Lists table.old table.new (of_struct (words_by words.now)
+        place (slice_get words.now.skeleton.now.structs place)) v.items) }
     ensures extends { Extends table.old table.new }
 {
     match words.skeleton.structs.items().get(place) {
@@ -94,7 +96,8 @@ fn list_of_function(
     place: usize,
 ) -> Result<Vec<Written>, AllocError>
     requires { HasShortLists words.now.text.now words.now.skeleton.now }
-    ensures lists { IfOk result (λ v. Lists table.old table.new (of_function (words_by words.now) place (slice_get words.now.skeleton.now.functions place)) v.items) }
+    ensures lists { IfOk result (λ v. Lists table.old table.new (of_function (words_by words.now)
+        place (slice_get words.now.skeleton.now.functions place)) v.items) }
     ensures extends { Extends table.old table.new }
 {
     match words.skeleton.functions.items().get(place) {
@@ -111,7 +114,9 @@ fn list_of_nested(
     function: usize,
 ) -> Result<Vec<Written>, AllocError>
     requires { HasShortLists words.now.text.now words.now.skeleton.now }
-    ensures lists { IfOk result (λ v. Lists table.old table.new (of_inner (words_by words.now) outer function (slice_get (functions_of (slice_get words.now.skeleton.now.structs outer)) function)) v.items) }
+    ensures lists { IfOk result
+        (λ v. Lists table.old table.new (of_inner (words_by words.now) outer function (slice_get
+        (functions_of (slice_get words.now.skeleton.now.structs outer)) function)) v.items) }
     ensures extends { Extends table.old table.new }
 {
     match words.skeleton.structs.items().get(outer) {
@@ -131,7 +136,8 @@ fn own_list(
     g: Signature,
 ) -> Result<Vec<Written>, AllocError>
     requires { HasShortLists words.now.text.now words.now.skeleton.now }
-    ensures lists { IfOk result (λ v. Lists table.old table.new (own_list (words_by words.now) g) v.items) }
+    ensures lists { IfOk result
+        (λ v. Lists table.old table.new (own_list (words_by words.now) g) v.items) }
     ensures extends { Extends table.old table.new }
 {
     match g {
@@ -154,7 +160,8 @@ fn entry(
     requires { HasShortLists words.now.text.now words.now.skeleton.now }
     ensures extends { Extends table.old table.new }
     ensures of { IfOk result (IsEntryOf table.new) }
-    ensures means { IfOk result (λ e. entry_meant table.new e ≡ own_signature (words_by words.now) order.now g) }
+    ensures means { IfOk result
+        (λ e. entry_meant table.new e ≡ own_signature (words_by words.now) order.now g) }
 {
     let own = own_list(alloc, table, words, g)?;
     Ok(Entry {
@@ -176,7 +183,8 @@ pub fn entries(
     order: &Order,
 ) -> Result<Vec<Entry>, AllocError>
     requires { HasShortLists words.now.text.now words.now.skeleton.now }
-    ensures fills { IfOk result (λ v. FillsEntries table.old table.new (map (own_signature (words_by words.now) order.now) order.now) v.items) }
+    ensures fills { IfOk result (λ v. FillsEntries table.old table.new
+        (map (own_signature (words_by words.now) order.now) order.now) v.items) }
     ensures extends { Extends table.old table.new }
 {
     let mut made = Vec::new(alloc);

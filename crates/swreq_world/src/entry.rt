@@ -62,7 +62,8 @@ fn with_end(
     own: &[Written],
 ) -> Result<Vec<Requirement>, AllocError>
     requires { less ≤ length list.items }
-    ensures { IfOk result (λ v. v.items ≡ take (length list.items - less) list.items ++ map (λ r. r.requirement) own.now) }
+    ensures { IfOk result (λ v.
+        v.items ≡ take (length list.items - less) list.items ++ map (λ r. r.requirement) own.now) }
 {
     list.truncate(list.len() - less);
     for r in own {
@@ -79,8 +80,10 @@ pub fn whole_after(
     list: Vec<Requirement>,
     entry: &Entry,
 ) -> Result<Vec<Requirement>, AllocError>
-    requires { list.items ≡ map (λ r. r.requirement) (entry_view entries.now last.now).requirements }
-    ensures { IfOk result (λ v. v.items ≡ map (λ r. r.requirement) (entry_view entries.now entry.now).requirements) }
+    requires { list.items
+        ≡ map (λ r. r.requirement) (entry_view entries.now last.now).requirements }
+    ensures { IfOk result
+        (λ v. v.items ≡ map (λ r. r.requirement) (entry_view entries.now entry.now).requirements) }
 {
     if are_together(last, entry) {
         with_end(list, last.own.items().len(), entry.own.items())

@@ -23,7 +23,8 @@ pub fn lists_of(
     words: &Words<'_>,
 ) -> Result<WorldLists, AllocError>
     requires short { HasShortLists words.now.text.now words.now.skeleton.now }
-    requires declared { HasDeclared words.now.text.now words.now.skeleton.now words.now.lexicon.now.resolved }
+    requires declared { HasDeclared words.now.text.now words.now.skeleton.now
+        words.now.lexicon.now.resolved }
     ensures lists { IfOk result (AreListsOf table.old table.new (words_by words.now)) }
     ensures extends { Extends table.old table.new }
 {

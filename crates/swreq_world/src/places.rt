@@ -16,7 +16,8 @@ pub struct Places {
 
 /// Notes a place, over what was noted before.
 fn note(places: &mut Vec<Option<usize>>, i: usize, place: usize) -> Result<(), AllocError>
-    ensures { OnOk result ((k : ℕ) → slice_index_or places.new.items k None ≡ cond (nat_eq k i) (Some place) (slice_index_or places.old.items k None)) }
+    ensures { OnOk result ((k : ℕ) → slice_index_or places.new.items k None
+        ≡ cond (nat_eq k i) (Some place) (slice_index_or places.old.items k None)) }
 {
     while places.len() <= i {
         places.push(None)?;
@@ -27,8 +28,11 @@ fn note(places: &mut Vec<Option<usize>>, i: usize, place: usize) -> Result<(), A
 
 /// Notes the place of a signature.
 fn note_signature(places: &mut Places, g: Signature, place: usize) -> Result<(), AllocError>
-    ensures structs { OnOk result ((k : ℕ) → slice_index_or places.new.structs.items k None ≡ cond (is_signature (Struct k) g) (Some place) (slice_index_or places.old.structs.items k None)) }
-    ensures functions { OnOk result ((k : ℕ) → slice_index_or places.new.functions.items k None ≡ cond (is_signature (Function k) g) (Some place) (slice_index_or places.old.functions.items k None)) }
+    ensures structs { OnOk result ((k : ℕ) → slice_index_or places.new.structs.items k None ≡ cond
+        (is_signature (Struct k) g) (Some place) (slice_index_or places.old.structs.items k None)) }
+    ensures functions { OnOk result ((k : ℕ)
+        → slice_index_or places.new.functions.items k None ≡ cond (is_signature (Function k) g)
+        (Some place) (slice_index_or places.old.functions.items k None)) }
 {
     match g {
         Signature::Struct(i) => note(&mut places.structs, i, place),

@@ -18,7 +18,8 @@ fn of_place(
     words: &Words<'_>,
     place: usize,
 ) -> Result<Vec<Written>, AllocError>
-    ensures lists { IfOk result (λ v. Lists table.old table.new (of_protocol (words_by words.now) (slice_get words.now.skeleton.now.protocols place)) v.items) }
+    ensures lists { IfOk result (λ v. Lists table.old table.new (of_protocol (words_by words.now)
+        (slice_get words.now.skeleton.now.protocols place)) v.items) }
     ensures extends { Extends table.old table.new }
 {
     match words.skeleton.protocols.items().get(place) {
@@ -34,7 +35,8 @@ fn named(
     words: &Words<'_>,
     name: &[u8],
 ) -> Result<Vec<Written>, AllocError>
-    ensures lists { IfOk result (λ v. Lists table.old table.new (requirements_named (words_by words.now) name.now) v.items) }
+    ensures lists { IfOk result (λ v.
+        Lists table.old table.new (requirements_named (words_by words.now) name.now) v.items) }
     ensures extends { Extends table.old table.new }
 {
     match words.lexicon.resolved().find_protocol(name) {
@@ -51,7 +53,8 @@ fn listed(
 ) -> Result<RequirementList, AllocError>
     ensures extends { Extends table.old table.new }
     ensures of { IfOk result (AreOf table.new) }
-    ensures means { IfOk result (λ l. placed table.new l ≡ requirements_named (words_by words.now) name.now) }
+    ensures means { IfOk result
+        (λ l. placed table.new l ≡ requirements_named (words_by words.now) name.now) }
 {
     let written = named(alloc, table, words, name)?;
     RequirementList::of(alloc, written)

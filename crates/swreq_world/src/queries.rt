@@ -22,8 +22,10 @@ fn query_of(
     q: &QueryDecl,
 ) -> Result<Query, AllocError>
     requires short { HasShortLists words.now.text.now words.now.skeleton.now }
-    requires declared { HasDeclared words.now.text.now words.now.skeleton.now words.now.lexicon.now.resolved }
-    ensures asks { IfOk result (Asks table.old table.new (query_of (words_by words.now) order.now q.now)) }
+    requires declared { HasDeclared words.now.text.now words.now.skeleton.now
+        words.now.lexicon.now.resolved }
+    ensures asks { IfOk result
+        (Asks table.old table.new (query_of (words_by words.now) order.now q.now)) }
     ensures extends { Extends table.old table.new }
 {
     let g = asked_signature(words, q);
@@ -40,8 +42,10 @@ pub fn queries(
     order: &Order,
 ) -> Result<Vec<Query>, AllocError>
     requires short { HasShortLists words.now.text.now words.now.skeleton.now }
-    requires declared { HasDeclared words.now.text.now words.now.skeleton.now words.now.lexicon.now.resolved }
-    ensures fills { IfOk result (λ v. FillsQueries table.old table.new (map (query_of (words_by words.now) order.now) words.now.skeleton.now.queries) v.items) }
+    requires declared { HasDeclared words.now.text.now words.now.skeleton.now
+        words.now.lexicon.now.resolved }
+    ensures fills { IfOk result (λ v. FillsQueries table.old table.new
+        (map (query_of (words_by words.now) order.now) words.now.skeleton.now.queries) v.items) }
     ensures extends { Extends table.old table.new }
 {
     let mut made = Vec::new(alloc);

@@ -52,7 +52,12 @@ impl World {
     /// The world with this lexicon and these lists.
     pub(crate) fn of(lexicon: Box<Lexicon>, made: WorldLists) -> World
         requires { IsReady lexicon.value made }
-        ensures { result ≡ record { lexicon = lexicon.value; requirements = made.requirements.items; signatures = map (entry_view made.signatures.items) made.signatures.items; queries = made.queries.items } }
+        ensures { result ≡ record {
+          lexicon = lexicon.value;
+          requirements = made.requirements.items;
+          signatures = map (entry_view made.signatures.items) made.signatures.items;
+          queries = made.queries.items;
+        } }
     {
         let WorldLists {
             order,
@@ -187,7 +192,8 @@ impl World {
     /// The list of a signature without the places of the sides of its requirements.
     pub fn bare_signature(&self, alloc: Global, f: FuncId) -> Result<Vec<Requirement>, AllocError>
         requires { f.place < length self.now.signatures }
-        ensures { IfOk result (λ v. v.items ≡ map (λ r. r.requirement) (signature_at self.now f).requirements) }
+        ensures { IfOk result
+            (λ v. v.items ≡ map (λ r. r.requirement) (signature_at self.now f).requirements) }
     {
         let list = self.signature(alloc, f)?;
         bare_of(alloc, &list)
@@ -202,9 +208,11 @@ impl World {
         f: FuncId,
     ) -> Result<Vec<Requirement>, AllocError>
         requires last { last.place < length self.now.signatures }
-        requires list { list.items ≡ map (λ r. r.requirement) (signature_at self.now last).requirements }
+        requires list { list.items
+            ≡ map (λ r. r.requirement) (signature_at self.now last).requirements }
         requires f { f.place < length self.now.signatures }
-        ensures { IfOk result (λ v. v.items ≡ map (λ r. r.requirement) (signature_at self.now f).requirements) }
+        ensures { IfOk result
+            (λ v. v.items ≡ map (λ r. r.requirement) (signature_at self.now f).requirements) }
     {
         let entries = self.signatures.items();
         whole_after(

@@ -82,14 +82,21 @@ impl Sink for MemSink {
         ensures fails { IsErr result ↔
             (FailsNext self.old.fails self.old.calls ⊎ IsFullFor self.old piece.now) }
         ensures count { IfOk result (λ n.
-            n ≡ min (length piece.now) (min self.old.piece (self.old.room - length self.old.taken))) }
+            n
+            ≡ min (length piece.now) (min self.old.piece (self.old.room - length self.old.taken))) }
         ensures some { result ≡ Ok 0 → length piece.now ≡ 0 }
 
         // What is taken, and the two counts.
         ensures appended { IfOk result (λ n.
-            self.new ≡ record self.old { taken = self.old.taken ++ take n piece.now; calls = one_more self.old.calls }) }
+            self.new ≡ record self.old {
+              taken = self.old.taken ++ take n piece.now;
+              calls = one_more self.old.calls;
+            }) }
         ensures failed { OnErr result (
-            self.new ≡ record self.old { calls = one_more self.old.calls; faults = one_more self.old.faults }) }
+            self.new ≡ record self.old {
+              calls = one_more self.old.calls;
+              faults = one_more self.old.faults;
+            }) }
         ensures steady { self.old.faults ≤ self.new.faults }
     {
         self.calls = self.calls.saturating_add(1);

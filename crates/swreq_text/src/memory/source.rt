@@ -73,9 +73,13 @@ impl Source for MemSource {
 
         // What is left, and the two counts.
         ensures given { IfOk result (λ n.
-            self.new ≡ record self.old { left = drop n self.old.left; calls = one_more self.old.calls }) }
+            self.new
+            ≡ record self.old { left = drop n self.old.left; calls = one_more self.old.calls }) }
         ensures failed { OnErr result (
-            self.new ≡ record self.old { calls = one_more self.old.calls; faults = one_more self.old.faults }) }
+            self.new ≡ record self.old {
+              calls = one_more self.old.calls;
+              faults = one_more self.old.faults;
+            }) }
         ensures steady { self.old.faults ≤ self.new.faults }
     {
         self.calls = self.calls.saturating_add(1);

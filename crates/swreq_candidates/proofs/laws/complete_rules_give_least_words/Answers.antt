@@ -11,4 +11,5 @@ pub returns-clause-list : goal.returns-clause-list
 returns-clause-list c m f params list rules meet present = least_words rules (UsableEquation m f (Written params list)) present meet
 
 pub returns-clause-system : goal.returns-clause-system
-returns-clause-system c m f params list rules system present = reduced_system rules (UsableEquation m f (Written params list)) present system
+returns-clause-system c m f params list rules system present =
+    reduced_system rules (UsableEquation m f (Written params list)) present system

@@ -12,7 +12,8 @@ pub returns-clause-congruent : goal.returns-clause-congruent
 returns-clause-congruent c = congruent_by_blocks
 
 pub returns-clause-least : goal.returns-clause-least
-returns-clause-least c m f params list fit named u k = (least_blocks m f params list fit named u k, least_by_blocks m f params list fit named u k)
+returns-clause-least c m f params list fit named u k =
+    (least_blocks m f params list fit named u k, least_by_blocks m f params list fit named u k)
 
 pub returns-clause-minimal : goal.returns-clause-minimal
 returns-clause-minimal c = one_block

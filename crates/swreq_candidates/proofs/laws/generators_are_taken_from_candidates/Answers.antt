@@ -5,7 +5,8 @@ pub returns-clause-generators : goal.returns-clause-generators
 returns-clause-generators c m f params list candidates taken ended = taken_here m f params list ended candidates taken
 
 pub returns-clause-minimised : goal.returns-clause-minimised
-returns-clause-minimised c m f params list candidates taken left ended all takes = left_here m f params list ended candidates taken all takes left
+returns-clause-minimised c m f params list candidates taken left ended all takes =
+    left_here m f params list ended candidates taken all takes left
 
 pub returns-clause-some_generators : goal.returns-clause-some_generators
 returns-clause-some_generators c m f params list candidates ended = generators_here m f params list ended candidates

@@ -31,4 +31,5 @@ of_protocols : E (Proto 1 ∷ Proto 0 ∷ []) (Proto 1 ∷ [])
 of_protocols = inl (at_once (forth [] (of_protocol Derived (Conforms self Base) ((0, lit< tt, refl), generic refl))))
 
 pub returns-clause-evidence : goal.returns-clause-evidence
-returns-clause-evidence c = more (back (Proto 0 ∷ []) of_rest) (more (there first_param (forth [] of_protocols)) (more (forth [] of_rest) done))
+returns-clause-evidence c =
+    more (back (Proto 0 ∷ []) of_rest) (more (there first_param (forth [] of_protocols)) (more (forth [] of_rest) done))

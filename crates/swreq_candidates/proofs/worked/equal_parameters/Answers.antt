@@ -44,8 +44,10 @@ returns-clause-layout c = (
   first_param ∷ [],
   (
     record {
-      not_least = λ l. none_less C (first_param ∷ Layout ∷ []) (first_param ∷ []) l vanishes (by_length (first_param ∷ []) (first_param ∷ Layout ∷ []) (lit< tt));
-      factors = factors_by_ends E Layout first_param [] first_least (layout_least layouts_symbols layouts (param 0 ∷ param 1 ∷ []) layouts_f);
+      not_least = λ l. none_less C (first_param ∷ Layout ∷ []) (first_param ∷ []) l vanishes
+          (by_length (first_param ∷ []) (first_param ∷ Layout ∷ []) (lit< tt));
+      factors =
+          factors_by_ends E Layout first_param [] first_least (layout_least layouts_symbols layouts (param 0 ∷ param 1 ∷ []) layouts_f);
     },
     vanishes,
     first_least,

@@ -58,7 +58,8 @@ returns-clause-conformance c = (
   first_param ∷ [],
   (
     record {
-      not_least = λ l. none_less (AreCongruent endless_symbols endless (of_one endless_f)) (first_param ∷ Proto 0 ∷ []) (first_param ∷ []) l vanishes
+      not_least = λ l.
+          none_less (AreCongruent endless_symbols endless (of_one endless_f)) (first_param ∷ Proto 0 ∷ []) (first_param ∷ []) l vanishes
           (by_length (first_param ∷ []) (first_param ∷ Proto 0 ∷ []) (lit< tt));
       factors = factors_by_ends (UsableEquation endless_symbols endless (of_one endless_f)) (Proto 0) first_param []
           (param_least endless_symbols endless (param 0 ∷ []) endless_f) (proto_least endless_symbols endless (param 0 ∷ []) endless_f N);

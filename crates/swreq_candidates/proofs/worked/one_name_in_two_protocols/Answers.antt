@@ -42,7 +42,8 @@ spoken (MemberOf t (Bound d)) (u, x, a, e, h, o, i) =
     (subst (λ w. IsTypeOf shared_symbols shared (of_one shared_f) w t) (sym k) h) in
     let named : IsNamed shared_symbols (Member 1) a = subst (λ z. IsNamed shared_symbols z a) (sym y) o in
     let also : IsFirstFor shared (of_one shared_f) τ_0_0 A d
-    = subst (λ b. IsFirstFor shared (of_one shared_f) τ_0_0 b d) (sym named.1) (subst (λ z. IsFirstFor shared (of_one shared_f) z a d) (sym tt0) i) in
+    = subst (λ b. IsFirstFor shared (of_one shared_f) τ_0_0 b d) (sym named.1)
+    (subst (λ z. IsFirstFor shared (of_one shared_f) z a d) (sym tt0) i) in
     ap₂ MemberOf tt0 (ap Bound (one_first shared_symbols shared (of_one shared_f) τ_0_0 A A_of_P d first also))
 
 nothing : (r : TermRequirement) → IsReadOff shared_symbols shared (of_one shared_f) (first_param ∷ Member 1 ∷ []) Right r → ⊥

@@ -75,7 +75,8 @@ say (same_decl e h d) n = no_member _ d
 
 f_such : AreSuch inherited_f
 unfolding AreSuch
-f_such = each_member (λ r. (p : ProtoId) × (r ≡ Conforms τ_0_0 p) × IsOne p) inherited_f ((Base, refl, inl refl), ((Derived, refl, inr refl), tt))
+f_such = each_member (λ r. (p : ProtoId) × (r ≡ Conforms τ_0_0 p) × IsOne p) inherited_f
+    ((Base, refl, inl refl), ((Derived, refl, inr refl), tt))
 
 g_such : AreSuch inherited_g
 unfolding AreSuch
@@ -84,14 +85,16 @@ g_such = each_member (λ r. (p : ProtoId) × (r ≡ Conforms τ_0_0 p) × IsOne 
 -- nothing inherits Base but Derived, and Base inherits nothing
 stays : {p : ProtoId} → LeadsTo inherited Base p → p ≡ Base
 stays here = refl
-stays (further {q = q} {r = r} e h) = no_member (Conforms self r) (subst (λ x. Contains (by_rank inherited_requirements x.rank) (Conforms self r)) (stays e) h)
+stays (further {q = q} {r = r} e h) =
+    no_member (Conforms self r) (subst (λ x. Contains (by_rank inherited_requirements x.rank) (Conforms self r)) (stays e) h)
 
 -- [T : Derived] is not derivable from [T : Base]
 not_derived : Derivable inherited (of_one (Conforms τ_0_0 Base ∷ [])) (Requires (Conforms τ_0_0 Derived)) → ⊥
 not_derived e =
     let s = of_one (Conforms τ_0_0 Base ∷ []) in
     let w : IsWrittenFor inherited s τ_0_0 Derived =
-    (by_inheritance inherited s τ_0_0 Derived (λ p r h. (Base, required p.rank r h)) (λ r h. (param 0, Base, only_member (Conforms τ_0_0 Base) r h))).0
+    (by_inheritance inherited s τ_0_0 Derived (λ p r h. (Base, required p.rank r h))
+    (λ r h. (param 0, Base, only_member (Conforms τ_0_0 Base) r h))).0
     (sound inherited s (Requires (Conforms τ_0_0 Derived)) e) in
     let k : w.0 ≡ Base = protocol_of (only_member (Conforms τ_0_0 Base) (Conforms τ_0_0 w.0) w.1) in
     apart (ap (λ (p : ProtoId). p.rank) (stays (subst (λ x. LeadsTo inherited x Derived) k w.2)))
@@ -115,10 +118,12 @@ g_derives : (r : TermRequirement) → Contains inherited_f r → Derivable inher
 g_derives = each_member (λ r. Derivable inherited (of_one inherited_g) (Requires r)) inherited_f (to_base, (to_derived, tt))
 
 f_derives : (r : TermRequirement) → Contains inherited_g r → Derivable inherited (of_one inherited_f) (Requires r)
-f_derives = each_member (λ r. Derivable inherited (of_one inherited_f) (Requires r)) inherited_g (conf (1, lit< tt, refl) (λ _. generic (0, lit< tt, refl)), tt)
+f_derives = each_member (λ r. Derivable inherited (of_one inherited_f) (Requires r)) inherited_g
+    (conf (1, lit< tt, refl) (λ _. generic (0, lit< tt, refl)), tt)
 
 pub returns-clause-equivalent : goal.returns-clause-equivalent
-returns-clause-equivalent c st = (derives_members inherited one inherited_f inherited_g g_derives st, derives_members inherited one inherited_g inherited_f f_derives st)
+returns-clause-equivalent c st =
+    (derives_members inherited one inherited_f inherited_g g_derives st, derives_members inherited one inherited_g inherited_f f_derives st)
 
 -- ---- generators, of each of the two lists
 
@@ -158,7 +163,8 @@ g_generators = generator_list inherited one inherited_g inherited_f inherited_f 
 f_generators : IsGeneratorList inherited one inherited_f inherited_f
 f_generators =
     generator_list inherited one inherited_f inherited_f inherited_f
-    (enough inherited_f f_such (conf (0, lit< tt, refl) (λ _. generic (0, lit< tt, refl))) (conf (1, lit< tt, refl) (λ _. generic (0, lit< tt, refl)))) takes
+    (enough inherited_f f_such (conf (0, lit< tt, refl) (λ _. generic (0, lit< tt, refl)))
+    (conf (1, lit< tt, refl) (λ _. generic (0, lit< tt, refl)))) takes
 
 pub returns-clause-generators : goal.returns-clause-generators
 returns-clause-generators c = g_generators

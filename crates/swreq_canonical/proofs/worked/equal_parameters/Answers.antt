@@ -72,7 +72,8 @@ pub returns-clause-generator : goal.returns-clause-generator
 returns-clause-generator c = ((conformance, first), no_list)
 
 earlier : (r : TermRequirement) → Contains (Conforms τ_0_0 P ∷ []) r → IsEarlier layouts (of_two layouts_f) (IsAnyObject τ_0_0) r
-earlier = each_member (IsEarlier layouts (of_two layouts_f) (IsAnyObject τ_0_0)) (Conforms τ_0_0 P ∷ []) (((conformance, first), inr (refl, tt)), tt)
+earlier = each_member (IsEarlier layouts (of_two layouts_f) (IsAnyObject τ_0_0)) (Conforms τ_0_0 P ∷ [])
+    (((conformance, first), inr (refl, tt)), tt)
 
 pub returns-clause-no_generator : goal.returns-clause-no_generator
 returns-clause-no_generator c h =
@@ -119,7 +120,8 @@ say (assoc_decl e d) = no_member _ d
 say (assoc_bind e d) = no_member _ d
 say (assoc_conf {u = u} {p = p} {q = q} e h v) = absurd (no_conformance (required p.rank (Conforms u q) h))
 say (assoc_same {u = u} {v = v} {p = p} e h x y) = absurd (no_same_type (required p.rank (Equals u v) h))
-say (assoc_layout {t = t} {u = u} {p = p} e h v) = subst IsParam (sym (ap (for_self t) (subject_of (required p.rank (IsAnyObject u) h)))) (say e).0
+say (assoc_layout {t = t} {u = u} {p = p} e h v) =
+    subst IsParam (sym (ap (for_self t) (subject_of (required p.rank (IsAnyObject u) h)))) (say e).0
 say (reflex e) = (say e, say e)
 say (symm e) = let k = say e in (k.1, k.0)
 say (trans e h) = ((say e).0, (say h).1)
@@ -141,12 +143,15 @@ is_second t (inr e) n = e
 listed : (r q : TermRequirement) → q ≡ r → Contains layouts_canonical r → Contains layouts_canonical q
 listed r q e h = subst (Contains layouts_canonical) (sym e) h
 
-covers : (r : TermRequirement) → IsCanonical layouts (of_two layouts_f) r → Contains layouts_canonical r ⊎ FollowsFromEarlier layouts two layouts_f r
-covers (Conforms t p) (d, c) = inl (listed (Conforms τ_0_0 P) (Conforms t p) (ap₂ Conforms (is_first t (say d).0 c) (say d).1) (0, lit< tt, refl))
+covers : (r : TermRequirement) → IsCanonical layouts (of_two layouts_f) r
+    → Contains layouts_canonical r ⊎ FollowsFromEarlier layouts two layouts_f r
+covers (Conforms t p) (d, c) =
+    inl (listed (Conforms τ_0_0 P) (Conforms t p) (ap₂ Conforms (is_first t (say d).0 c) (say d).1) (0, lit< tt, refl))
 covers (IsAnyObject t) (d, c) = inl (listed (IsAnyObject τ_0_0) (IsAnyObject t) (ap IsAnyObject (is_first t (say d) c)) (1, lit< tt, refl))
 covers (Equals u v) (d, (o, n, q)) =
     let e : v ≡ τ_0_1 = is_second v (say d).1 n in
-    let i : u ≡ τ_0_0 = reduced_is_one layouts (of_two layouts_f) τ_0_1 u τ_0_0 (subst (λ x. IsReducedTypeOf layouts (of_two layouts_f) x u) e q) reduced in
+    let i : u ≡ τ_0_0 =
+    reduced_is_one layouts (of_two layouts_f) τ_0_1 u τ_0_0 (subst (λ x. IsReducedTypeOf layouts (of_two layouts_f) x u) e q) reduced in
     inl (listed (Equals τ_0_0 τ_0_1) (Equals u v) (ap₂ Equals i e) (2, lit< tt, refl))
 
 sorted : IsStrictlySorted layouts_canonical

@@ -11,10 +11,12 @@ greater-init g c =
     let a = c.args in let told = g.W.Watch.told in let new = c.settle_given.new.rules in
     let fits = c.requires.base_fits in
     record {
-      goes = goes_along a.task.now.limits a.task.now.base a.task.now.given.now (GivenBelow (length a.task.now.given.now)) (UpTo (a.task.now.base + 1)) a.rules.now new (told a.watch.now)
+      goes = goes_along a.task.now.limits a.task.now.base a.task.now.given.now (GivenBelow (length a.task.now.given.now))
+          (UpTo (a.task.now.base + 1)) a.rules.now new (told a.watch.now)
           (told c.settle_given.new.watch)
           (equations_done a.task.now.base a.task.now.given.now new)
-          (subst (λ n. HasCome a.task.now.limits n a.task.now.given.now (GivenBelow (length a.task.now.given.now)) a.rules.now new (told a.watch.now)
+          (subst (λ n.
+          HasCome a.task.now.limits n a.task.now.given.now (GivenBelow (length a.task.now.given.now)) a.rules.now new (told a.watch.now)
           (told c.settle_given.new.watch)) (sym c.requires.base_is) c.in_ok-settle_given.ensures);
       new = omega arith;
       small = omega (arith, fits);
@@ -33,7 +35,8 @@ greater-preserved g c =
     let t = c.greater-test.true in let e = c.count.ensures in
     let n = l.invariant.new in
     record {
-      goes = goes_later a.task.now.limits a.task.now.base a.task.now.given.now (UpTo (l.greater + 1)) a.rules.now l.rules c.settle_greater.new.rules (told a.watch.now)
+      goes = goes_later a.task.now.limits a.task.now.base a.task.now.given.now
+          (UpTo (l.greater + 1)) a.rules.now l.rules c.settle_greater.new.rules (told a.watch.now)
           (told l.watch) (told c.settle_greater.new.watch) l.invariant.goes.grown c.in_ok-settle_greater.ensures;
       new = omega (arith, n);
       small = omega (arith, k, t, e);
@@ -53,13 +56,17 @@ returns-in_err-settle_greater g c =
     let a = c.args in let l = c.greater in let told = g.W.Watch.told in
     let p = err_from_is_err_and c.from_residual-in_err-settle_greater.result c.from_residual-in_err-settle_greater.ensures.1 in
     rw (p.1, p.2)
-    (stops_later a.task.now.limits a.task.now.base a.task.now.given.now a.rules.now l.rules c.settle_greater.new.rules (told a.watch.now) (told l.watch)
+    (stops_later a.task.now.limits a.task.now.base a.task.now.given.now a.rules.now l.rules c.settle_greater.new.rules
+    (told a.watch.now) (told l.watch)
     (told c.settle_greater.new.watch) l.invariant.goes.grown c.in_err-settle_greater.field-0.0 c.in_err-settle_greater.ensures)
 
 pub returns : goal.returns
 returns g c =
     let a = c.args in let l = c.greater in
     let f = c.count.ensures in let t = c.greater-test.false in (
-      record { ended = all_done a.task.now.base a.task.now.given.now l.rules l.greater (omega (arith, f, t)) l.invariant.goes.progress; kept = l.invariant.goes.kept },
+      record {
+        ended = all_done a.task.now.base a.task.now.given.now l.rules l.greater (omega (arith, f, t)) l.invariant.goes.progress;
+        kept = l.invariant.goes.kept;
+      },
       l.invariant.goes.grown,
     )

@@ -10,7 +10,8 @@ pub loop-n-init : goal.loop-n-init
 loop-n-init g c =
     let a = c.args in let r = c.requires in
     record {
-      progress = listed_begun a.task.now.base a.task.now.given.now a.rules.now a.greater a.places.now r.all_places r.new r.in_range a.rules.now [] (sym (append-nil a.rules.now)) r.so_far.progress;
+      progress = listed_begun a.task.now.base a.task.now.given.now a.rules.now a.greater a.places.now r.all_places r.new r.in_range
+          a.rules.now [] (sym (append-nil a.rules.now)) r.so_far.progress;
       kept = r.so_far.kept;
       grown = grown_none a.rules.now (g.W.Watch.told a.watch.now);
     }
@@ -18,7 +19,8 @@ loop-n-init g c =
 pub settle_place-requires-clause-pair : goal.settle_place-requires-clause-pair
 settle_place-requires-clause-pair g c =
     let a = c.args in let r = c.requires in let l = c.loop-n in
-    pair_there a.task.now.base a.task.now.given.now a.rules.now a.greater a.places.now r.all_places r.new r.in_range l.n c.place_at-place.result c.place_at-place.ensures
+    pair_there a.task.now.base a.task.now.given.now a.rules.now a.greater a.places.now r.all_places r.new r.in_range l.n
+    c.place_at-place.result c.place_at-place.ensures
     l.rules l.invariant.grown.more l.invariant.grown.new_is
 
 pub settle_place-requires-clause-few : goal.settle_place-requires-clause-few
@@ -30,10 +32,13 @@ settle_place-requires-clause-few g c =
 pub loop-n-preserved : goal.loop-n-preserved
 loop-n-preserved g c =
     let a = c.args in let r = c.requires in let l = c.loop-n in let told = g.W.Watch.told in let new = c.settle_place.new in
-    goes_later a.task.now.limits a.task.now.base a.task.now.given.now (Listed a.greater a.places.now (l.n + 1)) a.rules.now l.rules new.rules (told a.watch.now) (told l.watch) (told new.watch)
+    goes_later a.task.now.limits a.task.now.base a.task.now.given.now
+    (Listed a.greater a.places.now (l.n + 1)) a.rules.now l.rules new.rules (told a.watch.now) (told l.watch) (told new.watch)
     l.invariant.grown
-    (place_goes a.task.now.base a.task.now.given.now a.rules.now a.greater a.places.now r.all_places r.new r.in_range l.n c.place_at-place.result c.place_at-place.ensures
-    l.rules l.invariant.grown.more l.invariant.grown.new_is l.invariant.progress a.task.now.limits new.rules (told l.watch) (told new.watch) l.invariant.kept
+    (place_goes a.task.now.base a.task.now.given.now a.rules.now a.greater a.places.now r.all_places r.new r.in_range l.n
+    c.place_at-place.result c.place_at-place.ensures
+    l.rules l.invariant.grown.more l.invariant.grown.new_is l.invariant.progress a.task.now.limits new.rules (told l.watch)
+    (told new.watch) l.invariant.kept
     c.in_ok-settle_place.ensures)
 
 pub returns-in_err-settle_place : goal.returns-in_err-settle_place
@@ -41,17 +46,21 @@ returns-in_err-settle_place g c =
     let a = c.args in let r = c.requires in let l = c.loop-n in let told = g.W.Watch.told in let new = c.settle_place.new in
     let p = err_from_is_err_and c.from_residual.result c.from_residual.ensures.1 in
     rw (p.1, p.2)
-    (stops_later a.task.now.limits a.task.now.base a.task.now.given.now a.rules.now l.rules new.rules (told a.watch.now) (told l.watch) (told new.watch) l.invariant.grown
+    (stops_later a.task.now.limits a.task.now.base a.task.now.given.now a.rules.now l.rules new.rules (told a.watch.now) (told l.watch)
+    (told new.watch) l.invariant.grown
     c.in_err-settle_place.field-0.0
-    (place_stops a.task.now.base a.task.now.given.now a.rules.now a.greater a.places.now r.all_places r.new r.in_range l.n c.place_at-place.result c.place_at-place.ensures
-    l.rules l.invariant.grown.more l.invariant.grown.new_is l.invariant.progress a.task.now.limits new.rules (told l.watch) (told new.watch) l.invariant.kept
+    (place_stops a.task.now.base a.task.now.given.now a.rules.now a.greater a.places.now r.all_places r.new r.in_range l.n
+    c.place_at-place.result c.place_at-place.ensures
+    l.rules l.invariant.grown.more l.invariant.grown.new_is l.invariant.progress a.task.now.limits new.rules (told l.watch)
+    (told new.watch) l.invariant.kept
     c.in_err-settle_place.field-0.0 c.in_err-settle_place.ensures))
 
 pub returns : goal.returns
 returns g c =
     let a = c.args in let r = c.requires in let l = c.loop-n in
     record {
-      progress = listed_done a.task.now.base a.task.now.given.now a.rules.now a.greater a.places.now r.all_places r.new r.in_range l.rules l.invariant.grown.more
+      progress = listed_done a.task.now.base a.task.now.given.now a.rules.now a.greater a.places.now r.all_places r.new r.in_range
+          l.rules l.invariant.grown.more
           l.invariant.grown.new_is l.n (omega arith) l.invariant.progress;
       kept = l.invariant.kept;
       grown = l.invariant.grown;

@@ -10,7 +10,12 @@ pub take_step_of-requires : goal.take_step_of-requires
 take_step_of-requires c =
     let rules = c.args.rules.now in let w = c.args.w.now.items in let redex = c.in-Some.redex in
     let first = subst (λ u. FirstRedex rules u redex.at redex.number) c.deref.ensures.value c.in-Some.ensures in
-    record { rules = rules; number = redex.number; is_rule = rule_of_redex rules w redex.at redex.number c.rule.result.now first c.rule.ensures; redex = first }
+    record {
+      rules = rules;
+      number = redex.number;
+      is_rule = rule_of_redex rules w redex.at redex.number c.rule.result.now first c.rule.ensures;
+      redex = first;
+    }
 
 pub returns-in-None-clause-step : goal.returns-in-None-clause-step
 returns-in-None-clause-step c = (refl, subst (IsIrreducible (Step c.args.rules.now)) c.deref.ensures.value c.in-None.ensures)
@@ -21,5 +26,6 @@ returns-in-Some-clause-step c =
     let first = subst (λ u. FirstRedex rules u redex.at redex.number) c.deref.ensures.value c.in-Some.ensures in
     rw c.saturating_sub.ensures
     (steps_past rules w c.take_step_of.new.w.items redex.at redex.number c.args.longest first
-    (c.take_step_of.ensures.step rules redex.number (rule_of_redex rules w redex.at redex.number c.rule.result.now first c.rule.ensures) first)
+    (c.take_step_of.ensures.step rules redex.number
+    (rule_of_redex rules w redex.at redex.number c.rule.result.now first c.rule.ensures) first)
     c.requires.no_left_longer)

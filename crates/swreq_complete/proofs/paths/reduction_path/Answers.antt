@@ -14,20 +14,27 @@ pub take_redex_of-requires-clause-redex : goal.take_redex_of-requires-clause-red
 take_redex_of-requires-clause-redex c =
     let rules = c.args.rules.now in let w = c.steps.word.items in let redex = c.in-Some.redex in
     let first = subst (λ u. FirstRedex rules u redex.at redex.number) c.deref.ensures.value c.in-Some.ensures in
-    record { rules = rules; number = redex.number; is_rule = rule_of_redex rules w redex.at redex.number c.rule-rule.result.now first c.rule-rule.ensures; redex = first }
+    record {
+      rules = rules;
+      number = redex.number;
+      is_rule = rule_of_redex rules w redex.at redex.number c.rule-rule.result.now first c.rule-rule.ensures;
+      redex = first;
+    }
 
 pub steps-smaller : goal.steps-smaller
 steps-smaller c =
     let rules = c.args.rules.now in let w = c.steps.word.items in let redex = c.in-Some.redex in
     let first = subst (λ u. FirstRedex rules u redex.at redex.number) c.deref.ensures.value c.in-Some.ensures in
-    left_falls _ _ _ _ _ (c.in_ok-take_redex_of.ensures.ok rules (rule_of_redex rules w redex.at redex.number c.rule-rule.result.now first c.rule-rule.ensures) first)
+    left_falls _ _ _ _ _ (c.in_ok-take_redex_of.ensures.ok rules
+    (rule_of_redex rules w redex.at redex.number c.rule-rule.result.now first c.rule-rule.ensures) first)
 
 pub steps-preserved : goal.steps-preserved
 steps-preserved c =
     let rules = c.args.rules.now in let w = c.steps.word.items in let redex = c.in-Some.redex in
     let first = subst (λ u. FirstRedex rules u redex.at redex.number) c.deref.ensures.value c.in-Some.ensures in
     reduce_more _ _ _ _ _ _ c.steps.invariant
-    (c.in_ok-take_redex_of.ensures.ok rules (rule_of_redex rules w redex.at redex.number c.rule-rule.result.now first c.rule-rule.ensures) first)
+    (c.in_ok-take_redex_of.ensures.ok rules
+    (rule_of_redex rules w redex.at redex.number c.rule-rule.result.now first c.rule-rule.ensures) first)
 
 pub returns : goal.returns
 returns c =

@@ -15,4 +15,5 @@ pub returns-clause-redex : goal.returns-clause-redex
 returns-clause-redex c =
     let rules = c.args.rules.now in let w = c.args.w.now in
     none_in_word rules w c.loop-at.at
-    (subst (NoneEarlier rules w) (sym c.loop-at.invariant.as_many) (none_read rules w c.loop-at.counts.items c.loop-at.invariant.read)) (omega arith)
+    (subst (NoneEarlier rules w) (sym c.loop-at.invariant.as_many) (none_read rules w c.loop-at.counts.items c.loop-at.invariant.read))
+    (omega arith)

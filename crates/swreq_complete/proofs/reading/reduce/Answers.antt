@@ -9,7 +9,8 @@ steps-init c = record { chain = done; read = read_none c.args.rules.now c.args.w
 
 pub steps-smaller : goal.steps-smaller
 steps-smaller c =
-    remaining_falls c.args.rules.now c.steps.w.items c.take_next_step.new.w.items (rw c.if-branch.true at c.in_ok-take_next_step.ensures.step)
+    remaining_falls c.args.rules.now c.steps.w.items c.take_next_step.new.w.items
+    (rw c.if-branch.true at c.in_ok-take_next_step.ensures.step)
 
 pub steps-preserved : goal.steps-preserved
 steps-preserved c = record {

@@ -19,8 +19,10 @@ returns-in-Some-clause-read c =
     let first : FirstRedex rules w redex.at redex.number =
     subst (λ u. FirstRedex rules u redex.at redex.number) c.deref.ensures.value (rw c.in-Some.is at c.in_ok-next_redex.ensures.redex) in
     let kept = kept_counts counts c.truncate.new.self.items c.count_within.result redex.at c.truncate.ensures.items
-    (subst (λ (xs : List ℕ). (k n : ℕ) → k < c.count_within.result → slice_get xs k ≡ Some n → n ≤ redex.at) c.deref-in-Some.ensures.value c.count_within.ensures) in
+    (subst (λ (xs : List ℕ). (k n : ℕ) → k < c.count_within.result → slice_get xs k ≡ Some n → n ≤ redex.at) c.deref-in-Some.ensures.value
+    c.count_within.ensures) in
     read_after rules w c.take_step_of.new.w.items redex.at redex.number counts c.truncate.new.self.items first
-    (c.take_step_of.ensures.step rules redex.number (rule_of_redex rules w redex.at redex.number c.rule.result.now first c.rule.ensures) first)
+    (c.take_step_of.ensures.step rules redex.number
+    (rule_of_redex rules w redex.at redex.number c.rule.result.now first c.rule.ensures) first)
     (subst (λ u. AreRead rules u counts) c.deref.ensures.value c.in_ok-next_redex.ensures.read)
     (λ k n g. (kept k n g).0) (λ k n g. (kept k n g).1)

@@ -8,13 +8,15 @@ use Rattle.swreq_word.proofs.Comparing.{greater_some}
 use Rattle.swreq_complete.proofs.reduced.add_key.Goals as goal
 
 pub is_minimal-requires : goal.is_minimal-requires
-is_minimal-requires c = subst (λ x. 0 < length x) (sym c.symbols.ensures) (greater_some c.rule-rule.result.now.right c.rule-rule.result.now.left c.rule-rule.result.now.down)
+is_minimal-requires c = subst (λ x. 0 < length x) (sym c.symbols.ensures)
+    (greater_some c.rule-rule.result.now.right c.rule-rule.result.now.left c.rule-rule.result.now.down)
 
 pub returns-then-not-is_minimal : goal.returns-then-not-is_minimal
 returns-then-not-is_minimal c =
     let rules = c.args.rules.now in
     key_skipped rules c.args.k c.args.keys.now.items c.rule-rule.result.now c.rule-rule.ensures
-    (λ h. (let t = c.is_minimal.ensures.1 (subst (λ x. EachFactor x (IsIrreducible (Step rules))) (sym c.symbols.ensures) h) in let f = c.if-not-is_minimal.true in cc))
+    (λ h. (let t = c.is_minimal.ensures.1 (subst (λ x. EachFactor x (IsIrreducible (Step rules))) (sym c.symbols.ensures) h) in
+    let f = c.if-not-is_minimal.true in cc))
     c.requires.so_far
 
 pub returns : goal.returns

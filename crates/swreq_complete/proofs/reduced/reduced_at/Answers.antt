@@ -18,7 +18,8 @@ returns-then-not-is_minimal c rule e h =
 pub returns : goal.returns
 returns c =
     let rules = c.args.rules.now in
-    let factors = subst (λ x. EachFactor x (IsIrreducible (Step rules))) c.symbols.ensures (c.is_minimal.ensures.0 c.if-not-is_minimal.false) in (
+    let factors =
+    subst (λ x. EachFactor x (IsIrreducible (Step rules))) c.symbols.ensures (c.is_minimal.ensures.0 c.if-not-is_minimal.false) in (
       c.rule-rule.result.now,
       c.rule-rule.ensures,
       sym c.in_ok-new.ensures.left,

@@ -26,7 +26,8 @@ loop-n-preserved g c =
     let x = c.index-given-n.result in
     let e = slice_get_read given (length given) n x refl c.loop-n-test.true c.index-given-n.is in
     let told = g.W.Watch.told in
-    goes_later c.args.task.now.limits base given (GivenBelow (n + 1)) c.args.rules.now old c.settle_equation.new.rules (told c.args.watch.now)
+    goes_later c.args.task.now.limits base given
+    (GivenBelow (n + 1)) c.args.rules.now old c.settle_equation.new.rules (told c.args.watch.now)
     (told c.loop-n.watch) (told c.settle_equation.new.watch) i.grown
     (goes_on c.args.task.now.limits base given (GivenBelow n) (GivenBelow (n + 1))
     (λ t. Settles old t (Given (n + 1)) x.0 x.1) old c.settle_equation.new.rules (told c.loop-n.watch)
@@ -37,7 +38,8 @@ loop-n-preserved g c =
     c.in_ok-settle_equation.ensures)
 
 pub returns : goal.returns
-returns g c = subst (λ n. HasCome c.args.task.now.limits (length c.args.rules.now) c.args.task.now.given.now (GivenBelow n) c.args.rules.now c.loop-n.rules
+returns g c = subst (λ n.
+    HasCome c.args.task.now.limits (length c.args.rules.now) c.args.task.now.given.now (GivenBelow n) c.args.rules.now c.loop-n.rules
     (g.W.Watch.told c.args.watch.now) (g.W.Watch.told c.loop-n.watch)) (omega arith) c.loop-n.invariant
 
 pub returns-in_err-settle_equation : goal.returns-in_err-settle_equation
@@ -52,7 +54,8 @@ returns-in_err-settle_equation g c =
     let told = g.W.Watch.told in
     let p = err_from_is_err_and c.from_residual.result c.from_residual.ensures.1 in
     rw (p.1, p.2)
-    (stops_among_later c.args.task.now.limits base given c.args.rules.now old c.settle_equation.new.rules (told c.args.watch.now) (told c.loop-n.watch)
+    (stops_among_later c.args.task.now.limits base given c.args.rules.now old c.settle_equation.new.rules
+    (told c.args.watch.now) (told c.loop-n.watch)
     (told c.settle_equation.new.watch) i.grown c.in_err-settle_equation.field-0.0
     (stops_among c.args.task.now.limits base given (GivenBelow n) (GivenBelow (n + 1))
     (λ t. Settles old t (Given (n + 1)) x.0 x.1) old c.settle_equation.new.rules (told c.loop-n.watch)

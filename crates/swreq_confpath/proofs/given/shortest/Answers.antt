@@ -14,7 +14,16 @@ follow-requires-clause-least c = none_less (last_rules c.args.machine.now.rounds
 
 pub find-requires-clause-known : goal.find-requires-clause-known
 find-requires-clause-known c =
-    let s : Sought = record { alloc = c.args.alloc; world = c.args.world; table = c.args.table; machine = c.args.machine; list = c.deref.result; changed = c.deref-2.result; subject = c.args.t; proto = c.args.p } in
+    let s : Sought = record {
+      alloc = c.args.alloc;
+      world = c.args.world;
+      table = c.args.table;
+      machine = c.args.machine;
+      list = c.deref.result;
+      changed = c.deref-2.result;
+      subject = c.args.t;
+      proto = c.args.p;
+    } in
     let rules = last_rules c.args.machine.now.rounds in
     let complete : IsComplete rules = subst IsComplete c.rules.ensures c.in_ok-changed.ensures.complete in
     let others : AllSpareOthers rules c.in_ok-changed.changed.items
@@ -27,8 +36,18 @@ find-requires-clause-target c = c.in_ok-target.ensures.stands Start tt
 
 pub returns : goal.returns
 returns c =
-    let s : Sought = record { alloc = c.args.alloc; world = c.args.world; table = c.args.table; machine = c.args.machine; list = c.deref.result; changed = c.deref-2.result; subject = c.args.t; proto = c.args.p } in
+    let s : Sought = record {
+      alloc = c.args.alloc;
+      world = c.args.world;
+      table = c.args.table;
+      machine = c.args.machine;
+      list = c.deref.result;
+      changed = c.deref-2.result;
+      subject = c.args.t;
+      proto = c.args.p;
+    } in
     record {
       path = IfOk-weaker c.find.result _ _
-          (λ path h. given_of s c.args.f c.requires.text c.requires.short c.requires.machine (c.deref.ensures.value ∙ c.in_ok-list.ensures) path h) c.find.ensures;
+          (λ path h. given_of s c.args.f c.requires.text c.requires.short c.requires.machine
+          (c.deref.ensures.value ∙ c.in_ok-list.ensures) path h) c.find.ensures;
     }

@@ -13,7 +13,8 @@ pub loop-k-preserved : goal.loop-k-preserved
 loop-k-preserved c =
     let w = c.args.word.now in
     let k = c.loop-k.k in
-    no_protocol_more w k (get_or w k (Proto 0)) c.loop-k.invariant (slice_get-get_or w k (Proto 0) c.loop-k-test.true) c.in_default.not-Proto
+    no_protocol_more w k (get_or w k (Proto 0)) c.loop-k.invariant
+    (slice_get-get_or w k (Proto 0) c.loop-k-test.true) c.in_default.not-Proto
 
 pub returns : goal.returns
 returns c =

@@ -11,7 +11,8 @@ returns-then-from-to c =
     let to = c.min-to.result in
     let size : length left ≡ length rule.left = ap (λ w. length w) c.symbols-left.ensures in
     others_spared rule from c.before_protocol.result to _
-    (subst (λ w. AreInCommon w rule.right from) c.symbols-left.ensures (subst (λ w. AreInCommon left w from) c.symbols.ensures c.in_common-from.ensures))
+    (subst (λ w. AreInCommon w rule.right from) c.symbols-left.ensures
+    (subst (λ w. AreInCommon left w from) c.symbols.ensures c.in_common-from.ensures))
     (subst (λ w. AreBeforeProtocol w c.before_protocol.result) c.symbols-left.ensures c.before_protocol.ensures)
     (λ i early last. omega (arith, c.min-to.ensures, c.saturating_sub.ensures, size, early, last))
     (λ i x low high is. stands_between left from to i x low high (subst (λ w. slice_get w i ≡ Some x) (sym c.symbols-left.ensures) is))
@@ -24,7 +25,8 @@ returns c =
     let to = c.min-to.result in
     let size : length left ≡ length rule.left = ap (λ w. length w) c.symbols-left.ensures in
     others_spared rule from c.before_protocol.result to []
-    (subst (λ w. AreInCommon w rule.right from) c.symbols-left.ensures (subst (λ w. AreInCommon left w from) c.symbols.ensures c.in_common-from.ensures))
+    (subst (λ w. AreInCommon w rule.right from) c.symbols-left.ensures
+    (subst (λ w. AreInCommon left w from) c.symbols.ensures c.in_common-from.ensures))
     (subst (λ w. AreBeforeProtocol w c.before_protocol.result) c.symbols-left.ensures c.before_protocol.ensures)
     (λ i early last. omega (arith, c.min-to.ensures, c.saturating_sub.ensures, size, early, last))
     (λ i x low high is. let none = c.if-from-to.false in absurd (omega (arith, low, high, none)))

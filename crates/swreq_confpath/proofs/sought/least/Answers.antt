@@ -12,7 +12,8 @@ pub loop-k-init : goal.loop-k-init
 loop-k-init c =
     let rules = c.args.rules.now in
     let front = c.args.front.now in
-    let e : c.extend_from_slice.new.self.items ≡ front = c.in_ok-extend_from_slice.ensures.items ∙ ap (λ z. z ++ front) c.in_ok-word.ensures.items in
+    let e : c.extend_from_slice.new.self.items ≡ front =
+    c.in_ok-extend_from_slice.ensures.items ∙ ap (λ z. z ++ front) c.in_ok-word.ensures.items in
     record {
       least = subst (IsLeastBy rules) (sym e) c.requires;
       linked = subst (Links rules (front ++ [])) (sym e) (subst (λ z. Links rules z front) (sym (append-nil front)) here);
@@ -39,6 +40,7 @@ returns c =
     let last : c.loop-k.k ≡ length rest = omega arith in
     let all : take c.loop-k.k rest ≡ rest = ap (λ n. take n rest) last ∙ take-length rest in
     record {
-      linked = subst (Links rules (front ++ rest)) (sym c.new.ensures) (subst (λ z. Links rules (front ++ z) c.loop-k.word.items) all c.loop-k.invariant.linked);
+      linked = subst (Links rules (front ++ rest)) (sym c.new.ensures)
+          (subst (λ z. Links rules (front ++ z) c.loop-k.word.items) all c.loop-k.invariant.linked);
       least = subst (IsLeastBy rules) (sym c.new.ensures) c.loop-k.invariant.least;
     }

@@ -21,7 +21,8 @@ put_first-requires c =
     let rs = written_list (signature_at (world_by terms w) c.args.f) in
     let h = c.requires.numbers in
     let r = c.index-first.result.now in
-    let member = is_member terms rs list (sym (signature_listed terms w c.args.f list c.in_ok-list.ensures)) c.args.path.now.first h.0 h.1 h.2 r in
+    let member =
+    is_member terms rs list (sym (signature_listed terms w c.args.f list c.in_ok-list.ensures)) c.args.path.now.first h.0 h.1 h.2 r in
     let of = signature_known terms w c.requires.text c.args.f c.requires.f list c.in_ok-list.ensures _ member in
     subst (HasIdsOf terms) (sym c.index-first.ensures) of.0
 
@@ -35,7 +36,8 @@ put_steps-requires-clause-proto c =
     let n = c.args.path.now.first in
     let h = c.requires.numbers in
     let r = c.index-first.result.now in
-    let of = signature_known terms w c.requires.text c.args.f c.requires.f list c.in_ok-list.ensures _ (is_member terms rs list same n h.0 h.1 h.2 r) in
+    let of = signature_known terms w c.requires.text c.args.f c.requires.f list c.in_ok-list.ensures _
+    (is_member terms rs list same n h.0 h.1 h.2 r) in
     names_protocol terms rs list same n h.0 h.1 h.2 w.lexicon r c.protocol_named.result of
     (c.protocol_named.ensures terms ∙ ap (λ (z : Requirement). protocol_named (requirement_of terms z)) c.index-first.ensures)
 
@@ -66,9 +68,13 @@ returns-clause-ok c =
     let r = c.index-first.result.now in
     let named = names terms rs list same n h.0 h.1 h.2 r c.protocol_named.result
     (c.protocol_named.ensures terms ∙ ap (λ (z : Requirement). protocol_named (requirement_of terms z)) c.index-first.ensures) in
-    let one = c.in_ok-put_first.ensures ∙ ap (λ (z : LexiconView). c.new-text.result.items ++ in_brackets (requirement_text z (requirement_of terms r))) c.lexicon.ensures in
-    let text = first_written x (facts_of (world_by terms w)) rs n c.args.path.now.steps c.items.result.now h.0 h.1 c.protocol_named.result c.new-text.result.items
+    let one = c.in_ok-put_first.ensures
+    ∙ ap (λ (z : LexiconView). c.new-text.result.items ++ in_brackets (requirement_text z (requirement_of terms r))) c.lexicon.ensures in
+    let text = first_written x (facts_of (world_by terms w)) rs n c.args.path.now.steps c.items.result.now h.0 h.1
+    c.protocol_named.result c.new-text.result.items
     c.put_first.new.out.items c.put_steps.new.out.items (requirement_of terms r) (requirement_is terms rs list same n h.0 h.1 h.2)
-    (ap (requirement_of terms) c.index-first.ensures ∙ number_is terms rs list same n h.0 h.1 h.2 r) named c.items.ensures c.new-text.ensures.items one
+    (ap (requirement_of terms) c.index-first.ensures ∙ number_is terms rs list same n h.0 h.1 h.2 r) named c.items.ensures
+    c.new-text.ensures.items one
     c.in_ok-put_steps.ensures in
-    on_ok_weaker c.append_bytes.result (λ e. e ∙ ap (λ z. c.args.out.now.items ++ z) (c.deref.ensures.value ∙ text)) c.append_bytes.ensures.ok
+    on_ok_weaker c.append_bytes.result (λ e. e ∙ ap (λ z. c.args.out.now.items ++ z) (c.deref.ensures.value ∙ text))
+    c.append_bytes.ensures.ok

@@ -21,7 +21,8 @@ bounds-bare_requirements-number c =
     let k = c.loop-k.k in
     let h = subst (AreNumbersBehind f at) (next_left c.args.steps.now k c.loop-k-test.true) c.loop-k.invariant.left in
     let list = c.bare_requirements.result.now in
-    let same = own_requirements w terms at ∙ ap (λ (z : List Requirement). map (requirement_of terms) z) (sym c.bare_requirements.ensures) in
+    let same =
+    own_requirements w terms at ∙ ap (λ (z : List Requirement). map (requirement_of terms) z) (sym c.bare_requirements.ensures) in
     number_within terms (f.of_protocol at) list same (get_or c.args.steps.now k 0) h.0 h.1 h.2
 
 pub put_step-requires : goal.put_step-requires
@@ -35,7 +36,8 @@ put_step-requires c =
     let first : Requirement = Conf (record { place = 0 }) (record { rank = 0 }) in
     let h = subst (AreNumbersBehind f at) (next_left c.args.steps.now k c.loop-k-test.true) c.loop-k.invariant.left in
     let list = c.bare_requirements.result.now in
-    let same = own_requirements w terms at ∙ ap (λ (z : List Requirement). map (requirement_of terms) z) (sym c.bare_requirements.ensures) in
+    let same =
+    own_requirements w terms at ∙ ap (λ (z : List Requirement). map (requirement_of terms) z) (sym c.bare_requirements.ensures) in
     let all = protocol_in_list terms w c.requires.text at list c.bare_requirements.ensures in
     (all (get_or list (n - 1) first) (is_member terms (f.of_protocol at) list same n h.0 h.1 h.2 first)).0
 
@@ -52,7 +54,8 @@ loop-k-preserved c =
     let left = next_left c.args.steps.now k c.loop-k-test.true in
     let h = subst (AreNumbersBehind facts at) left c.loop-k.invariant.left in
     let list = c.bare_requirements.result.now in
-    let same = own_requirements w terms at ∙ ap (λ (z : List Requirement). map (requirement_of terms) z) (sym c.bare_requirements.ensures) in
+    let same =
+    own_requirements w terms at ∙ ap (λ (z : List Requirement). map (requirement_of terms) z) (sym c.bare_requirements.ensures) in
     let rs = facts.of_protocol at in
     let all = protocol_in_list terms w c.requires.text at list c.bare_requirements.ensures in
     let known = all (get_or list (n - 1) first) (is_member terms rs list same n h.0 h.1 h.2 first) in
@@ -60,8 +63,11 @@ loop-k-preserved c =
     record {
       proto = names_protocol terms rs list same n h.0 h.1 h.2 x first c.protocol_named-at.result known (c.protocol_named-at.ensures terms);
       left = subst (λ q. AreNumbersBehind facts q (drop (k + 1) c.args.steps.now)) (sym named) h.3;
-      text = step_written x facts at c.protocol_named-at.result n (drop (k + 1) c.args.steps.now) h.0 h.1 c.loop-k.out.items c.put_step.new.out.items
-          (requirement_of terms (get_or list (n - 1) first)) (requirement_is terms rs list same n h.0 h.1 h.2) (number_is terms rs list same n h.0 h.1 h.2 first) named
-          (c.in_ok-put_step.ensures ∙ ap (λ (z : LexiconView). c.loop-k.out.items ++ in_brackets (self_text z (requirement_of terms (get_or list (n - 1) first)))) c.lexicon.ensures)
+      text = step_written x facts at c.protocol_named-at.result n
+          (drop (k + 1) c.args.steps.now) h.0 h.1 c.loop-k.out.items c.put_step.new.out.items
+          (requirement_of terms (get_or list (n - 1) first)) (requirement_is terms rs list same n h.0 h.1 h.2)
+          (number_is terms rs list same n h.0 h.1 h.2 first) named
+          (c.in_ok-put_step.ensures ∙ ap (λ (z : LexiconView).
+          c.loop-k.out.items ++ in_brackets (self_text z (requirement_of terms (get_or list (n - 1) first)))) c.lexicon.ensures)
           ∙ (sym (ap (λ z. c.loop-k.out.items ++ steps_text x facts at z) left) ∙ c.loop-k.invariant.text);
     }

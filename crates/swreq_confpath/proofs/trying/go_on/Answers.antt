@@ -15,16 +15,19 @@ required_at-list-requires c =
 
 pub loop-k-init : goal.loop-k-init
 loop-k-init c =
-    turned c.args.sought.now c.requires.known c.args.tried.now c.args.next (c.spot.result.0.now, c.spot.result.1.now) c.in_ok-from.from c.spot.ensures c.in_ok-from.ensures c.requires.so_far
+    turned c.args.sought.now c.requires.known c.args.tried.now c.args.next
+    (c.spot.result.0.now, c.spot.result.1.now) c.in_ok-from.from c.spot.ensures c.in_ok-from.ensures c.requires.so_far
 
 pub try_requirement-requires-clause-number : goal.try_requirement-requires-clause-number
 try_requirement-requires-clause-number c =
     let s = c.args.sought.now in
-    numbered_at (required_at s.world.now s.list.now c.in_ok-from.from) c.required_at-list.result.now c.loop-k.k (Conf (record { place = 0 }) (record { rank = 0 }))
+    numbered_at (required_at s.world.now s.list.now c.in_ok-from.from) c.required_at-list.result.now c.loop-k.k
+    (Conf (record { place = 0 }) (record { rank = 0 }))
     c.required_at-list.ensures c.loop-k-test.true
 
 pub returns : goal.returns
 returns c =
     let list = ap (λ (z : List Requirement). length z) c.required_at-list.ensures in
     let last = c.loop-k-test.false in
-    finished c.args.sought.now c.requires.known c.loop-k.tried c.args.next c.in_ok-from.from c.loop-k.k c.loop-k.invariant (omega (arith, list, last))
+    finished c.args.sought.now c.requires.known c.loop-k.tried c.args.next c.in_ok-from.from c.loop-k.k c.loop-k.invariant
+    (omega (arith, list, last))

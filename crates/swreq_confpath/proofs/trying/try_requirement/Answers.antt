@@ -14,7 +14,8 @@ pub follow-requires-clause-subject : goal.follow-requires-clause-subject
 follow-requires-clause-subject c =
     let s = c.args.sought.now in
     let rs = required_at s.world.now s.list.now c.args.turn.from.now in
-    let of = requirement_in s c.requires.known c.args.turn.from.now c.args.requirement (contains_number c.args.number rs c.args.requirement c.requires.number) in
+    let of = requirement_in s c.requires.known c.args.turn.from.now c.args.requirement
+    (contains_number c.args.number rs c.args.requirement c.requires.number) in
     let k = subst (IsRequirementIn s.table.now s.world.now.lexicon) c.in-Conf.is of in
     (k.0, k.1.0)
 
@@ -22,7 +23,8 @@ pub follow-requires-clause-proto : goal.follow-requires-clause-proto
 follow-requires-clause-proto c =
     let s = c.args.sought.now in
     let rs = required_at s.world.now s.list.now c.args.turn.from.now in
-    let of = requirement_in s c.requires.known c.args.turn.from.now c.args.requirement (contains_number c.args.number rs c.args.requirement c.requires.number) in
+    let of = requirement_in s c.requires.known c.args.turn.from.now c.args.requirement
+    (contains_number c.args.number rs c.args.requirement c.requires.number) in
     let k = subst (IsRequirementIn s.table.now s.world.now.lexicon) c.in-Conf.is of in
     k.1.1
 
@@ -34,8 +36,10 @@ returns-then-has_parted c =
     let s = c.args.sought.now in
     let rs = required_at s.world.now s.list.now c.args.turn.from.now in
     let number = subst (HasNumber c.args.number rs) c.in-Conf.is c.requires.number in
-    set_aside_by s c.requires.known c.args.tried.now c.args.turn.next c.args.turn.from.now c.args.target.now c.in_ok-place-in-Conf.place c.args.number
-    c.in-Conf.subject c.in-Conf.proto c.requires.at number c.requires.target c.in_ok-place-in-Conf.ensures.place c.in_ok-place-in-Conf.ensures.stands
+    set_aside_by s c.requires.known c.args.tried.now c.args.turn.next c.args.turn.from.now c.args.target.now
+    c.in_ok-place-in-Conf.place c.args.number
+    c.in-Conf.subject c.in-Conf.proto c.requires.at number c.requires.target c.in_ok-place-in-Conf.ensures.place
+    c.in_ok-place-in-Conf.ensures.stands
     (c.has_parted.ensures c.if-has_parted.true)
 
 pub try_place-requires : goal.try_place-requires
@@ -49,11 +53,14 @@ returns-else-has_parted c =
     let (x, there) = there_is spots c.args.turn.next (within s spots c.args.turn.next c.args.turn.from.now _ c.requires.at) in
     let number = subst (HasNumber c.args.number rs) c.in-Conf.is c.requires.number in
     IfOk-weaker c.try_place.result _ _
-    (λ o k. tried_by s c.requires.known spots c.try_place.new.tried c.args.turn.next c.args.turn.from.now c.args.target.now c.in_ok-place-in-Conf.place c.args.number
-    c.in-Conf.subject c.in-Conf.proto o c.requires.at number c.requires.target c.in_ok-place-in-Conf.ensures.place c.in_ok-place-in-Conf.ensures.stands x there k)
+    (λ o k. tried_by s c.requires.known spots c.try_place.new.tried c.args.turn.next c.args.turn.from.now c.args.target.now
+    c.in_ok-place-in-Conf.place c.args.number
+    c.in-Conf.subject c.in-Conf.proto o c.requires.at number c.requires.target c.in_ok-place-in-Conf.ensures.place
+    c.in_ok-place-in-Conf.ensures.stands x there k)
     (c.try_place.ensures x there)
 
 pub returns-in_default : goal.returns-in_default
 returns-in_default c =
-    passed_by c.args.sought.now c.requires.known c.args.tried.now c.args.turn.next c.args.turn.from.now c.args.number c.args.requirement c.requires.at c.requires.number
+    passed_by c.args.sought.now c.requires.known c.args.tried.now c.args.turn.next c.args.turn.from.now c.args.number c.args.requirement
+    c.requires.at c.requires.number
     (λ t p e. c.in_default.not-Conf t p e)

@@ -22,7 +22,10 @@ returns-clause-of_list c = of_source (Conforms τ_0_0 N) ((0, lit< tt, refl), ge
 pub returns-clause-reads : goal.returns-clause-reads
 returns-clause-reads c = (
   (0, lit< tt, refl),
-  ((lit< tt, endless_conforms, (N, Next_of_N, endless_conforms, (0, lit< tt, refl))), ((N, Next_of_N, endless_next endless_conforms, (0, lit< tt, refl)), (endless_next (endless_next endless_conforms), tt))),
+  (
+    (lit< tt, endless_conforms, (N, Next_of_N, endless_conforms, (0, lit< tt, refl))),
+    ((N, Next_of_N, endless_next endless_conforms, (0, lit< tt, refl)), (endless_next (endless_next endless_conforms), tt)),
+  ),
 )
 
 pub returns-clause-typed : goal.returns-clause-typed

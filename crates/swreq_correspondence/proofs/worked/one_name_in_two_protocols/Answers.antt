@@ -19,4 +19,5 @@ returns-clause-congruent c =
     (more (there first_param (forth [] (member 1 (lit< tt)))) done)))
 
 pub returns-clause-no_reading : goal.returns-clause-no_reading
-returns-clause-no_reading c h = c.one_name_in_two_protocols.ensures.absent (without_guard (assoc_decl {a = A} {d = A_of_Q} h.1.0.1 (1, lit< tt, refl)))
+returns-clause-no_reading c h =
+    c.one_name_in_two_protocols.ensures.absent (without_guard (assoc_decl {a = A} {d = A_of_Q} h.1.0.1 (1, lit< tt, refl)))

@@ -21,7 +21,8 @@ BeginsWithParam (ParamSymbol d i ∷ w) = Unit {0}
 BeginsWithParam _ = ⊥
 
 -- where no requirement of the list is usable, no equation begins so
-no_equation : ((r : TermRequirement) → UsableIn circular (of_one circular_f) r → ⊥) → {u v : Word} → UsableEquation circular_symbols circular (of_one circular_f) u v → BeginsWithParam u → ⊥
+no_equation : ((r : TermRequirement) → UsableIn circular (of_one circular_f) r → ⊥) → {u v : Word}
+    → UsableEquation circular_symbols circular (of_one circular_f) u v → BeginsWithParam u → ⊥
 unfolding BeginsWithParam
 no_equation none (twice p h) begins = begins
 no_equation none (member k h) begins = begins
@@ -36,7 +37,8 @@ no_member t x e = cc
 module _ (c : goal.After-requirements_that_justify_one_another) where
   unusable : (r : TermRequirement) → UsableIn circular (of_one circular_f) r → ⊥
   unusable r (h, v) = elim (member_cases (Conforms (τ_0_0 · A) Q) r (Equals (τ_0_0 · A · B) τ_0_0 ∷ []) h) [
-    | inl e ↦ no_member τ_0_0 (Name A) ((c.requirements_that_justify_one_another.ensures.valid (τ_0_0 · A)).0 (subst (HasValidSides circular (of_one circular_f)) e v))
+    | inl e ↦ no_member τ_0_0 (Name A)
+        ((c.requirements_that_justify_one_another.ensures.valid (τ_0_0 · A)).0 (subst (HasValidSides circular (of_one circular_f)) e v))
     | inr k ↦
         let w : HasValidSides circular (of_one circular_f) (Equals (τ_0_0 · A · B) τ_0_0) =
         subst (HasValidSides circular (of_one circular_f)) (only_member (Equals (τ_0_0 · A · B) τ_0_0) r k) v in

@@ -6,11 +6,13 @@ use Rattle.swreq_derive.proofs.checking.follows.Goals as goal
 
 pub gives_from_one-requires-clause-first : goal.gives_from_one-requires-clause-first
 gives_from_one-requires-clause-first g c =
-    (stated_of c.args.table.now (g.F.Facts.meaning c.args.facts.now) c.args.earlier.now c.items.result.now (c.in-One.first ∷ []) c.requires.earlier c.in-One.ensures).0
+    (stated_of c.args.table.now (g.F.Facts.meaning c.args.facts.now) c.args.earlier.now c.items.result.now
+    (c.in-One.first ∷ []) c.requires.earlier c.in-One.ensures).0
 
 pub gives_from_two-requires-clause-inference : goal.gives_from_two-requires-clause-inference
 gives_from_two-requires-clause-inference g c =
-    let stated = stated_of c.args.table.now (g.F.Facts.meaning c.args.facts.now) c.args.earlier.now c.items.result.now (c.in-Two.first ∷ c.in-Two.second ∷ []) c.requires.earlier c.in-Two.ensures in
+    let stated = stated_of c.args.table.now (g.F.Facts.meaning c.args.facts.now) c.args.earlier.now c.items.result.now
+    (c.in-Two.first ∷ c.in-Two.second ∷ []) c.requires.earlier c.in-Two.ensures in
     record { first = stated.0; second = stated.1.0; conclusion = c.requires.line.1 }
 
 pub returns-in-Zero : goal.returns-in-Zero
@@ -20,13 +22,17 @@ returns-in-Zero g c =
 
 pub returns-in-One : goal.returns-in-One
 returns-in-One g c =
-    follows_from c.args.table.now (g.F.Facts.meaning c.args.facts.now) (stated_by c.args.earlier.now) c.args.line.now (c.in-One.first ∷ []) _
-    (subst (λ ns. AreStated (stated_by c.args.earlier.now) ns (c.in-One.first ∷ [])) c.items.ensures c.in-One.ensures) c.gives_from_one.ensures
+    follows_from c.args.table.now (g.F.Facts.meaning c.args.facts.now)
+    (stated_by c.args.earlier.now) c.args.line.now (c.in-One.first ∷ []) _
+    (subst (λ ns. AreStated (stated_by c.args.earlier.now) ns (c.in-One.first ∷ [])) c.items.ensures c.in-One.ensures)
+    c.gives_from_one.ensures
 
 pub returns-in-Two : goal.returns-in-Two
 returns-in-Two g c =
-    follows_from c.args.table.now (g.F.Facts.meaning c.args.facts.now) (stated_by c.args.earlier.now) c.args.line.now (c.in-Two.first ∷ c.in-Two.second ∷ []) _
-    (subst (λ ns. AreStated (stated_by c.args.earlier.now) ns (c.in-Two.first ∷ c.in-Two.second ∷ [])) c.items.ensures c.in-Two.ensures) c.gives_from_two.ensures
+    follows_from c.args.table.now (g.F.Facts.meaning c.args.facts.now) (stated_by c.args.earlier.now) c.args.line.now
+    (c.in-Two.first ∷ c.in-Two.second ∷ []) _
+    (subst (λ ns. AreStated (stated_by c.args.earlier.now) ns (c.in-Two.first ∷ c.in-Two.second ∷ [])) c.items.ensures c.in-Two.ensures)
+    c.gives_from_two.ensures
 
 pub returns-in-Other : goal.returns-in-Other
 returns-in-Other g c = (

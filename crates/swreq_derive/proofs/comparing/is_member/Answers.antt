@@ -11,5 +11,6 @@ pub returns-else-eq : goal.returns-else-eq
 returns-else-eq c = (
   (λ e. absurd (true≢false (sym e ∙ c.if-eq.false))),
   λ e. absurd (true≢false
-      (sym (id_same _ _ (c.requires.distinct c.in-Some.base c.args.t c.in-Some.ensures.0 c.requires.base (base_of (sym c.in-Some.ensures.1 ∙ e)))) ∙ sym c.eq.ensures ∙ c.if-eq.false)),
+      (sym (id_same _ _ (c.requires.distinct c.in-Some.base c.args.t c.in-Some.ensures.0 c.requires.base
+      (base_of (sym c.in-Some.ensures.1 ∙ e)))) ∙ sym c.eq.ensures ∙ c.if-eq.false)),
 )

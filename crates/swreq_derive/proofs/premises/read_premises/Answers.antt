@@ -12,4 +12,5 @@ as_many earlier (n ∷ ns) [] h = absurd h
 as_many earlier (n ∷ ns) (st ∷ sts) h = ap suc (as_many earlier ns sts h.1)
 
 pub returns-in_default : goal.returns-in_default
-returns-in_default c sts h n = let e = as_many (stated_by c.args.earlier.now) c.args.numbers.now sts h in let k = c.in_default.len_at_least in omega arith
+returns-in_default c sts h n =
+    let e = as_many (stated_by c.args.earlier.now) c.args.numbers.now sts h in let k = c.in_default.len_at_least in omega arith

@@ -15,24 +15,34 @@ returns-in-None-requirement_at g c = (
 pub returns-in-None-as_layout-2 : goal.returns-in-None-as_layout-2
 returns-in-None-as_layout-2 g c = (
   (λ e. absurd (true≢false (sym e))),
-  λ w. absurd (no_layout c.args.table.now (g.F.Facts.meaning c.args.facts.now) c.args.p c.args.n c.in-Some-requirement_at.r c.args.first c.args.conclusion
-      (subst (λ z. HasNumber c.args.n z c.in-Some-requirement_at.r) c.of_protocol.ensures c.in-Some-requirement_at.ensures) c.in-None-as_layout-2.ensures w),
+  λ w. absurd (no_layout c.args.table.now
+      (g.F.Facts.meaning c.args.facts.now) c.args.p c.args.n c.in-Some-requirement_at.r c.args.first c.args.conclusion
+      (subst (λ z. HasNumber c.args.n z c.in-Some-requirement_at.r) c.of_protocol.ensures c.in-Some-requirement_at.ensures)
+      c.in-None-as_layout-2.ensures w),
 )
 
 pub is_for_self-requires-clause-from : goal.is_for_self-requires-clause-from
-is_for_self-requires-clause-from g c = (used_is_of c.args.table.now (g.F.Facts.meaning c.args.facts.now) c.args.p c.args.n c.in-Some-requirement_at.r (Layout c.in-Some-as_layout-2.u) c.requires.facts c.requires.proto
-    (subst (λ z. HasNumber c.args.n z c.in-Some-requirement_at.r) c.of_protocol.ensures c.in-Some-requirement_at.ensures) c.in-Some-as_layout-2.ensures)
+is_for_self-requires-clause-from g c = (used_is_of c.args.table.now (g.F.Facts.meaning c.args.facts.now) c.args.p c.args.n
+    c.in-Some-requirement_at.r (Layout c.in-Some-as_layout-2.u) c.requires.facts c.requires.proto
+    (subst (λ z. HasNumber c.args.n z c.in-Some-requirement_at.r) c.of_protocol.ensures c.in-Some-requirement_at.ensures)
+    c.in-Some-as_layout-2.ensures)
 
 pub returns-then-eq : goal.returns-then-eq
 returns-then-eq g c =
-    let w = assoc_layout_given c.args.table.now (g.F.Facts.meaning c.args.facts.now) c.args.p c.in-Some.q c.args.n c.args.first c.args.conclusion c.in-Some.t c.in-Some-as_layout-2.u c.in-Some-as_layout.v c.in-Some.ensures c.in-Some-as_layout.ensures
+    let w = assoc_layout_given c.args.table.now (g.F.Facts.meaning c.args.facts.now) c.args.p c.in-Some.q c.args.n c.args.first
+    c.args.conclusion c.in-Some.t c.in-Some-as_layout-2.u c.in-Some-as_layout.v c.in-Some.ensures c.in-Some-as_layout.ensures
     (number_used (g.F.Facts.meaning c.args.facts.now) c.args.p c.args.n c.in-Some-requirement_at.r (Layout c.in-Some-as_layout-2.u)
-    (subst (λ z. HasNumber c.args.n z c.in-Some-requirement_at.r) c.of_protocol.ensures c.in-Some-requirement_at.ensures) c.in-Some-as_layout-2.ensures) in
+    (subst (λ z. HasNumber c.args.n z c.in-Some-requirement_at.r) c.of_protocol.ensures c.in-Some-requirement_at.ensures)
+    c.in-Some-as_layout-2.ensures) in
     ((λ i. w.0 (same_proto _ _ (sym c.eq.ensures ∙ c.if-eq.true), c.is_for_self.ensures.0 i)), λ i. c.is_for_self.ensures.1 (w.1 i).1)
 
 pub returns-else-eq : goal.returns-else-eq
 returns-else-eq g c =
-    let w = assoc_layout_given c.args.table.now (g.F.Facts.meaning c.args.facts.now) c.args.p c.in-Some.q c.args.n c.args.first c.args.conclusion c.in-Some.t c.in-Some-as_layout-2.u c.in-Some-as_layout.v c.in-Some.ensures c.in-Some-as_layout.ensures
+    let w = assoc_layout_given c.args.table.now (g.F.Facts.meaning c.args.facts.now) c.args.p c.in-Some.q c.args.n c.args.first
+    c.args.conclusion c.in-Some.t c.in-Some-as_layout-2.u c.in-Some-as_layout.v c.in-Some.ensures c.in-Some-as_layout.ensures
     (number_used (g.F.Facts.meaning c.args.facts.now) c.args.p c.args.n c.in-Some-requirement_at.r (Layout c.in-Some-as_layout-2.u)
-    (subst (λ z. HasNumber c.args.n z c.in-Some-requirement_at.r) c.of_protocol.ensures c.in-Some-requirement_at.ensures) c.in-Some-as_layout-2.ensures) in
-    ((λ i. absurd (true≢false (sym i ∙ c.if-eq.false))), λ i. absurd (true≢false (sym (proto_same _ _ (w.1 i).0) ∙ sym c.eq.ensures ∙ c.if-eq.false)))
+    (subst (λ z. HasNumber c.args.n z c.in-Some-requirement_at.r) c.of_protocol.ensures c.in-Some-requirement_at.ensures)
+    c.in-Some-as_layout-2.ensures) in (
+      (λ i. absurd (true≢false (sym i ∙ c.if-eq.false))),
+      λ i. absurd (true≢false (sym (proto_same _ _ (w.1 i).0) ∙ sym c.eq.ensures ∙ c.if-eq.false)),
+    )

@@ -18,7 +18,8 @@ IsSide (IsAnyObject t) = t ≡ self · A · B
 IsSide (Equals t u) = t ≡ self · A · B
 
 sides : (n : ℕ) (r : TermRequirement) → Contains (by_rank elsewhere_requirements n) r → IsSide r
-sides zero r h = each_member IsSide (Conforms (self · A · B) Q ∷ IsAnyObject (self · A · B) ∷ Equals (self · A · B) (self · A) ∷ []) (refl, (refl, (refl, tt))) r h
+sides zero r h = each_member IsSide (Conforms (self · A · B) Q ∷ IsAnyObject (self · A · B) ∷ Equals (self · A · B) (self · A) ∷ [])
+    (refl, (refl, (refl, tt))) r h
 sides (suc zero) r h = no_member r h
 sides (suc (suc n)) r h = no_member r h
 
@@ -75,7 +76,8 @@ book_conforms : BookDerivable elsewhere (of_one elsewhere_f) (Requires (Conforms
 book_conforms = conf (0, lit< tt, refl) unguarded
 
 pub returns-clause-valid : goal.returns-clause-valid
-returns-clause-valid c = assoc_name {t = τ_0_0 · A} {p = Q} (conf (1, lit< tt, refl) (λ _. assoc_name conforms (0, lit< tt, refl))) (1, lit< tt, refl)
+returns-clause-valid c =
+    assoc_name {t = τ_0_0 · A} {p = Q} (conf (1, lit< tt, refl) (λ _. assoc_name conforms (0, lit< tt, refl))) (1, lit< tt, refl)
 
 pub returns-clause-unusable : goal.returns-clause-unusable
 returns-clause-unusable c (Conforms t q) h u = too_long (sides 0 (Conforms t q) h) (says u 0 (short_self P))

@@ -13,7 +13,8 @@ returns-clause-basic c =
     let e = c.in_ok-e.e in
     let pair = c.member_at-pair.result in
     let members = members_in w in
-    let is : IsBasicBy members e.reason e.left e.right = subst (λ why. IsBasicBy members why e.left e.right) (sym c.in_ok-e.ensures.reason) (
+    let is : IsBasicBy members e.reason e.left e.right =
+    subst (λ why. IsBasicBy members why e.left e.right) (sym c.in_ok-e.ensures.reason) (
       named_by pair,
       get_map named_by w.lexicon.symbols c.args.rank pair c.member_at-pair.ensures,
       c.in_ok-e.ensures.left ∙ ap (λ n. Proto n ∷ Name pair.name.rank ∷ []) (sym c.if-pair-p.false),

@@ -18,7 +18,8 @@ loop-rank-preserved c =
     record {
       basic = c.in_ok-add_member.ensures.basic;
       sides = name_more p x.symbols rank d (map sides_of c.loop-rank.given.items) (map sides_of c.add_member.new.given.items)
-          (map sides_of c.push.new.self.items ++ named_from p 0 (symbols_of x).members) at (c.in_ok-add_member.ensures.sides d at) c.loop-rank.invariant.sides;
+          (map sides_of c.push.new.self.items ++ named_from p 0 (symbols_of x).members) at
+          (c.in_ok-add_member.ensures.sides d at) c.loop-rank.invariant.sides;
     }
 
 pub returns : goal.returns
@@ -33,7 +34,8 @@ returns c =
     let count = length-map x.symbols member_name in
     let sides : sides_of e ≡ doubled p = λ i. (c.in_ok-e.ensures.left i, c.in_ok-e.ensures.right i) in
     record {
-      sides = names_all p ms c.loop-rank.rank (map sides_of c.loop-rank.given.items) (map sides_of c.push.new.self.items ++ named_from p 0 ms)
+      sides =
+          names_all p ms c.loop-rank.rank (map sides_of c.loop-rank.given.items) (map sides_of c.push.new.self.items ++ named_from p 0 ms)
           (omega (arith, test, end, count)) c.loop-rank.invariant.sides
           ∙ ap (λ z. map sides_of z ++ named_from p 0 ms) c.in_ok-push.ensures.items
           ∙ ap (λ z. z ++ named_from p 0 ms) (map-append sides_of old (e ∷ []))

@@ -14,7 +14,8 @@ use Rattle.swreq_explain.proofs.equations.add_used.Goals.{then-used-k+in_ok-e+in
 pub bounds-used-k : goal.bounds-used-k
 bounds-used-k c =
     let (r, at) = there_is c.args.makings.rounds.now c.args.round c.requires.round in
-    let same : length c.used-used.result.now ≡ length c.args.makings.all.now = ap length (c.used-used.ensures r at) ∙ c.requires.flags c.args.round r at in
+    let same : length c.used-used.result.now ≡ length c.args.makings.all.now =
+    ap length (c.used-used.ensures r at) ∙ c.requires.flags c.args.round r at in
     let test = c.loop-k-test.true in
     omega (arith, same, test)
 
@@ -33,7 +34,8 @@ pub equation_of-requires-clause-x : goal.equation_of-requires-clause-x
 equation_of-requires-clause-x c =
     let all = c.args.makings.all.now in
     let k = c.loop-k.k in
-    let x : Numbered = get_or all k (record { owner = None; number = 0; requirement = Conf (record { place = 0 }) (record { rank = 0 }) }) in
+    let x : Numbered =
+    get_or all k (record { owner = None; number = 0; requirement = Conf (record { place = 0 }) (record { rank = 0 }) }) in
     let there : slice_get all k ≡ Some x = slice_get-get_or all k _ c.loop-k-test.true in
     c.requires.all x (get_contains all k x there)
 
@@ -45,7 +47,8 @@ loop-k-preserved c =
     let k = c.loop-k.k in
     let m = symbols_of makings.world.now.lexicon in
     let terms = makings.table.now in
-    let x : Numbered = get_or all k (record { owner = None; number = 0; requirement = Conf (record { place = 0 }) (record { rank = 0 }) }) in
+    let x : Numbered =
+    get_or all k (record { owner = None; number = 0; requirement = Conf (record { place = 0 }) (record { rank = 0 }) }) in
     let test = c.loop-k-test.true in
     let (r, at) = there_is makings.rounds.now c.args.round c.requires.round in
     let same : length used ≡ length all = ap length (c.used-used.ensures r at) ∙ c.requires.flags c.args.round r at in
@@ -56,7 +59,8 @@ loop-k-preserved c =
       | then-used-k+in_ok-e+in_ok-push w ↦
           (let e = w.in_ok-e.e in (
             more ++ e ∷ [],
-            ap (λ z. z.items) w.given-is ∙ w.in_ok-push.ensures.items ∙ ap (λ z. z ++ e ∷ []) split ∙ append_assoc c.args.given.now.items more (e ∷ []),
+            ap (λ z. z.items) w.given-is ∙ w.in_ok-push.ensures.items ∙ ap (λ z. z ++ e ∷ []) split
+                ∙ append_assoc c.args.given.now.items more (e ∷ []),
             rw (add-one, chosen_yes all used k x (there ∙ ap Some w.if-used-k.true) is)
                 (equations_more m terms (course_of makings) c.args.round (chosen (take k all) (take k used)) more x e h
                 (w.shown_by-shown.result, w.shown_by-shown.ensures x is, w.in_ok-e.ensures)),

@@ -41,18 +41,22 @@ lines_over-requires c =
     let rs = written_list (signature_at w f) in
     let rules = rules_at b (length b.systems - 1) in
     let r = requirement_of terms c.args.r in
-    let shown = asked_shown m (facts_of w) (symbols_law w closed) (text_law w closed) rules gs rs is.rules is.complete is.in_text r derivable in
+    let shown =
+    asked_shown m (facts_of w) (symbols_law w closed) (text_law w closed) rules gs rs is.rules is.complete is.in_text r derivable in
     let n : Numbered = record { owner = None; number = 0; requirement = c.args.r } in
     let left = c.symbols.ensures ∙ c.in_ok-left.ensures.left in
     let right = c.symbols-2.ensures ∙ c.in_ok-left.ensures.right in
-    let usable = subst (λ (z : List ParamId). ShowsUsable m (facts_of w) (Written z rs) (ReduceAlike rules) r) (λ i. generic_params (sym is.params i)) shown.0 in
+    let usable = subst (λ (z : List ParamId). ShowsUsable m (facts_of w) (Written z rs) (ReduceAlike rules) r)
+    (λ i. generic_params (sym is.params i)) shown.0 in
     let left_is = left ∙ left_by m gs rs None r in
     let right_is = right ∙ right_by m gs rs None r in
     record {
       book = (is.book, is.some);
       ids = ids_in terms c.args.r c.requires.ids.0;
       by_itself = c.in_ok-by_itself.ensures;
-      sides = sides_are_shown b.ground m (facts_of w) is.symbols rules rs None terms n c.in_ok-by_itself.by_itself c.symbols.result.now c.symbols-2.result.now refl
+      sides = sides_are_shown b.ground m (facts_of w) is.symbols rules rs None terms n c.in_ok-by_itself.by_itself c.symbols.result.now
+          c.symbols-2.result.now refl
           c.in_ok-by_itself.ensures left right usable;
-      alike = subst (λ z. ReduceAlike rules c.symbols-2.result.now z) (sym left_is) (subst (λ z. ReduceAlike rules z (left_side m (Written gs rs) r)) (sym right_is) shown.1);
+      alike = subst (λ z. ReduceAlike rules c.symbols-2.result.now z) (sym left_is)
+          (subst (λ z. ReduceAlike rules z (left_side m (Written gs rs) r)) (sym right_is) shown.1);
     }

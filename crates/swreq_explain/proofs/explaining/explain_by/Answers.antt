@@ -30,7 +30,12 @@ derive-requires c =
     record {
       text = c.requires.text;
       ids = subst (IsRequirementIn terms c.args.world.now.lexicon) same answer.ids;
-      derivable = (f, is, subst (λ (z : Requirement). Derivable (facts_of w) (source_of (signature_at w f)) (Requires (requirement_of terms z))) same answer.derivable);
+      derivable = (
+        f,
+        is,
+        subst (λ (z : Requirement). Derivable (facts_of w) (source_of (signature_at w f)) (Requires (requirement_of terms z))) same
+            answer.derivable,
+      );
     }
 
 pub returns-clause-derived : goal.returns-clause-derived
@@ -54,7 +59,8 @@ returns-clause-lines c = λ f r asks.
     let written = c.in_ok-lines-in-Some.ensures.written in
     let (g, l, is, answer) = c.requires.yes in
     let same = asks_one c.args.query.now g f answer.requirement r answer.asks asks in
-    let derived = written.derived (basis_of (world_by old w) g) (facts_at w g) is.fits (basis_over old new w g written.extends c.requires.text.table) in
+    let derived =
+    written.derived (basis_of (world_by old w) g) (facts_at w g) is.fits (basis_over old new w g written.extends c.requires.text.table) in
     subst (λ z. AreLinesOf new (facts_at w z) ls) same
     (lines_of_text new w g (text_stays old new written.extends w c.requires.text) l ls derived written.ids)
 
@@ -66,6 +72,7 @@ returns-clause-ids c =
     let ls = c.in_ok-lines-in-Some.lines.items in
     let written = c.in_ok-lines-in-Some.ensures.written in
     let (g, l, is, answer) = c.requires.yes in
-    let derived = written.derived (basis_of (world_by old w) g) (facts_at w g) is.fits (basis_over old new w g written.extends c.requires.text.table) in
+    let derived =
+    written.derived (basis_of (world_by old w) g) (facts_at w g) is.fits (basis_over old new w g written.extends c.requires.text.table) in
     let lines = lines_of_text new w g (text_stays old new written.extends w c.requires.text) l ls derived written.ids in
     printed_ids w.lexicon (facts_at w g) refl refl new ls lines

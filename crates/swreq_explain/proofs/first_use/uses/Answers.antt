@@ -6,7 +6,8 @@ use Rattle.swreq_explain.proofs.first_use.uses.Goals as goal
 pub bounds-used-place : goal.bounds-used-place
 bounds-used-place c =
     let (r, at) = there_is c.args.makings.rounds.now c.args.round c.requires.round in
-    let same : length c.used-used.result.now ≡ length c.args.makings.all.now = ap length (c.used-used.ensures r at) ∙ c.requires.flags c.args.round r at in
+    let same : length c.used-used.result.now ≡ length c.args.makings.all.now =
+    ap length (c.used-used.ensures r at) ∙ c.requires.flags c.args.round r at in
     let place : c.args.place < length c.args.makings.all.now = c.requires.place in
     omega (arith, same, place)
 

@@ -49,7 +49,8 @@ loop-k-preserved c =
     elim c.match-inherited_by.branch [
       | in-None v ↦
           (let same = ap (λ (z : Vec Parent Global). z.items) v.parents-is in
-          subst (AreParentsUpTo f p.rank (k + 1)) (sym same) (parents_none f p terms list of k r c.loop-k.parents.items at v.in-None.ensures c.loop-k.invariant))
+          subst (AreParentsUpTo f p.rank (k + 1)) (sym same)
+          (parents_none f p terms list of k r c.loop-k.parents.items at v.in-None.ensures c.loop-k.invariant))
       | in-Some+in_ok-push-in-Some v ↦
           (let items = ap (λ (z : Vec Parent Global). z.items) v.parents-is ∙ v.in_ok-push-in-Some.ensures.items in
           subst (AreParentsUpTo f p.rank (k + 1)) (sym items)

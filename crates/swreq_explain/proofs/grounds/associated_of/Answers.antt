@@ -10,4 +10,5 @@ loop-rank-preserved c =
     let k = c.loop-rank.rank in
     let x = c.assoc-pair.result in
     rw (add-one, take_one xs k x c.assoc-pair.ensures, map-append named_by (take k xs) (x ∷ []))
-    (c.in_ok-push.ensures.items ∙ ap (λ z. z ++ c.named.result ∷ []) c.loop-rank.invariant ∙ ap (λ z. map named_by (take k xs) ++ z ∷ []) c.named.ensures)
+    (c.in_ok-push.ensures.items ∙ ap (λ z. z ++ c.named.result ∷ []) c.loop-rank.invariant
+    ∙ ap (λ z. map named_by (take k xs) ++ z ∷ []) c.named.ensures)

@@ -23,12 +23,16 @@ add_numbered-requires c =
 pub loop-k-preserved : goal.loop-k-preserved
 loop-k-preserved c =
     let w = c.args.world.now in
-    part_at (numbered_in w) (λ p. numbered_from (Some p) 1 (bare (requirements_of w p))) (λ p ps. refl) w.lexicon.written_order c.loop-k.k c.proto_at-p.result
+    part_at (numbered_in w) (λ p. numbered_from (Some p) 1 (bare (requirements_of w p)))
+    (λ p ps. refl) w.lexicon.written_order c.loop-k.k c.proto_at-p.result
     c.loop-k.numbered.items c.add_numbered.new.numbered.items (numbered_in w w.lexicon.written_order) c.proto_at-p.ensures
-    (c.in_ok-add_numbered.ensures ∙ ap (λ z. c.loop-k.numbered.items ++ numbered_from (Some c.proto_at-p.result) 1 z) c.bare_requirements.ensures) c.loop-k.invariant
+    (c.in_ok-add_numbered.ensures
+    ∙ ap (λ z. c.loop-k.numbered.items ++ numbered_from (Some c.proto_at-p.result) 1 z) c.bare_requirements.ensures) c.loop-k.invariant
 
 pub returns : goal.returns
 returns c =
     let w = c.args.world.now in
-    parts_all (numbered_in w) (λ p. numbered_from (Some p) 1 (bare (requirements_of w p))) refl (λ p ps. refl) w.lexicon.written_order c.loop-k.k c.loop-k.numbered.items (numbered_in w w.lexicon.written_order)
-    (let a = c.loop-k-test.false in let b = c.protocols-k-end.ensures in let e = c.requires.ids.each_once in omega (arith, a, b, e)) c.loop-k.invariant
+    parts_all (numbered_in w) (λ p. numbered_from (Some p) 1 (bare (requirements_of w p))) refl
+    (λ p ps. refl) w.lexicon.written_order c.loop-k.k c.loop-k.numbered.items (numbered_in w w.lexicon.written_order)
+    (let a = c.loop-k-test.false in let b = c.protocols-k-end.ensures in let e = c.requires.ids.each_once in
+    omega (arith, a, b, e)) c.loop-k.invariant

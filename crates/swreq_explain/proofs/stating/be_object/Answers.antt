@@ -48,7 +48,8 @@ returns-clause-grows c =
     let s0 = c.args.sheet.now in
     let s1 = c.read_side.new.sheet in
     let s2 = c.link.new.sheet in
-    grows_then s0 s2 c.same_layout.new.sheet (grows_then s0 s1 s2 c.in_ok-ids.ensures.grows c.in_ok-link.ensures.grows) c.in_ok-same_layout.ensures.grows
+    grows_then s0 s2 c.same_layout.new.sheet
+    (grows_then s0 s1 s2 c.in_ok-ids.ensures.grows c.in_ok-link.ensures.grows) c.in_ok-same_layout.ensures.grows
 
 pub returns-clause-derives : goal.returns-clause-derives
 returns-clause-derives c b f k =

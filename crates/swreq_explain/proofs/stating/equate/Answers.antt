@@ -13,7 +13,8 @@ trans-requires-clause-first c =
     let s2 = c.read_side-2.new.sheet in
     let s3 = c.link.new.sheet in
     let t = term_at c.read_side.new.sheet.table d.t in
-    read_ids d c.args.right t s3 c.in_ok-last.last (read_still d c.args.right t s2 s3 c.in_ok-link.ensures.grows c.in_ok-last.last c.in_ok-last.ensures.read)
+    read_ids d c.args.right t s3 c.in_ok-last.last
+    (read_still d c.args.right t s2 s3 c.in_ok-link.ensures.grows c.in_ok-last.last c.in_ok-last.ensures.read)
 
 pub trans-requires-clause-second : goal.trans-requires-clause-second
 trans-requires-clause-second c =

@@ -31,7 +31,8 @@ loop-k-preserved c =
         own ++ v ∷ [],
         c.in_ok-push.ensures.items ∙ ap (λ z. z ++ v ∷ []) split ∙ append_assoc c.args.systems.now.items own (v ∷ []),
         systems_more m terms o k own v h
-            (c.in_ok-system.ensures o (subst (IsBegun o c.args.base c.args.below (course_of makings)) (sym c.new-given.ensures.items) begun)),
+            (c.in_ok-system.ensures o
+            (subst (IsBegun o c.args.base c.args.below (course_of makings)) (sym c.new-given.ensures.items) begun)),
       ));
     }
 
@@ -39,7 +40,8 @@ pub returns : goal.returns
 returns c =
     let makings = c.args.makings in
     let m = symbols_of makings.world.now.lexicon in
-    let last : c.loop-k.k ≡ length makings.rounds.now = omega (arith, c.loop-k-test.false, c.loop-k.auto.k-end, c.count-k-end.ensures.count) in
+    let last : c.loop-k.k ≡ length makings.rounds.now =
+    omega (arith, c.loop-k-test.false, c.loop-k.auto.k-end, c.count-k-end.ensures.count) in
     λ o begun. (let (own, split, h) = c.loop-k.invariant.made o begun in
     let all : c.loop-k.k ≡ length o.course.rounds = last ∙ ap (λ z. length z.rounds) begun.course_is in
     (own, split, subst (λ n. AreFirstSystems m makings.table.now o n own) all h))

@@ -18,7 +18,8 @@ world_systems-requires-clause-flags c =
     let gs = generic_params c.args.machine.now.params in
     let rs = listed terms (bare (signature_at w c.args.f).requirements) in
     let h = flags_of c.requires.rounds.protocols.1 in
-    subst (λ n. HaveFlags n c.args.protocols.now.rounds) (ap length (protocols_items terms w gs rs w.lexicon.written_order) ∙ length-map all (item_by terms gs rs)) h
+    subst (λ n. HaveFlags n c.args.protocols.now.rounds)
+    (ap length (protocols_items terms w gs rs w.lexicon.written_order) ∙ length-map all (item_by terms gs rs)) h
 
 pub add_machine-requires-clause-flags : goal.add_machine-requires-clause-flags
 add_machine-requires-clause-flags c =
@@ -29,7 +30,8 @@ add_machine-requires-clause-flags c =
     let gs = generic_params c.args.machine.now.params in
     let rs = listed terms list in
     let h = flags_of c.requires.rounds.list.1 in
-    subst (λ n. HaveFlags n c.args.machine.now.rounds) (ap length (sym (numbered_items terms gs rs None 1 list)) ∙ length-map all (item_by terms gs rs)) h
+    subst (λ n. HaveFlags n c.args.machine.now.rounds)
+    (ap length (sym (numbered_items terms gs rs None 1 list)) ∙ length-map all (item_by terms gs rs)) h
 
 pub returns : goal.returns
 returns c =

@@ -15,21 +15,26 @@ use Rattle.swreq_explain.proofs.validity.validate.Goals as goal
 pub read_side-requires-clause-side : goal.read_side-requires-clause-side
 read_side-requires-clause-side c =
     let t = c.args.side.param.now in
-    let is = subst (λ o. MatchOption o (as_term t ≡ Generic t.head) (λ b. as_term t ≡ Member (as_term b.0) b.1)) c.in-Some.is c.in_ok-split.ensures in
-    base_shown (ground_at c.args.desk) None (rules_of c.args.desk) (as_term t) (as_term c.in-Some.base) c.in-Some.step c.args.side.word.now is c.requires.side
+    let is = subst (λ o. MatchOption o (as_term t ≡ Generic t.head) (λ b. as_term t ≡ Member (as_term b.0) b.1)) c.in-Some.is
+    c.in_ok-split.ensures in
+    base_shown (ground_at c.args.desk) None (rules_of c.args.desk) (as_term t)
+    (as_term c.in-Some.base) c.in-Some.step c.args.side.word.now is c.requires.side
 
 pub declare-requires-clause-shown : goal.declare-requires-clause-shown
 declare-requires-clause-shown c =
     let t = c.args.side.param.now in
-    let is = subst (λ o. MatchOption o (as_term t ≡ Generic t.head) (λ b. as_term t ≡ Member (as_term b.0) b.1)) c.in-Some.is c.in_ok-split.ensures in
-    step_shown (ground_at c.args.desk) None (rules_of c.args.desk) (as_term t) (as_term c.in-Some.base) c.in-Some.step c.args.side.word.now is c.requires.side
+    let is = subst (λ o. MatchOption o (as_term t ≡ Generic t.head) (λ b. as_term t ≡ Member (as_term b.0) b.1)) c.in-Some.is
+    c.in_ok-split.ensures in
+    step_shown (ground_at c.args.desk) None (rules_of c.args.desk) (as_term t)
+    (as_term c.in-Some.base) c.in-Some.step c.args.side.word.now is c.requires.side
 
 pub validate_member-requires-clause-ready : goal.validate_member-requires-clause-ready
 validate_member-requires-clause-ready c =
     let s0 = c.args.sheet.now in
     let s1 = c.read_side.new.sheet in
     let s2 = c.declare.new.sheet in
-    ready_still c.args.desk s0 s2 (grows_then s0 s1 s2 c.in_ok-ids-in-Some.ensures.grows c.in_ok-named-in-Some.ensures.grows) c.requires.ready
+    ready_still c.args.desk s0 s2
+    (grows_then s0 s1 s2 c.in_ok-ids-in-Some.ensures.grows c.in_ok-named-in-Some.ensures.grows) c.requires.ready
 
 pub validate_member-requires-clause-ids : goal.validate_member-requires-clause-ids
 validate_member-requires-clause-ids c =
@@ -66,15 +71,18 @@ validate_member-requires-clause-equal c =
 pub returns-in_ok-generic-in-None-clause-derives : goal.returns-in_ok-generic-in-None-clause-derives
 returns-in_ok-generic-in-None-clause-derives c b f k =
     let t = c.args.side.param.now in
-    let is = subst (λ o. MatchOption o (as_term t ≡ Generic t.head) (λ b. as_term t ≡ Member (as_term b.0) b.1)) c.in-None.is c.in_ok-split.ensures in
+    let is = subst (λ o. MatchOption o (as_term t ≡ Generic t.head) (λ b. as_term t ≡ Member (as_term b.0) b.1)) c.in-None.is
+    c.in_ok-split.ensures in
     let has = shown_generic (ground_at c.args.desk) (rules_of c.args.desk) (as_term t) t.head c.args.side.word.now is c.requires.side in
-    c.in_ok-generic-in-None.ensures.derives b t.head c.in_ok-t-in-None.ensures.stands (subst (λ (z : List ParamId). Contains z t.head) (sym f.ground.params) has)
+    c.in_ok-generic-in-None.ensures.derives b t.head c.in_ok-t-in-None.ensures.stands
+    (subst (λ (z : List ParamId). Contains z t.head) (sym f.ground.params) has)
     (c.in_ok-t-in-None.ensures.derives b k)
 
 pub returns-in_ok-v-in-Some : goal.returns-in_ok-v-in-Some
 returns-in_ok-v-in-Some c =
     let t = c.args.side.param.now in
-    let is = subst (λ o. MatchOption o (as_term t ≡ Generic t.head) (λ b. as_term t ≡ Member (as_term b.0) b.1)) c.in-Some.is c.in_ok-split.ensures in
+    let is = subst (λ o. MatchOption o (as_term t ≡ Generic t.head) (λ b. as_term t ≡ Member (as_term b.0) b.1)) c.in-Some.is
+    c.in_ok-split.ensures in
     let s0 = c.args.sheet.now in
     let s1 = c.read_side.new.sheet in
     let s2 = c.declare.new.sheet in
@@ -83,14 +91,17 @@ returns-in_ok-v-in-Some c =
     let g2 = c.in_ok-named-in-Some.ensures.grows in
     let g3 = c.in_ok-v-in-Some.ensures.grows in
     let r = c.in_ok-ids-in-Some.ensures.read in
-    let base : term_at s2.table c.in_ok-ids-in-Some.ids.itself ≡ as_term c.in-Some.base = term_still s1 s2 g2 c.in_ok-ids-in-Some.ids.itself r.itself_of ∙ r.itself in
-    let whole : Member (term_at s2.table c.in_ok-ids-in-Some.ids.itself) c.in-Some.step ≡ as_term t = ap (λ z. Member z c.in-Some.step) base ∙ sym is in
+    let base : term_at s2.table c.in_ok-ids-in-Some.ids.itself ≡ as_term c.in-Some.base =
+    term_still s1 s2 g2 c.in_ok-ids-in-Some.ids.itself r.itself_of ∙ r.itself in
+    let whole : Member (term_at s2.table c.in_ok-ids-in-Some.ids.itself) c.in-Some.step ≡ as_term t =
+    ap (λ z. Member z c.in-Some.step) base ∙ sym is in
     record {
       is_of = c.in_ok-v-in-Some.ensures.is_of;
       stands = c.in_ok-v-in-Some.ensures.stands ∙ whole;
       says = subst (λ z. Says s3 (IsValid z)) whole c.in_ok-v-in-Some.ensures.says;
       grows = grows_then s0 s2 s3 (grows_then s0 s1 s2 g1 g2) g3;
-      derives = λ b f k. c.in_ok-v-in-Some.ensures.derives b f (c.in_ok-named-in-Some.ensures.derives b f (c.in_ok-ids-in-Some.ensures.derives b f k));
+      derives = λ b f k.
+          c.in_ok-v-in-Some.ensures.derives b f (c.in_ok-named-in-Some.ensures.derives b f (c.in_ok-ids-in-Some.ensures.derives b f k));
     }
 
 pub returns-in_err-generic-in-None-clause-grows : goal.returns-in_err-generic-in-None-clause-grows

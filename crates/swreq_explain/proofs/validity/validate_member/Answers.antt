@@ -20,7 +20,8 @@ returns-in_ok-assoc_name-in-Name-clause-derives c b f k =
     let same : IsOfStep (Name c.in-Name.field-0) w.0 c.args.named = subst (λ (z : Step). IsOfStep z w.0 c.args.named) c.in-Name.is w.1.1 in
     let step : c.args.step ≡ Name c.args.named.name = c.in-Name.is ∙ ap (λ (z : NameId). Name z) (sym same) in
     let stands = ap (λ (z : List Term). term_at z c.in_ok-v.v) table ∙ c.in_ok-v.ensures.stands in
-    let base = ap (λ (z : List Term). term_at z c.args.base.itself) table ∙ term_still s0 s1 c.in_ok-v.ensures.grows c.args.base.itself c.requires.ids.0 in
+    let base = ap (λ (z : List Term). term_at z c.args.base.itself) table
+    ∙ term_still s0 s1 c.in_ok-v.ensures.grows c.args.base.itself c.requires.ids.0 in
     c.in_ok-assoc_name-in-Name.ensures.derives b (record { rank = w.0 }) (f.ground.associated w.0 c.args.named w.1.0)
     (stands ∙ ap (Member (term_at s0.table c.args.base.itself)) step ∙ ap (λ z. Member z (Name c.args.named.name)) (sym base))
     (c.in_ok-same_conf.ensures.derives b (c.in_ok-v.ensures.derives b k))
@@ -31,11 +32,13 @@ returns-in_ok-assoc_decl-in-Bound-clause-derives c b f k =
     let s0 = c.args.sheet.now in
     let s1 = c.member.new.sheet in
     let table = c.in_ok-same_conf.ensures.table in
-    let same : IsOfStep (Bound c.in-Bound.field-0) w.0 c.args.named = subst (λ (z : Step). IsOfStep z w.0 c.args.named) c.in-Bound.is w.1.1 in
+    let same : IsOfStep (Bound c.in-Bound.field-0) w.0 c.args.named =
+    subst (λ (z : Step). IsOfStep z w.0 c.args.named) c.in-Bound.is w.1.1 in
     let assoc : AssocId = record { rank = w.0 } in
     let step : c.args.step ≡ Bound assoc = c.in-Bound.is ∙ (λ i. Bound (record { rank = same i })) in
     let stands = ap (λ (z : List Term). term_at z c.in_ok-v.v) table ∙ c.in_ok-v.ensures.stands in
-    let base = ap (λ (z : List Term). term_at z c.args.base.itself) table ∙ term_still s0 s1 c.in_ok-v.ensures.grows c.args.base.itself c.requires.ids.0 in
+    let base = ap (λ (z : List Term). term_at z c.args.base.itself) table
+    ∙ term_still s0 s1 c.in_ok-v.ensures.grows c.args.base.itself c.requires.ids.0 in
     c.in_ok-assoc_decl-in-Bound.ensures.derives b assoc (f.ground.associated w.0 c.args.named w.1.0)
     (stands ∙ ap (Member (term_at s0.table c.args.base.itself)) step ∙ ap (λ z. Member z (Bound assoc)) (sym base))
     (c.in_ok-same_conf.ensures.derives b (c.in_ok-v.ensures.derives b k))

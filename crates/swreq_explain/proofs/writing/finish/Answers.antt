@@ -24,4 +24,5 @@ returns-clause-last c =
 pub returns-clause-some : goal.returns-clause-some
 returns-clause-some c =
     some_of_front c.in_ok-lines-in-Some.lines.items c.args.sheet.now.lines.items c.in-Some.n
-    (subst (λ (z : List Line). AreSomeOf c.in_ok-lines-in-Some.lines.items (take c.in-Some.n z)) c.deref.ensures.value c.in_ok-lines-in-Some.ensures.some)
+    (subst (λ (z : List Line). AreSomeOf c.in_ok-lines-in-Some.lines.items (take c.in-Some.n z)) c.deref.ensures.value
+    c.in_ok-lines-in-Some.ensures.some)

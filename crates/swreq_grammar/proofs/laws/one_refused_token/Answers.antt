@@ -9,4 +9,5 @@ pub returns-clause-one : goal.returns-clause-one
 returns-clause-one g c = one_refused g.G.Language.number g.G.Language.grammar
 
 pub returns-clause-none : goal.returns-clause-none
-returns-clause-none g c before rest v m r = text_not_refused g.G.Language.number g.G.Language.grammar (before ++ rest) v m before rest refl r
+returns-clause-none g c before rest v m r =
+    text_not_refused g.G.Language.number g.G.Language.grammar (before ++ rest) v m before rest refl r

@@ -14,7 +14,8 @@ path_through-requires-clause-redex c =
     let pair = c.requires.pair in
     let w = c.in_ok-word.word.items in
     let put = both_put rules place pair.0 pair.1 w pair.2 c.in_ok-word.ensures in
-    subst (λ u. IsRedex rules u 0 place.i) (sym c.deref.ensures.value) (redex_of rules place.i 0 pair.2.first w pair.0 pair.2.first_at put.0)
+    subst (λ u. IsRedex rules u 0 place.i) (sym c.deref.ensures.value)
+    (redex_of rules place.i 0 pair.2.first w pair.0 pair.2.first_at put.0)
 
 pub path_through-requires-2-clause-redex : goal.path_through-requires-2-clause-redex
 path_through-requires-2-clause-redex c =
@@ -23,7 +24,8 @@ path_through-requires-2-clause-redex c =
     let pair = c.requires.pair in
     let w = c.in_ok-word.word.items in
     let put = both_put rules place pair.0 pair.1 w pair.2 c.in_ok-word.ensures in
-    subst (λ u. IsRedex rules u place.at place.j) (sym c.deref-2.ensures.value) (redex_of rules place.j place.at pair.2.second w pair.1 pair.2.second_at put.1)
+    subst (λ u. IsRedex rules u place.at place.j) (sym c.deref-2.ensures.value)
+    (redex_of rules place.j place.at pair.2.second w pair.1 pair.2.second_at put.1)
 
 pub target-requires : goal.target-requires
 target-requires c =
@@ -32,8 +34,11 @@ target-requires c =
 
 pub target-requires-2 : goal.target-requires-2
 target-requires-2 c =
-    let t = c.in_ok-back.ensures.through in
-    (t.1, through_target c.args.rules.now c.in_ok-back.back c.args.place.at c.args.place.j c.deref-2.result.now t.0 t.1 c.in_ok-back.ensures.start t.2)
+    let t = c.in_ok-back.ensures.through in (
+      t.1,
+      through_target c.args.rules.now c.in_ok-back.back c.args.place.at c.args.place.j c.deref-2.result.now t.0 t.1
+          c.in_ok-back.ensures.start t.2,
+    )
 
 pub returns-then-not-are_same-clause-of_pair : goal.returns-then-not-are_same-clause-of_pair
 returns-then-not-are_same-clause-of_pair c s =
@@ -48,8 +53,10 @@ returns-then-not-are_same-clause-of_pair c s =
     let a = subst (λ x. ReducesThrough rules out.steps 0 place.i x t.0 t.1) c.deref.ensures.value t.2 in
     let b = subst (λ x. ReducesThrough rules back.steps place.at place.j x u.0 u.1) c.deref-2.ensures.value u.2 in
     let meet : t.1 ≡ u.1 = one_word rules place pair.0 pair.1 w pair.2 c.in_ok-word.ensures out.steps back.steps t.0 u.0 t.1 u.1 a b s in
-    let end : c.in_ok-end.end ≡ t.1 = target_is rules out 0 place.i c.deref.result.now t.0 t.1 c.in_ok-end.end c.in_ok-out.ensures.start t.2 c.in_ok-end.ensures in
-    let other : c.in_ok-other_end.other_end ≡ u.1 = target_is rules back place.at place.j c.deref-2.result.now u.0 u.1 c.in_ok-other_end.other_end c.in_ok-back.ensures.start u.2 c.in_ok-other_end.ensures in
+    let end : c.in_ok-end.end ≡ t.1 =
+    target_is rules out 0 place.i c.deref.result.now t.0 t.1 c.in_ok-end.end c.in_ok-out.ensures.start t.2 c.in_ok-end.ensures in
+    let other : c.in_ok-other_end.other_end ≡ u.1 = target_is rules back place.at place.j c.deref-2.result.now u.0 u.1
+    c.in_ok-other_end.other_end c.in_ok-back.ensures.start u.2 c.in_ok-other_end.ensures in
     let same = c.are_same.ensures.1 (c.symbols.ensures ∙ end ∙ meet ∙ sym other ∙ sym c.symbols-2.ensures) in
     let differ = c.if-not-are_same.true in
     cc
@@ -58,8 +65,10 @@ pub compose-requires-clause-first : goal.compose-requires-clause-first
 compose-requires-clause-first c =
     let rules = c.args.rules.now in
     let back = c.in_ok-back.back in
-    let meet : c.in_ok-end.end ≡ c.in_ok-other_end.other_end = (sym c.symbols.ensures ∙ c.are_same.ensures.0 c.if-not-are_same.false ∙ c.symbols-2.ensures) in
-    let home : c.in_ok-other_end.other_end ≡ c.in_ok-home.home.start = one_end rules back.steps back.start c.in_ok-other_end.other_end c.in_ok-home.home.start c.in_ok-other_end.ensures c.in_ok-home.ensures.start in
+    let meet : c.in_ok-end.end ≡ c.in_ok-other_end.other_end =
+    (sym c.symbols.ensures ∙ c.are_same.ensures.0 c.if-not-are_same.false ∙ c.symbols-2.ensures) in
+    let home : c.in_ok-other_end.other_end ≡ c.in_ok-home.home.start = one_end rules back.steps back.start c.in_ok-other_end.other_end
+    c.in_ok-home.home.start c.in_ok-other_end.ensures c.in_ok-home.ensures.start in
     subst (λ v. HasTarget rules c.in_ok-out.out v) (meet ∙ home) c.in_ok-end.ensures
 
 pub returns-clause-of_pair : goal.returns-clause-of_pair
@@ -74,10 +83,13 @@ returns-clause-of_pair c =
     let u = c.in_ok-back.ensures.through in
     let a = subst (λ x. ReducesThrough rules out.steps 0 place.i x t.0 t.1) c.deref.ensures.value t.2 in
     let b = subst (λ x. ReducesThrough rules back.steps place.at place.j x u.0 u.1) c.deref-2.ensures.value u.2 in
-    let end : c.in_ok-end.end ≡ t.1 = target_is rules out 0 place.i c.deref.result.now t.0 t.1 c.in_ok-end.end c.in_ok-out.ensures.start t.2 c.in_ok-end.ensures in
-    let other : c.in_ok-other_end.other_end ≡ u.1 = target_is rules back place.at place.j c.deref-2.result.now u.0 u.1 c.in_ok-other_end.other_end c.in_ok-back.ensures.start u.2 c.in_ok-other_end.ensures in
+    let end : c.in_ok-end.end ≡ t.1 =
+    target_is rules out 0 place.i c.deref.result.now t.0 t.1 c.in_ok-end.end c.in_ok-out.ensures.start t.2 c.in_ok-end.ensures in
+    let other : c.in_ok-other_end.other_end ≡ u.1 = target_is rules back place.at place.j c.deref-2.result.now u.0 u.1
+    c.in_ok-other_end.other_end c.in_ok-back.ensures.start u.2 c.in_ok-other_end.ensures in
     let meet : t.1 ≡ u.1 = sym end ∙ (sym c.symbols.ensures ∙ c.are_same.ensures.0 c.if-not-are_same.false ∙ c.symbols-2.ensures) ∙ other in
-    loop_is rules place pair.0 pair.1 w pair.2 c.in_ok-word.ensures out.steps back.steps t.0 u.0 t.1 u.1 a b meet (record { path = c.in_ok-path.path })
+    loop_is rules place pair.0 pair.1 w pair.2 c.in_ok-word.ensures out.steps back.steps t.0 u.0 t.1 u.1 a b meet
+    (record { path = c.in_ok-path.path })
     (c.in_ok-path.ensures.start ∙ c.in_ok-out.ensures.start ∙ c.deref.ensures.value)
     (c.in_ok-path.ensures.steps ∙ ap (λ xs. out.steps ++ xs) c.in_ok-home.ensures.steps)
 
@@ -85,5 +97,6 @@ pub returns-clause-round : goal.returns-clause-round
 returns-clause-round c =
     let path = c.in_ok-path.path in
     let back = c.in_ok-back.back in
-    let start : back.start ≡ path.start = c.in_ok-back.ensures.start ∙ c.deref-2.ensures.value ∙ sym (c.in_ok-path.ensures.start ∙ c.in_ok-out.ensures.start ∙ c.deref.ensures.value) in
+    let start : back.start ≡ path.start = c.in_ok-back.ensures.start ∙ c.deref-2.ensures.value
+    ∙ sym (c.in_ok-path.ensures.start ∙ c.in_ok-out.ensures.start ∙ c.deref.ensures.value) in
     subst (λ v. HasTarget c.args.rules.now path v) start (c.in_ok-path.ensures.target back.start c.in_ok-home.ensures.target)

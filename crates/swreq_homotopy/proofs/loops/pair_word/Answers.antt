@@ -17,10 +17,14 @@ returns c =
     record {
       first = first;
       second = second;
-      first_at = rule_read rules place.i first (number_some rules place.i p.first p.first_at) (number_within rules place.i p.first p.first_at) c.index-rules-place.is;
-      second_at = rule_read rules place.j second (number_some rules place.j p.second p.second_at) (number_within rules place.j p.second p.second_at) c.index-rules-place-2.is;
+      first_at = rule_read rules place.i first (number_some rules place.i p.first p.first_at)
+          (number_within rules place.i p.first p.first_at) c.index-rules-place.is;
+      second_at = rule_read rules place.j second (number_some rules place.j p.second p.second_at)
+          (number_within rules place.j p.second p.second_at) c.index-rules-place-2.is;
       word_is =
-          c.in_ok-extend_from_slice.ensures.items ∙ ap (λ x. x ++ take (length other - c.min-inside.result) (drop c.min-inside.result other)) c.in_ok-word.ensures.items
-          ∙ ap (λ x. left ++ x) (whole_rest other c.min-inside.result ∙ ap (λ n. drop n other) inside ∙ drop_min (length left - place.at) other)
+          c.in_ok-extend_from_slice.ensures.items
+          ∙ ap (λ x. x ++ take (length other - c.min-inside.result) (drop c.min-inside.result other)) c.in_ok-word.ensures.items
+          ∙ ap (λ x. left ++ x)
+          (whole_rest other c.min-inside.result ∙ ap (λ n. drop n other) inside ∙ drop_min (length left - place.at) other)
           ∙ rw (c.symbols-left.ensures, c.symbols-other.ensures) refl;
     }

@@ -15,7 +15,8 @@ returns-clause-through c =
       record {
         first = c.in_ok-step.step;
         others = others.steps;
-        steps_are = c.new.ensures ∙ c.in_ok-append_copies.ensures ∙ ap (λ xs. xs ++ c.items.result.now) (c.in_ok-push.ensures.items ∙ ap (λ xs. xs ++ c.in_ok-step.step ∷ []) c.new-steps.ensures.items) ∙ ap (λ xs. c.in_ok-step.step ∷ xs) c.items.ensures;
+        steps_are = c.new.ensures ∙ c.in_ok-append_copies.ensures ∙ ap (λ xs. xs ++ c.items.result.now) (c.in_ok-push.ensures.items
+            ∙ ap (λ xs. xs ++ c.in_ok-step.step ∷ []) c.new-steps.ensures.items) ∙ ap (λ xs. c.in_ok-step.step ∷ xs) c.items.ensures;
         goes_to_side = s.1;
         reduces = path.steps;
         irreducible = path.irreducible;

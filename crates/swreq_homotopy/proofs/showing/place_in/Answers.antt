@@ -17,4 +17,5 @@ loop-at-preserved c at l s =
 
 pub returns : goal.returns
 returns c at s =
-    c.loop-at.invariant at (let l = slice_get_within c.args.steps.now at s.bare.step s.bare.is_step in let e = c.loop-at-test.false in omega (arith, l, e)) s
+    c.loop-at.invariant at
+    (let l = slice_get_within c.args.steps.now at s.bare.step s.bare.is_step in let e = c.loop-at-test.false in omega (arith, l, e)) s

@@ -8,8 +8,10 @@ pub returns-in_ok-round_from-in-Some : goal.returns-in_ok-round_from-in-Some
 returns-in_ok-round_from-in-Some c =
     let round = c.args.round.now in
     let s = subst (λ xs. ShowsAt c.args.keep.now c.args.may.now xs c.in-Some.at) c.items.ensures c.in-Some.ensures in (
-      shown_round c.args.rules.now c.args.keep.now c.args.may.now round c.in-Some.at c.in_ok-round_from-in-Some.field-0 s c.in_ok-round_from-in-Some.ensures,
-      does_without c.args.rules.now c.args.keep.now c.args.may.now round c.in-Some.at c.in_ok-round_from-in-Some.field-0 s c.in_ok-round_from-in-Some.ensures,
+      shown_round c.args.rules.now c.args.keep.now c.args.may.now round c.in-Some.at c.in_ok-round_from-in-Some.field-0 s
+          c.in_ok-round_from-in-Some.ensures,
+      does_without c.args.rules.now c.args.keep.now c.args.may.now round c.in-Some.at c.in_ok-round_from-in-Some.field-0 s
+          c.in_ok-round_from-in-Some.ensures,
     )
 
 pub returns-in-None : goal.returns-in-None

@@ -13,7 +13,8 @@ returns-then-not-are_of_others c =
     let x = c.index-steps-at.result in
     let is : slice_get steps at ≡ Some x = slice_get_read steps (length steps) at x refl c.requires c.index-steps-at.is in (
       λ h. cc,
-      λ s. let yes = c.are_of_others.ensures.1 (front_of c.args.keep.now c.args.may.now steps at x is s) in let no = c.if-not-are_of_others.true in cc,
+      λ s. let yes = c.are_of_others.ensures.1 (front_of c.args.keep.now c.args.may.now steps at x is s) in
+          let no = c.if-not-are_of_others.true in cc,
     )
 
 pub returns : goal.returns
@@ -37,5 +38,6 @@ returns c =
         front_others = c.are_of_others.ensures.0 c.if-not-are_of_others.false;
         back_others = subst (AreOfOthers keep x.rule) (rest_is steps at) (c.are_of_others-2.ensures.0 t);
       },
-      λ s. c.are_of_others-2.ensures.1 (subst (AreOfOthers keep x.rule) (sym (rest_is steps at)) (back_of keep c.args.may.now steps at x is s)),
+      λ s. c.are_of_others-2.ensures.1 (subst (AreOfOthers keep x.rule) (sym (rest_is steps at))
+          (back_of keep c.args.may.now steps at x is s)),
     )

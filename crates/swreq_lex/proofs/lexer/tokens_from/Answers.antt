@@ -12,5 +12,6 @@ returns-in-Ok c =
     = take_all (length text - from) (drop from text) (omega (arith, length-drop from text)) in
     let same = c.in-Ok.ensures.cases in
     let read = c.to_read.ensures.chars text (same.0 ∙ whole) in
-    let right = is_right text from c.requires.within c.to_read.result.now (subst IsUtf8 whole same.1) c.to_read.utf8 read c.lex.result c.lex.ensures in
+    let right =
+    is_right text from c.requires.within c.to_read.result.now (subst IsUtf8 whole same.1) c.to_read.utf8 read c.lex.result c.lex.ensures in
     record { ok = right.ok; err = right.err; tokens = right.tokens; refusal = right.refusal }

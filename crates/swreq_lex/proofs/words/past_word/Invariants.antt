@@ -7,7 +7,8 @@ use Rattle.swreq_lex.specs.Reader.{past}
 use Rattle.swreq_lex.proofs.words.past_word.Given as goal
 
 abbrev pub invariant-loop-c : goal.invariant-loop-c
-invariant-loop-c l = shadow (Utf8 l.rest) × (length l.rest ≤ length l.text) × (past continues_word (chars l.rest) ≡ past continues_word (chars l.text))
+invariant-loop-c l =
+    shadow (Utf8 l.rest) × (length l.rest ≤ length l.text) × (past continues_word (chars l.rest) ≡ past continues_word (chars l.text))
 
 abbrev pub decreases-loop-c : goal.decreases-loop-c
 decreases-loop-c l = length l.rest

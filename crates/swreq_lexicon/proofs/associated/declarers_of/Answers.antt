@@ -23,8 +23,10 @@ loop-d-preserved c =
     let size = c.loop-d.invariant.len in
     let room : d.name.rank < length c.loop-d.lists = omega (arith, named, size) in
     record {
-      len = ap length c.in_ok-push.ensures ∙ length-set c.loop-d.lists d.name.rank (get_or c.loop-d.lists d.name.rank [] ++ d.proto ∷ []) ∙ c.loop-d.invariant.len;
-      declared = subst (λ (lists : List (List ProtoId)). AreDeclarers (take (c.loop-d.d-index + 1) c.args.pairs.now) lists) (sym c.in_ok-push.ensures)
+      len = ap length c.in_ok-push.ensures ∙ length-set c.loop-d.lists d.name.rank (get_or c.loop-d.lists d.name.rank [] ++ d.proto ∷ [])
+          ∙ c.loop-d.invariant.len;
+      declared = subst (λ (lists : List (List ProtoId)). AreDeclarers (take (c.loop-d.d-index + 1) c.args.pairs.now) lists)
+          (sym c.in_ok-push.ensures)
           (declared_more c.args.pairs.now c.loop-d.d-index d c.loop-d.lists c.loop-d-test.true
           (get_or_default c.args.pairs.now c.loop-d.d-index first d c.loop-d-test.true) room c.loop-d.invariant.declared);
     }

@@ -17,6 +17,7 @@ loop-d-preserved c =
     let d = get_or c.args.pairs.now c.loop-d.d-index first in
     let flag : c.inherits_name-inherited.result ≡ inherits_name inherits c.args.pairs.now d.proto d.name =
     c.inherits_name-inherited.ensures ∙ any_declarer c.args.pairs.now c.args.lists.now c.requires (inherits d.proto) d.name in
-    mapped_more (key inherits c.args.pairs.now) c.args.pairs.now c.loop-d.d-index d c.of.result c.loop-d.keys.items c.push.new.self.items c.loop-d-test.true
+    mapped_more (key inherits c.args.pairs.now) c.args.pairs.now c.loop-d.d-index d c.of.result c.loop-d.keys.items
+    c.push.new.self.items c.loop-d-test.true
     (get_or_default c.args.pairs.now c.loop-d.d-index first d c.loop-d-test.true) c.in_ok-push.ensures.items
     (c.of.ensures ∙ (λ k. record { name = d.name; inherited = flag k; proto = d.proto })) c.loop-d.invariant

@@ -4,4 +4,5 @@ use Rattle.swreq_lexicon.specs.Views.{inherits_by}
 use Rattle.swreq_lexicon.proofs.associated.keys.Given as goal
 
 abbrev pub invariant-loop-d : goal.invariant-loop-d
-invariant-loop-d l = l.keys.items ≡ map (key (inherits_by l.protocols.places l.protocols.resolved.inherits) l.pairs) (take l.d-index l.pairs)
+invariant-loop-d l =
+    l.keys.items ≡ map (key (inherits_by l.protocols.places l.protocols.resolved.inherits) l.pairs) (take l.d-index l.pairs)

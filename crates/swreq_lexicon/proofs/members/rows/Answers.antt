@@ -13,7 +13,8 @@ first = record { proto = record { rank = 0 }; name = record { rank = 0 } }
 pub add-requires : goal.add-requires
 add-requires c =
     let d = get_or c.args.pairs.now c.loop-d.d-index first in
-    let named : d.name.rank < c.args.names = c.requires.names d (Contains-get_or c.args.pairs.now c.loop-d.d-index first c.loop-d-test.true) in
+    let named : d.name.rank < c.args.names =
+    c.requires.names d (Contains-get_or c.args.pairs.now c.loop-d.d-index first c.loop-d-test.true) in
     let size = c.loop-d.invariant.size in
     omega (arith, named, size)
 
@@ -25,7 +26,8 @@ loop-d-preserved c =
     let d = get_or pairs i first in
     record {
       size = c.in_ok-add.ensures.len ∙ c.loop-d.invariant.size;
-      said = rows_more inherits c.args.ordered.now pairs i d c.loop-d.rows.items c.add.new.rows.items c.in_ok-places.places c.loop-d-test.true
+      said =
+          rows_more inherits c.args.ordered.now pairs i d c.loop-d.rows.items c.add.new.rows.items c.in_ok-places.places c.loop-d-test.true
           (get_or_default pairs i first d c.loop-d-test.true) c.in_ok-places.ensures c.in_ok-add.ensures.rows c.loop-d.invariant.said;
     }
 

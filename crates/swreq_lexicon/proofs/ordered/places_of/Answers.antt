@@ -26,7 +26,8 @@ loop-k-preserved c =
     let size = c.loop-k.invariant.size in
     record {
       size = length-set places q.rank k ∙ size;
-      placed = places_more protos c.requires.once places k q (slice_get-get_or protos k first c.loop-k-test.true) (omega (arith, within, size)) c.loop-k.invariant.placed;
+      placed = places_more protos c.requires.once places k q (slice_get-get_or protos k first c.loop-k-test.true)
+          (omega (arith, within, size)) c.loop-k.invariant.placed;
     }
 
 pub returns : goal.returns

@@ -6,7 +6,8 @@ use Rattle.swreq_lexicon.proofs.protocols.ranks_of.Goals as goal
 pub returns-clause-ranking : goal.returns-clause-ranking
 returns-clause-ranking c = record {
   sorted = c.len-count.ensures.sorted;
-  same = subst (λ (xs : List Bytes). (q : Bytes) → Contains c.of-ranks.result q ↔ Contains xs q) c.in_ok-names.ensures c.of-ranks.ensures.same;
+  same =
+      subst (λ (xs : List Bytes). (q : Bytes) → Contains c.of-ranks.result q ↔ Contains xs q) c.in_ok-names.ensures c.of-ranks.ensures.same;
 }
 
 pub returns-clause-few : goal.returns-clause-few

@@ -23,7 +23,8 @@ loop-place-preserved c =
     let absent = c.loop-place.invariant.fresh i (omega arith) c.loop-place-test.true in
     record {
       size = c.insert.ensures.room ∙ size;
-      counted = λ test. set_more old new (get_or places i 0) c.insert.ensures.room (omega (arith, within, size)) absent c.insert.ensures.there c.insert.ensures.others test
+      counted = λ test. set_more old new (get_or places i 0) c.insert.ensures.room
+          (omega (arith, within, size)) absent c.insert.ensures.there c.insert.ensures.others test
           ∙ ap (λ n. n + cond (test (get_or places i 0)) 1 0) (c.loop-place.invariant.counted test)
           ∙ ap (count_below (λ r. test (get_or places r 0))) (sym (add-one i));
       fresh = fresh_more places old new i c.requires.apart c.loop-place-test.true c.insert.ensures.others c.loop-place.invariant.fresh;

@@ -14,7 +14,8 @@ returns-clause-ranking c =
     subst (λ (ps : List ProtoId). IsRanking (order_cmp inherits n) (λ p. p.rank < n) ps)
     (sym (c.in_ok-order.ensures ∙ ap (λ (ks : List OrderKey). map (λ k. k.proto) ks) c.items.ensures.items))
     (order_ranking inherits n c.of-ranked.result
-    (subst (λ (ks : List OrderKey). (k : OrderKey) → Contains c.of-ranked.result k ↔ Contains ks k) c.in_ok-keys.ensures c.of-ranked.ensures.same)
+    (subst (λ (ks : List OrderKey). (k : OrderKey) → Contains c.of-ranked.result k ↔ Contains ks k) c.in_ok-keys.ensures
+    c.of-ranked.ensures.same)
     c.items.ensures.sorted)
 
 pub returns-clause-few : goal.returns-clause-few
@@ -26,6 +27,7 @@ returns-clause-few c =
     subst (λ (ps : List ProtoId). length ps ≤ 1048576)
     (sym (c.in_ok-order.ensures ∙ ap (λ (ks : List OrderKey). map (λ k. k.proto) ks) c.items.ensures.items))
     (order_few inherits n c.of-ranked.result
-    (subst (λ (ks : List OrderKey). (k : OrderKey) → Contains c.of-ranked.result k ↔ Contains ks k) c.in_ok-keys.ensures c.of-ranked.ensures.same)
+    (subst (λ (ks : List OrderKey). (k : OrderKey) → Contains c.of-ranked.result k ↔ Contains ks k) c.in_ok-keys.ensures
+    c.of-ranked.ensures.same)
     c.items.ensures.sorted
     (subst (λ (ks : List OrderKey). length c.of-ranked.result ≤ length ks) c.in_ok-keys.ensures count) small)

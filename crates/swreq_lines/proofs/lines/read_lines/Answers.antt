@@ -17,8 +17,10 @@ returns-in_err-line-clause-refused c =
     let len = c.len.ensures in
     let short = c.requires.short in
     let p = err_from_is_err_and c.from_residual.result c.from_residual.ensures.1 in
-    rw (p.1, p.2) (refused_at c.args.names.now c.loop-found.table c.args.text.now c.loop-found.rest.now found.line.now found.rest.now c.loop-found.lines.items
-    (c.len.result + 1) c.in_err-line.field-0.0 c.loop-found.invariant.so_far (omega (arith, count, len, short)) c.in-Some.ensures.lines (omega (arith, len))
+    rw (p.1, p.2) (refused_at c.args.names.now c.loop-found.table c.args.text.now c.loop-found.rest.now found.line.now found.rest.now
+    c.loop-found.lines.items
+    (c.len.result + 1) c.in_err-line.field-0.0 c.loop-found.invariant.so_far
+    (omega (arith, count, len, short)) c.in-Some.ensures.lines (omega (arith, len))
     c.in_err-line.ensures.refused)
 
 pub loop-found-preserved : goal.loop-found-preserved
@@ -31,7 +33,8 @@ loop-found-preserved c =
     let rest = c.loop-found.rest.now in
     let found = c.in-Some.found in
     let grown = c.in_ok-line.ensures.extends in
-    let kept : (q : Line) → Contains items q → HasLineIds x new q = λ q there. line_ids old new grown x q (c.loop-found.invariant.ids q there) in
+    let kept : (q : Line) → Contains items q → HasLineIds x new q =
+    λ q there. line_ids old new grown x q (c.loop-found.invariant.ids q there) in
     let put = c.in_ok-put.ensures.ok in
     let len = c.len.ensures in
     let shorter = rest_shorter rest found.line.now found.rest.now c.in-Some.ensures.first in
@@ -42,7 +45,8 @@ loop-found-preserved c =
           (Contains-append_cases items (line ∷ []) q (subst (λ z. Contains z q) put there));
       extends = onward c.args.table.now old new c.loop-found.invariant.extends grown;
       so_far = with_line x old new c.args.text.now rest found.line.now found.rest.now items c.put.new.lines.items line (c.len.result + 1)
-          c.loop-found.invariant.so_far (lines_still old new grown x items c.loop-found.invariant.ids) c.in-Some.ensures.lines (omega (arith, len))
+          c.loop-found.invariant.so_far (lines_still old new grown x items c.loop-found.invariant.ids)
+          c.in-Some.ensures.lines (omega (arith, len))
           c.in_ok-line.ensures.line put;
       count = (let one_more = length-append items (line ∷ []) in omega (arith, count, shorter, more, one_more));
     }

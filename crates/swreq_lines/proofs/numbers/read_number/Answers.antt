@@ -7,13 +7,15 @@ use Rattle.swreq_lines.proofs.numbers.read_number.Goals as goal
 
 pub returns-in-Ok-parse : goal.returns-in-Ok-parse
 returns-in-Ok-parse c n l e =
-    let r : c.parse.result ≡ Ok n = parse-decimal 32 n c.in-Ok.digits.now c.parse.result l (omega (arith, l)) (c.in-Ok.ensures.cases.0 ∙ e) c.parse.ensures.value.0 in
+    let r : c.parse.result ≡ Ok n =
+    parse-decimal 32 n c.in-Ok.digits.now c.parse.result l (omega (arith, l)) (c.in-Ok.ensures.cases.0 ∙ e) c.parse.ensures.value.0 in
     let i = c.in-Ok-parse.is in
     cc
 
 pub returns-in-Err-parse : goal.returns-in-Err-parse
 returns-in-Err-parse c n l e =
-    let r : c.parse.result ≡ Ok n = parse-decimal 32 n c.in-Ok.digits.now c.parse.result l (omega (arith, l)) (c.in-Ok.ensures.cases.0 ∙ e) c.parse.ensures.value.0 in
+    let r : c.parse.result ≡ Ok n =
+    parse-decimal 32 n c.in-Ok.digits.now c.parse.result l (omega (arith, l)) (c.in-Ok.ensures.cases.0 ∙ e) c.parse.ensures.value.0 in
     let i = c.in-Err-parse.is in
     absurd cc
 

@@ -6,10 +6,20 @@ pub returns-in-None : goal.returns-in-None
 returns-in-None c =
     let t = c.args.text.now in
     let p = none_found c.args.byte t c.in-None.ensures in
-    record { without = p.without; whole = p.whole; shorter = shorter c.args.byte t t [] p; piece = λ piece tail. piece_is c.args.byte t t [] piece tail p }
+    record {
+      without = p.without;
+      whole = p.whole;
+      shorter = shorter c.args.byte t t [] p;
+      piece = λ piece tail. piece_is c.args.byte t t [] piece tail p;
+    }
 
 pub returns-in-Some : goal.returns-in-Some
 returns-in-Some c =
     let t = c.args.text.now in
     let p = one_found c.args.byte t c.in-Some.at c.in-Some.ensures in
-    record { without = p.without; whole = p.whole; shorter = shorter c.args.byte t _ _ p; piece = λ piece tail. piece_is c.args.byte t _ _ piece tail p }
+    record {
+      without = p.without;
+      whole = p.whole;
+      shorter = shorter c.args.byte t _ _ p;
+      piece = λ piece tail. piece_is c.args.byte t _ _ piece tail p;
+    }

@@ -9,11 +9,14 @@ put_line-requires c = c.requires c.index-lines-k.result (c.loop-k.k, c.loop-k-te
 
 pub loop-k-preserved : goal.loop-k-preserved
 loop-k-preserved c =
-    one_line c.args.names.now c.args.table.now c.args.lines.now c.loop-k.k c.index-lines-k.result c.loop-k.out.items c.put_line.new.out.items c.append_bytes.new.out.items
-    (c.args.out.now.items ++ lines_text c.args.names.now (map (line_of c.args.table.now) c.args.lines.now)) c.loop-k-test.true c.index-lines-k.is
+    one_line c.args.names.now c.args.table.now c.args.lines.now c.loop-k.k c.index-lines-k.result c.loop-k.out.items
+    c.put_line.new.out.items c.append_bytes.new.out.items
+    (c.args.out.now.items ++ lines_text c.args.names.now (map (line_of c.args.table.now) c.args.lines.now))
+    c.loop-k-test.true c.index-lines-k.is
     c.in_ok-put_line.ensures c.in_ok-append_bytes.ensures.ok c.loop-k.invariant
 
 pub returns : goal.returns
 returns c =
     all_lines c.args.names.now c.args.table.now c.args.lines.now c.loop-k.k c.loop-k.out.items
-    (c.args.out.now.items ++ lines_text c.args.names.now (map (line_of c.args.table.now) c.args.lines.now)) c.loop-k-test.false c.loop-k.invariant
+    (c.args.out.now.items ++ lines_text c.args.names.now (map (line_of c.args.table.now) c.args.lines.now))
+    c.loop-k-test.false c.loop-k.invariant

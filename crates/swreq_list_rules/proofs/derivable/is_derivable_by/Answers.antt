@@ -12,7 +12,8 @@ use Rattle.swreq_list_rules.proofs.derivable.is_derivable_by.Goals as goal
 pub returns-then-not-valid : goal.returns-then-not-valid
 returns-then-not-valid c list are = (
   (λ h. cc),
-  λ e. absurd (not_held c.args.setting.now c.requires.setting list c.args.rules.now are (requirement_of c.args.setting.now.table.now c.args.r)
+  λ e. absurd (not_held c.args.setting.now c.requires.setting list c.args.rules.now are
+      (requirement_of c.args.setting.now.table.now c.args.r)
       (λ u. let a = c.in_ok-valid.ensures.1 u in let b = c.if-not-valid.true in cc) e),
 )
 
@@ -22,5 +23,6 @@ returns c list are =
     held c.args.setting.now c.requires.setting list c.args.rules.now are (requirement_of c.args.setting.now.table.now c.args.r) b
     (c.in_ok-valid.ensures.0 c.if-not-valid.false)
     (subst (λ (z : Word). Decides b (Links c.args.rules.now z
-    (right_side (symbols_in c.args.setting.now) (Written [] []) (requirement_of c.args.setting.now.table.now c.args.r)))) c.in_ok-sides.ensures.left
+    (right_side (symbols_in c.args.setting.now) (Written [] []) (requirement_of c.args.setting.now.table.now c.args.r))))
+    c.in_ok-sides.ensures.left
     (subst (λ (z : Word). Decides b (Links c.args.rules.now c.in_ok-sides.sides.0 z)) c.in_ok-sides.ensures.right d))) c.are_linked.ensures

@@ -5,4 +5,5 @@ use Rattle.swreq_list_rules.specs.ListRules.{AreShownBy}
 use Rattle.swreq_list_rules.proofs.settling.first_usable.Given as goal
 
 abbrev pub invariant-loop-k : goal.invariant-loop-k
-invariant-loop-k l = (r : Requirement) → Contains (take l.k l.waiting) r → AreShownBy l.setting l.rules (requirement_of l.setting.table.now r) → ⊥
+invariant-loop-k l =
+    (r : Requirement) → Contains (take l.k l.waiting) r → AreShownBy l.setting l.rules (requirement_of l.setting.table.now r) → ⊥

@@ -20,15 +20,18 @@ waiting-preserved c =
     let one = c.remove-r.result in
     let found = rw c.in-Some.is at c.waiting.invariant.next in
     let shown : AreShownBy s c.waiting.rules (requirement_of s.table.now (get_or now place one)) =
-    subst (λ z. AreShownBy s c.waiting.rules (requirement_of s.table.now z)) c.remove-r.ensures.value (found.1 one (sym c.remove-r.ensures.value)) in
+    subst (λ z. AreShownBy s c.waiting.rules (requirement_of s.table.now z)) c.remove-r.ensures.value
+    (found.1 one (sym c.remove-r.ensures.value)) in
     let completed : AreCompletedBy s (requirement_of s.table.now (get_or now place one)) c.waiting.rules c.in_ok-rules.rules =
-    subst (λ z. AreCompletedBy s (requirement_of s.table.now z) c.waiting.rules c.in_ok-rules.rules) c.remove-r.ensures.value c.in_ok-rules.ensures in
+    subst (λ z. AreCompletedBy s (requirement_of s.table.now z) c.waiting.rules c.in_ok-rules.rules) c.remove-r.ensures.value
+    c.in_ok-rules.ensures in
     record {
       known = λ r h. c.waiting.invariant.known r (was_there now place one found.0 r (subst (λ z. Contains z r) c.remove-r.ensures.items h));
       next = rw c.deref-in-Some.ensures.value at c.in_ok-next-2.ensures;
       underway = λ list added u. let (had, way) = c.waiting.invariant.underway list added u in (
         had ++ requirement_of s.table.now (get_or now place one) ∷ [],
-        subst (λ z. AreUnderway s list (had ++ requirement_of s.table.now (get_or now place one) ∷ []) c.in_ok-rules.rules z) (sym c.remove-r.ensures.items)
+        subst (λ z. AreUnderway s list (had ++ requirement_of s.table.now (get_or now place one) ∷ []) c.in_ok-rules.rules z)
+            (sym c.remove-r.ensures.items)
             (one_more s c.requires.setting list had c.waiting.rules now way place one found.0 c.in_ok-rules.rules shown completed),
       );
     }
@@ -37,4 +40,5 @@ pub returns : goal.returns
 returns c = λ list added u.
     let (had, way) = c.waiting.invariant.underway list added u in
     subst (AreOfList c.args.setting.now list) (sym c.new.ensures)
-    (settled c.args.setting.now c.requires.setting list had c.waiting.rules c.waiting.waiting.items way (rw c.in_default.is at c.waiting.invariant.next))
+    (settled c.args.setting.now c.requires.setting list had c.waiting.rules c.waiting.waiting.items way
+    (rw c.in_default.is at c.waiting.invariant.next))

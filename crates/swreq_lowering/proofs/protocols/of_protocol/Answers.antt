@@ -13,8 +13,12 @@ returns-clause-lists c =
     let p = c.in_ok-base.ensures.ok in
     lists_all c.args.table.now c.add_members.new.table c.new-into.result.items c.add_members.new.into.items _ c.new-into.ensures.items
     (adds_same c.args.table.now c.add_members.new.table c.new-into.result.items c.add_members.new.into.items _ _
-    (adds_then c.args.table.now c.add_bounds.new.table c.add_members.new.table c.new-into.result.items c.add_bounds.new.into.items c.add_members.new.into.items _ _
-    (adds_later c.args.table.now c.param.new.self c.add_bounds.new.table c.new-into.result.items c.add_bounds.new.into.items _ (extends_interned c.args.table.now c.param.new.self _ c.in_ok-base.base p) c.in_ok-add_bounds.ensures.adds)
-    (adds_then c.add_bounds.new.table c.add_clause.new.table c.add_members.new.table c.add_bounds.new.into.items c.add_clause.new.into.items c.add_members.new.into.items _ _ c.in_ok-add_clause.ensures.adds c.in_ok-add_members.ensures.adds))
-    ((λ i. in_bounds w Protocol (p.stands i) c.args.p.now.name.start (c.items.ensures i) ++ (in_clause w Protocol (c.items-2.ensures i) ++ in_members w (c.items-3.ensures i)))
+    (adds_then c.args.table.now c.add_bounds.new.table c.add_members.new.table c.new-into.result.items c.add_bounds.new.into.items
+    c.add_members.new.into.items _ _
+    (adds_later c.args.table.now c.param.new.self c.add_bounds.new.table c.new-into.result.items c.add_bounds.new.into.items _
+    (extends_interned c.args.table.now c.param.new.self _ c.in_ok-base.base p) c.in_ok-add_bounds.ensures.adds)
+    (adds_then c.add_bounds.new.table c.add_clause.new.table c.add_members.new.table c.add_bounds.new.into.items c.add_clause.new.into.items
+    c.add_members.new.into.items _ _ c.in_ok-add_clause.ensures.adds c.in_ok-add_members.ensures.adds))
+    ((λ i. in_bounds w Protocol (p.stands i) c.args.p.now.name.start (c.items.ensures i)
+    ++ (in_clause w Protocol (c.items-2.ensures i) ++ in_members w (c.items-3.ensures i)))
     ∙ sym (protocol_walked w c.args.p.now)))

@@ -15,7 +15,8 @@ returns-clause-adds c =
     let r = c.in_ok-u.ensures.spells in
     adds_one c.args.table.now c.spell-2.new.table c.args.into.now.items c.push.new.self.items
     (record { requirement = Same c.in_ok-t.t c.in_ok-u.u; left_at = c.args.left.now.head.start; right_at = c.args.right.now.head.start })
-    (equality (type_in w c.args.context c.args.left.now) c.args.left.now.head.start (type_in w c.args.context c.args.right.now) c.args.right.now.head.start)
+    (equality (type_in w c.args.context c.args.left.now) c.args.left.now.head.start
+    (type_in w c.args.context c.args.right.now) c.args.right.now.head.start)
     (onward c.args.table.now c.spell.new.table c.spell-2.new.table s.extends r.extends)
     c.in_ok-push.ensures.items
     (of_stays c.spell.new.table c.spell-2.new.table c.in_ok-t.t r.extends s.is_of, r.is_of)

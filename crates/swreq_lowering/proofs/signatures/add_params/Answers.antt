@@ -10,6 +10,7 @@ loop-i-preserved c =
     record {
       within = omega arith;
       added = adds_same c.args.table.now c.add_param.new.table c.args.into.now.items c.add_param.new.into.items _ _
-          (adds_then c.args.table.now c.loop-i.table c.add_param.new.table c.args.into.now.items c.loop-i.into.items c.add_param.new.into.items _ _ c.loop-i.invariant.added c.in_ok-add_param.ensures.adds)
+          (adds_then c.args.table.now c.loop-i.table c.add_param.new.table c.args.into.now.items c.loop-i.into.items
+          c.add_param.new.into.items _ _ c.loop-i.invariant.added c.in_ok-add_param.ensures.adds)
           (params_more w c.args.signature c.args.params.now c.loop-i.i c.index-params-i.result c.loop-i-test.true c.index-params-i.is);
     }

@@ -8,6 +8,7 @@ pub returns-clause-adds : goal.returns-clause-adds
 returns-clause-adds c =
     on_ok c.add_clause.result
     (λ a. adds_same c.args.table.now c.add_clause.new.table c.args.into.now.items c.add_clause.new.into.items _ _
-    (adds_then c.args.table.now c.add_params.new.table c.add_clause.new.table c.args.into.now.items c.add_params.new.into.items c.add_clause.new.into.items _ _ c.in_ok-add_params.ensures.adds a)
+    (adds_then c.args.table.now c.add_params.new.table c.add_clause.new.table c.args.into.now.items c.add_params.new.into.items
+    c.add_clause.new.into.items _ _ c.in_ok-add_params.ensures.adds a)
     (sym (signature_walked (words_by c.args.words.now) c.args.signature c.args.params.now c.args.clause.now)))
     c.add_clause.ensures.adds

@@ -7,4 +7,5 @@ use Rattle.swreq_lowering.specs.Words.{words_by}
 use Rattle.swreq_lowering.proofs.spelling.spell_steps.Given as goal
 
 abbrev pub invariant-loop-step : goal.invariant-loop-step
-invariant-loop-step l = Spells l.fn.table l.table (with_steps (term_at l.fn.table l.fn.base) (map (step_of (words_by l.words)) (take l.step-index l.steps))) l.id
+invariant-loop-step l = Spells l.fn.table l.table
+    (with_steps (term_at l.fn.table l.fn.base) (map (step_of (words_by l.words)) (take l.step-index l.steps))) l.id

@@ -14,5 +14,6 @@ pub returns-clause-kept : goal.returns-clause-kept
 returns-clause-kept c place s h =
     let lists = c.make_room.new.lists.items in
     keeps_changed lists _ c.args.place c.index_mut.result.now c.push.new.list
-    (slice_get_read lists (length lists) c.args.place c.index_mut.result.now refl c.in_ok-make_room.ensures.room c.index_mut.ensures.value) refl
+    (slice_get_read lists (length lists) c.args.place c.index_mut.result.now refl c.in_ok-make_room.ensures.room c.index_mut.ensures.value)
+    refl
     c.push.ensures.kept place s (c.make_room.ensures.kept place s h)

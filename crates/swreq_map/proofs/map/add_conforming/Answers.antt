@@ -9,9 +9,12 @@ returns-in_ok-push-in-Some-clause-found c =
     let k = c.args.k in
     let s = c.in-Some.ensures.answer in
     let one : k + 1 ≡ suc k = omega arith in
-    subst (AreConforming c.args.class.now.rules.now c.args.class.now.protocols c.args.class.now.word.now (take (k + 1) xs)) (sym c.in_ok-push-in-Some.ensures.items)
-    (subst (λ n. AreConforming c.args.class.now.rules.now c.args.class.now.protocols c.args.class.now.word.now (take n xs) (c.args.found.now.items ++ c.in-Some.p ∷ [])) (sym one)
-    (conforming_more c.args.class.now.rules.now c.args.class.now.protocols c.args.class.now.word.now xs k c.symbol_at.result c.args.found.now.items
+    subst (AreConforming c.args.class.now.rules.now c.args.class.now.protocols c.args.class.now.word.now (take (k + 1) xs))
+    (sym c.in_ok-push-in-Some.ensures.items)
+    (subst (λ n. AreConforming c.args.class.now.rules.now c.args.class.now.protocols c.args.class.now.word.now (take n xs)
+    (c.args.found.now.items ++ c.in-Some.p ∷ [])) (sym one)
+    (conforming_more c.args.class.now.rules.now c.args.class.now.protocols c.args.class.now.word.now xs k
+    c.symbol_at.result c.args.found.now.items
     c.symbol_at.ensures c.requires.so_far c.in-Some.p s.0 s.1 s.2))
 
 pub returns-in-None-clause-found : goal.returns-in-None-clause-found
@@ -19,6 +22,8 @@ returns-in-None-clause-found c =
     let xs = c.args.symbols.now in
     let k = c.args.k in
     let one : k + 1 ≡ suc k = omega arith in
-    subst (λ n. AreConforming c.args.class.now.rules.now c.args.class.now.protocols c.args.class.now.word.now (take n xs) c.args.found.now.items) (sym one)
-    (conforming_same c.args.class.now.rules.now c.args.class.now.protocols c.args.class.now.word.now xs k c.symbol_at.result c.args.found.now.items
+    subst (λ n. AreConforming c.args.class.now.rules.now c.args.class.now.protocols c.args.class.now.word.now
+    (take n xs) c.args.found.now.items) (sym one)
+    (conforming_same c.args.class.now.rules.now c.args.class.now.protocols c.args.class.now.word.now xs k
+    c.symbol_at.result c.args.found.now.items
     c.symbol_at.ensures c.requires.so_far c.in-None.ensures.answer)

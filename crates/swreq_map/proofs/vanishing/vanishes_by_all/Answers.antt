@@ -11,6 +11,7 @@ append-requires-clause-least c = subst (IsLeast (Linked (Step c.args.rules.now))
 
 pub returns-clause-answer : goal.returns-clause-answer
 returns-clause-answer c =
-    vanishes_decided c.args.rules.now c.count-complete.ensures.complete c.args.u.now c.requires.least c.args.x (c.write.new.room.items ++ c.args.x ∷ []) c.append.new.word.items
+    vanishes_decided c.args.rules.now c.count-complete.ensures.complete c.args.u.now c.requires.least c.args.x
+    (c.write.new.room.items ++ c.args.x ∷ []) c.append.new.word.items
     c.are_same.result (ap (λ w. w ++ c.args.x ∷ []) c.write.ensures.items) c.append.ensures.congruent c.append.ensures.least
     (subst (λ x. Decides c.are_same.result (x ≡ c.args.u.now)) c.deref.ensures.value c.are_same.ensures)

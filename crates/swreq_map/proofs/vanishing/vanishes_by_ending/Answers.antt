@@ -15,11 +15,13 @@ pub returns-then-are_same-clause-answer : goal.returns-then-are_same-clause-answ
 returns-then-are_same-clause-answer c =
     let ending = whole_rest c.args.u.now c.args.from in
     told_vanishing c.args.rules.now c.count-complete.ensures.complete c.args.u.now c.requires.least c.args.from c.args.x
-    (c.write.new.room.items ++ c.args.x ∷ []) c.append.new.word.items (ap (λ w. w ++ c.args.x ∷ []) (c.write.ensures.items ∙ ending)) c.append.ensures.congruent
+    (c.write.new.room.items ++ c.args.x ∷ []) c.append.new.word.items
+    (ap (λ w. w ++ c.args.x ∷ []) (c.write.ensures.items ∙ ending)) c.append.ensures.congruent
     (sym c.deref.ensures.value ∙ c.are_same.ensures.0 c.if-are_same.true ∙ ending)
 
 pub returns-then-is_followed-clause-answer : goal.returns-then-is_followed-clause-answer
 returns-then-is_followed-clause-answer c =
     told_staying c.args.rules.now c.count-complete.ensures.complete c.args.u.now c.requires.least c.args.from c.args.x
     c.requires.within c.requires.from c.append.new.word.items c.append.ensures.least
-    (sym c.deref-2.ensures.value ∙ c.is_followed.ensures.0 c.if-is_followed.true ∙ ap (λ w. w ++ c.args.x ∷ []) (whole_rest c.args.u.now c.args.from))
+    (sym c.deref-2.ensures.value ∙ c.is_followed.ensures.0 c.if-is_followed.true
+    ∙ ap (λ w. w ++ c.args.x ∷ []) (whole_rest c.args.u.now c.args.from))

@@ -5,6 +5,7 @@ use Rattle.swreq_names.proofs.declared.nested_params.Goals as goal
 
 pub loop-item-preserved : goal.loop-item-preserved
 loop-item-preserved c =
-    mapped_more (λ t. map (λ f. of_params c.args.text.now f.params) t.functions) c.args.structs.now c.loop-item.item-index c.item-item.result c.in_ok-params.params.items
+    mapped_more (λ t. map (λ f. of_params c.args.text.now f.params) t.functions) c.args.structs.now c.loop-item.item-index
+    c.item-item.result c.in_ok-params.params.items
     c.loop-item.found.items c.push.new.self.items c.loop-item-test.true c.item-item.is c.in_ok-push.ensures.items
     (c.in_ok-params.ensures ∙ (λ j. map (λ f. of_params c.args.text.now f.params) (c.items.ensures j))) c.loop-item.invariant

@@ -6,5 +6,6 @@ abbrev pub invariant-loop-item : goal.invariant-loop-item
 invariant-loop-item l = record {
   len : length l.lists ≡ length l.fn.lists;
   added : (r : ℕ) (q : List ℕ) → slice_get l.ranks r ≡ Some q → (j : ℕ)
-      → Contains (get_or l.lists r []) j ↔ (Contains (get_or l.fn.lists r []) j ⊎ ((j ≡ l.place) × Contains (names_of (take l.item-index l.items)) q));
+      → Contains (get_or l.lists r []) j
+      ↔ (Contains (get_or l.fn.lists r []) j ⊎ ((j ≡ l.place) × Contains (names_of (take l.item-index l.items)) q));
 }

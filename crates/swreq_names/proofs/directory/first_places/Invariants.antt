@@ -8,7 +8,8 @@ abbrev pub invariant-loop-i : goal.invariant-loop-i
 invariant-loop-i l = record {
   within : l.i ≤ length l.items;
   len : length l.firsts.items ≡ length l.ranks;
-  first : (r : ℕ) (q : List ℕ) → slice_get l.ranks r ≡ Some q → get_or l.firsts.items r None ≡ position_from (bytes_eq q) l.i (drop l.i (names_of l.items));
+  first : (r : ℕ) (q : List ℕ) → slice_get l.ranks r ≡ Some q
+      → get_or l.firsts.items r None ≡ position_from (bytes_eq q) l.i (drop l.i (names_of l.items));
 }
 
 abbrev pub decreases-loop-i : goal.decreases-loop-i

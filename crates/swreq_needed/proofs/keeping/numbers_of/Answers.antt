@@ -15,7 +15,8 @@ loop-k-preserved c =
     let small = c.loop-k.invariant.small in
     let long = c.loop-k.invariant.length_is in
     let now : count ≡ marked (take (k + 1) marks) = elim c.if-marks-k.branch [
-      | then-marks-k w ↦ (let h = marked_yes marks k (there ∙ ap Some w.if-marks-k.true) in let e = w.count-is in rw add-one (omega (arith, h, e, so_far)))
+      | then-marks-k w ↦
+          (let h = marked_yes marks k (there ∙ ap Some w.if-marks-k.true) in let e = w.count-is in rw add-one (omega (arith, h, e, so_far)))
       | else-marks-k w ↦ (let h = marked_no marks k (there ∙ ap Some w.if-marks-k.false) in rw add-one (w.count-is ∙ so_far ∙ sym h))
     ] in
     let few : count ≤ k + 1 = elim c.if-marks-k.branch [

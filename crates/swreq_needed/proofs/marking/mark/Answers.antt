@@ -15,5 +15,6 @@ loop-k-preserved c =
     let within = c.loop-k.invariant.within in
     record {
       within = omega (arith, count, within);
-      marked = rw (add-one, take-suc ns k 0 c.loop-k-test.true) (marked_then old mid new (take k ns) n c.args.below c.loop-k.invariant.marked c.mark_one.ensures);
+      marked = rw (add-one, take-suc ns k 0 c.loop-k-test.true)
+          (marked_then old mid new (take k ns) n c.args.below c.loop-k.invariant.marked c.mark_one.ensures);
     }

@@ -15,7 +15,8 @@ pub returns-in-Err-clause-failed : goal.returns-in-Err-clause-failed
 returns-in-Err-clause-failed g c =
     let w = world_by c.args.table.now c.args.world.now in
     let s = signature_at w c.args.f in
-    signature_fails c.args.limits w (last_rules c.args.protocols.now.rounds) s (g.W.Watch.told c.args.watch.now) (g.W.Watch.told c.minimise.new.watch)
+    signature_fails c.args.limits w (last_rules c.args.protocols.now.rounds) s (g.W.Watch.told c.args.watch.now)
+    (g.W.Watch.told c.minimise.new.watch)
     c.args.machine.now.params c.requires.params c.in-Err.failed (c.in-Err.ensures.failed (written_list s) c.requires.machine)
 
 pub put_line-requires : goal.put_line-requires
@@ -54,7 +55,8 @@ returns-in-Ok-clause-told g c =
     let w = world_by c.args.table.now c.args.world.now in
     let s = signature_at w c.args.f in
     on_ok_weaker c.put_line.result
-    (λ e. signature_tells c.args.limits w (last_rules c.args.protocols.now.rounds) s (g.W.Watch.told c.args.watch.now) (g.W.Watch.told c.minimise.new.watch)
+    (λ e. signature_tells c.args.limits w (last_rules c.args.protocols.now.rounds) s (g.W.Watch.told c.args.watch.now)
+    (g.W.Watch.told c.minimise.new.watch)
     c.args.machine.now.params c.requires.params (c.in-Ok.ensures.told (written_list s) c.requires.machine))
     c.put_line.ensures.line
 
@@ -63,6 +65,7 @@ returns-in-Ok-clause-failed g c =
     let w = world_by c.args.table.now c.args.world.now in
     let s = signature_at w c.args.f in
     IfErr-weaker c.put_line.result _ _
-    (λ failed is. signature_wants c.args.limits w (last_rules c.args.protocols.now.rounds) s (g.W.Watch.told c.args.watch.now) (g.W.Watch.told c.minimise.new.watch)
+    (λ failed is. signature_wants c.args.limits w (last_rules c.args.protocols.now.rounds) s (g.W.Watch.told c.args.watch.now)
+    (g.W.Watch.told c.minimise.new.watch)
     c.args.machine.now.params c.requires.params failed is (c.in-Ok.ensures.told (written_list s) c.requires.machine))
     c.put_line.ensures.failed

@@ -36,7 +36,8 @@ returns-then-symbols-at c =
     let within = begins_within rules place first second is.first_at is.second_at has in
     let at_is = is.at_is in
     let there = contains_there rules place first second is.first_at is.second_at has (omega (arith, t, within, m_is, l_is, at_is)) in
-    by_containment rules place first second is.first_at is.second_at there.0 left right (subst (λ at. ContainmentPair first second at left right) (sym is.at_is) pair))
+    by_containment rules place first second is.first_at is.second_at there.0 left right
+    (subst (λ at. ContainmentPair first second at left right) (sym is.at_is) pair))
     c.write_containment.ensures
 
 pub returns-else-symbols-at : goal.returns-else-symbols-at
@@ -45,5 +46,6 @@ returns-else-symbols-at c =
     let left = c.write_overlap.new.left.items in let right = c.write_overlap.new.right.items in
     on_ok_weaker c.write_overlap.result
     (λ pair rules place is has.
-    by_overlap rules place first second is.first_at is.second_at left right (subst (λ at. OverlapPair first second at left right) (sym is.at_is) pair))
+    by_overlap rules place first second is.first_at is.second_at left right
+    (subst (λ at. OverlapPair first second at left right) (sym is.at_is) pair))
     c.write_overlap.ensures

@@ -10,6 +10,7 @@ returns-clause-target c v h =
     let first : c.append_copies.new.out.items ≡ a.steps =
     c.in_ok-append_copies.ensures ∙ ap (λ xs. xs ++ c.items.result.now) c.new-steps.ensures.items ∙ c.items.ensures in
     let steps : c.new.result ≡ a.steps ++ b.steps =
-    c.new.ensures ∙ c.in_ok-append_copies-2.ensures ∙ ap (λ xs. xs ++ c.items-2.result.now) first ∙ ap (λ xs. a.steps ++ xs) c.items-2.ensures in
+    c.new.ensures ∙ c.in_ok-append_copies-2.ensures ∙ ap (λ xs. xs ++ c.items-2.result.now) first
+    ∙ ap (λ xs. a.steps ++ xs) c.items-2.ensures in
     subst₂ (λ xs u. StepsLead c.args.rules.now xs u v) (sym steps) (sym c.in_ok-start.ensures.cases)
     (lead_on c.args.rules.now a.steps b.steps a.start b.start v c.requires.first h)

@@ -13,4 +13,5 @@ pub returns : goal.returns
 returns c =
     let rules = c.args.rules.now in let number = c.args.redex.number in let redex = c.requires.redex in
     IfOk-weaker c.step_of.result _ _
-    (λ step steps. steps rules (rule_there rules number redex.0 c.index-rules-redex.result redex.1 c.index-rules-redex.is)) c.step_of.ensures
+    (λ step steps. steps rules (rule_there rules number redex.0 c.index-rules-redex.result redex.1 c.index-rules-redex.is))
+    c.step_of.ensures

@@ -18,5 +18,9 @@ returns-clause-ok c rules is first =
     let redex = c.args.redex in
     let step = c.in_ok-step.step in
     let s = c.in_ok-step.ensures rules is in
-    let at = subst (λ w. StepsAt rules step redex.at redex.number w s.0) c.deref.ensures.value s.1 in
-    (step, c.in_ok-push.ensures.items, at_first rules step redex.at redex.number u c.take_step_of.new.w.items s.0 at first (c.take_step_of.ensures.step rules redex.number is first))
+    let at = subst (λ w. StepsAt rules step redex.at redex.number w s.0) c.deref.ensures.value s.1 in (
+      step,
+      c.in_ok-push.ensures.items,
+      at_first rules step redex.at redex.number u c.take_step_of.new.w.items s.0 at first
+          (c.take_step_of.ensures.step rules redex.number is first),
+    )

@@ -30,7 +30,8 @@ returns-clause-err c =
     (λ same. grew_next c.args.out.now.items c.append_bytes.new.out.items c.append_bytes-5.new.out.items (codes "[")
     (protocol_name c.args.names.now c.args.pair.proto ++ (codes ":" ++ (name_text c.args.names.now c.args.pair.name ++ codes "]")))
     c.in_ok-append_bytes.ensures.ok
-    (fails_after_three c.append_bytes.new.out.items c.append_bytes-2.new.out.items c.append_bytes-3.new.out.items c.append_bytes-4.new.out.items
+    (fails_after_three c.append_bytes.new.out.items c.append_bytes-2.new.out.items c.append_bytes-3.new.out.items
+    c.append_bytes-4.new.out.items
     c.append_bytes-5.new.out.items
     (protocol_name c.args.names.now c.args.pair.proto) (codes ":") (name_text c.args.names.now c.args.pair.name) (codes "]")
     named c.in_ok-append_bytes-3.ensures.ok own same))

@@ -28,8 +28,10 @@ returns-in-Reduced-clause-ok c = on_ok_weaker c.reduced_line.result
 pub returns-in_default : goal.returns-in_default
 returns-in_default c = record {
   ok = on_ok_weaker c.append_bytes.result
-      (λ n list is. line_appended (IsDerivable (world_by c.args.table.now c.args.world.now) c.args.machine.now list) c.args.world.now.lexicon
-      (query_by c.args.table.now c.args.query.now) (answer_of c.judge-verdict.result) c.line.result.now c.args.out.now.items c.append_bytes.new.out.items
+      (λ n list is.
+      line_appended (IsDerivable (world_by c.args.table.now c.args.world.now) c.args.machine.now list) c.args.world.now.lexicon
+      (query_by c.args.table.now c.args.query.now)
+      (answer_of c.judge-verdict.result) c.line.result.now c.args.out.now.items c.append_bytes.new.out.items
       (c.judge-verdict.ensures.answer list is) (c.line.ensures c.args.world.now.lexicon) n)
       c.append_bytes.ensures.ok;
   err = c.append_bytes.ensures.err;

@@ -14,4 +14,5 @@ returns-clause-answer c = λ f list is.
     let b = term_at c.args.text.now.table.now c.args.b in
     subst (λ v. IsAnswer (IsDerivable (world_of c.args.text.now) c.args.machine.now list) (AsksEquals f a b) (answer_of v))
     (sym c.verdict_of.ensures)
-    (equality_answer (IsDerivable (world_of c.args.text.now) c.args.machine.now list) f a b c.are_equal.result (c.are_equal.ensures.answer list is))
+    (equality_answer (IsDerivable (world_of c.args.text.now) c.args.machine.now list) f a b c.are_equal.result
+    (c.are_equal.ensures.answer list is))

@@ -16,7 +16,8 @@ carry_conf-requires-clause-conforms c =
 
 pub carry_conf-requires-clause-equal : goal.carry_conf-requires-clause-equal
 carry_conf-requires-clause-equal c =
-    equals_still c.args.sheet.now c.carry_name.new.sheet c.in_ok-carry_name.ensures.grows c.args.t c.args.u c.requires.equal.0 c.requires.equal.1
+    equals_still c.args.sheet.now c.carry_name.new.sheet c.in_ok-carry_name.ensures.grows c.args.t c.args.u
+    c.requires.equal.0 c.requires.equal.1
     c.requires.equal.2
 
 pub returns-clause-equal : goal.returns-clause-equal

@@ -50,7 +50,8 @@ returns-clause-derives c b f d =
     let same : c.args.assoc ≡ record { rank = w.0 } = λ i. record { rank = w.1.1 i } in
     let t = sym (term_still s s1 g1 c.args.sides.0 c.requires.equal.0) in
     c.in_ok-trans.ensures.derives b (c.in_ok-assoc_bind.ensures.derives b (record { rank = w.0 }) (f.associated w.0 c.args.named w.1.0)
-    (term_still s s1 g1 c.args.members.bound c.requires.members.bound.0 ∙ c.requires.members.bound.1 ∙ ap₂ (λ z (y : AssocId). Member z (Bound y)) t same)
+    (term_still s s1 g1 c.args.members.bound c.requires.members.bound.0 ∙ c.requires.members.bound.1
+    ∙ ap₂ (λ z (y : AssocId). Member z (Bound y)) t same)
     (term_still s s1 g1 c.args.members.plain c.requires.members.plain.0 ∙ c.requires.members.plain.1
     ∙ ap₂ (λ z y. Member z (Name y)) t (λ i. c.args.named.name))
     (c.in_ok-same_conf.ensures.derives b d))

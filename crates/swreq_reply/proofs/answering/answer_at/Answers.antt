@@ -20,6 +20,7 @@ returns-clause-piece c =
       c.in_ok-made.made,
       piece_right c.args.table.now c.args.s.now c.requires.answers c.args.place q c.requires.place.below
           (ap (λ (qs : List Query). get_or qs c.args.place any) c.queries.ensures
-          ∙ get_or_default c.args.s.now.world.now.queries c.args.place any q c.requires.place.below) c.in_ok-made.made c.in_ok-made.ensures.piece,
+          ∙ get_or_default c.args.s.now.world.now.queries c.args.place any q c.requires.place.below) c.in_ok-made.made
+          c.in_ok-made.ensures.piece,
       refl,
     )

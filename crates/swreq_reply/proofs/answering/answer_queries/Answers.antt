@@ -20,14 +20,17 @@ returns-then-is_empty-clause-pieces c =
     let v = get_or s.places.now f.place c.index-s-own.result in
     let none : length v.items ≡ 0 = omega (arith, eqb-true _ _ (sym c.is_empty.ensures ∙ c.if-is_empty.true), v.ok) in
     go_through (IsPiece w s.content) (maker s.world.now s.content) (count_of s.world.now s.content) f.place v.items c.args.pieces.now.items
-    (subst (λ (n : ℕ). AreMadeTo (IsPiece w s.content) (maker s.world.now s.content) (count_of s.world.now s.content) f.place v.items n c.args.pieces.now.items)
-    (sym none) (begin (IsPiece w s.content) (maker s.world.now s.content) (count_of s.world.now s.content) f.place c.args.pieces.now.items c.requires.pieces v.items))
+    (subst (λ (n : ℕ). AreMadeTo (IsPiece w s.content) (maker s.world.now s.content)
+    (count_of s.world.now s.content) f.place v.items n c.args.pieces.now.items)
+    (sym none) (begin (IsPiece w s.content) (maker s.world.now s.content)
+    (count_of s.world.now s.content) f.place c.args.pieces.now.items c.requires.pieces v.items))
     (all_placed c.args.table.now s f c.index-s-own.result c.requires.ready c.requires.machine.signature)
 
 pub answer_at-requires-clause-place : goal.answer_at-requires-clause-place
 answer_at-requires-clause-place c =
     let v = get_or c.args.s.now.places.now c.args.own.now.f.place c.index-s-own.result in
-    place_for c.loop-j.table c.args.s.now c.args.own.now.f c.requires.answers c.loop-j.invariant.1 c.requires.machine.signature c.index-s-own.result _
+    place_for c.loop-j.table c.args.s.now c.args.own.now.f c.requires.answers c.loop-j.invariant.1
+    c.requires.machine.signature c.index-s-own.result _
     (c.loop-j.j, omega (arith, c.loop-j-test.true, c.len-j-end.ensures, v.ok), sym c.index-place.ensures)
 
 pub answer_at-requires-clause-pieces : goal.answer_at-requires-clause-pieces
@@ -64,13 +67,17 @@ loop-j-preserved c =
     let at : get_or v.items c.loop-j.j 0 ≡ place = get_or_default v.items c.loop-j.j 0 place within ∙ sym c.index-place.ensures in
     let below = ((c.loop-j.invariant.1).places.each f c.index-s-own.result place c.requires.machine.signature).0
     (c.loop-j.j, within, sym c.index-place.ensures) in (
-      subst (AreMadeTo (IsPiece w s.content) (maker s.world.now s.content) (count_of s.world.now s.content) f.place v.items (c.loop-j.j + 1)) (sym put)
-          (subst (λ (p : ℕ). AreMadeTo (IsPiece w s.content) (maker s.world.now s.content) (count_of s.world.now s.content) f.place v.items (c.loop-j.j + 1)
+      subst (AreMadeTo (IsPiece w s.content) (maker s.world.now s.content) (count_of s.world.now s.content) f.place v.items
+          (c.loop-j.j + 1)) (sym put)
+          (subst (λ (p : ℕ).
+          AreMadeTo (IsPiece w s.content) (maker s.world.now s.content) (count_of s.world.now s.content) f.place v.items (c.loop-j.j + 1)
           (set c.loop-j.pieces.items p (Some piece))) at
-          (go_on (IsPiece w s.content) (maker s.world.now s.content) (count_of s.world.now s.content) f.place v.items c.loop-j.j c.loop-j.pieces.items
+          (go_on (IsPiece w s.content) (maker s.world.now s.content)
+          (count_of s.world.now s.content) f.place v.items c.loop-j.j c.loop-j.pieces.items
           c.loop-j.invariant.0 (subst (λ (p : ℕ). p < count_of s.world.now s.content) (sym at) below.0) piece
           (subst (λ (p : ℕ). IsPiece w s.content p piece) (sym at)
-          (subst (λ (z : TextWorld). IsPiece z s.content place piece) (world_on c.args.table.now c.loop-j.table s c.loop-j.invariant.3 c.requires.ready) is)))),
+          (subst (λ (z : TextWorld). IsPiece z s.content place piece)
+          (world_on c.args.table.now c.loop-j.table s c.loop-j.invariant.3 c.requires.ready) is)))),
       ready_on c.loop-j.table c.answer_at.new.table s c.in_ok-answer_at.ensures.extends c.loop-j.invariant.1,
       means_on c.loop-j.table c.answer_at.new.table s c.in_ok-answer_at.ensures.extends c.loop-j.invariant.1 _ c.loop-j.invariant.2,
       onward c.args.table.now c.loop-j.table c.answer_at.new.table c.loop-j.invariant.3 c.in_ok-answer_at.ensures.extends,
@@ -84,6 +91,7 @@ returns-clause-pieces c =
     let v = get_or s.places.now f.place c.index-s-own.result in
     let all : c.loop-j.j ≡ length v.items = omega (arith, c.len-j-end.ensures, v.ok, c.loop-j-test.false, c.loop-j.auto.j-end) in
     go_through (IsPiece w s.content) (maker s.world.now s.content) (count_of s.world.now s.content) f.place v.items c.loop-j.pieces.items
-    (subst (λ (n : ℕ). AreMadeTo (IsPiece w s.content) (maker s.world.now s.content) (count_of s.world.now s.content) f.place v.items n c.loop-j.pieces.items)
+    (subst (λ (n : ℕ).
+    AreMadeTo (IsPiece w s.content) (maker s.world.now s.content) (count_of s.world.now s.content) f.place v.items n c.loop-j.pieces.items)
     all c.loop-j.invariant.0)
     (all_placed c.args.table.now s f c.index-s-own.result c.requires.ready c.requires.machine.signature)

@@ -16,7 +16,8 @@ requirement_piece-requires c =
         | inl h ↦ subst (λ (q : Query). AsksRequirement (query_by terms q)) (sym h.3) (Conforms (term_at terms h.1) h.2, refl)
         | inr rest ↦ elim rest [
           | inl h ↦ subst (λ (q : Query). AsksRequirement (query_by terms q)) (sym h.2) (IsAnyObject (term_at terms h.1), refl)
-          | inr h ↦ subst (λ (q : Query). AsksRequirement (query_by terms q)) (sym h.3) (Equals (term_at terms h.1) (term_at terms h.2), refl)
+          | inr h ↦
+              subst (λ (q : Query). AsksRequirement (query_by terms q)) (sym h.3) (Equals (term_at terms h.1) (term_at terms h.2), refl)
         ]
       ];
     }

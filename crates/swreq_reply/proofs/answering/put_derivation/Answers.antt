@@ -27,7 +27,8 @@ use Rattle.swreq_reply.proofs.answering.put_derivation.Goals as goal
 -- the requirement that a query asks, over ids
 asked_in : (terms : List Term) (w : IdWorld) (q : Query) (r : TermRequirement) → IsQueryIn terms w q → asked (query_by terms q) ≡ Some r
     → (x : Requirement) × Asks q (signature_of (query_by terms q)) x × IsRequirementIn terms w.lexicon x × (requirement_of terms x ≡ r)
-    × (judged.asked (query_by terms q) ≡ Some (record { signature = signature_of (query_by terms q); requirement = requirement_of terms x }))
+    ×
+    (judged.asked (query_by terms q) ≡ Some (record { signature = signature_of (query_by terms q); requirement = requirement_of terms x }))
 asked_in terms w (queries.Conf f t p) r known e = (Conf t p, (refl, refl), (known.0, (known.1.1.0, known.1.2)), cc, refl)
 asked_in terms w (queries.Layout f t) r known e = (Layout t, (refl, refl), (known.0, known.1.1.0), cc, refl)
 asked_in terms w (queries.Same f t u) r known e = (Same t u, (refl, refl), (known.0, (known.1.1.0, known.1.2.0)), cc, refl)
@@ -69,7 +70,8 @@ returns-clause-backing c =
         asked_so,
         map (line_of new) ls,
         subst (λ v. judged.IsDerivationFrom v f (map (line_of new) ls))
-            (world_stays old new c.in_ok-lines.ensures.extends w c.requires.ready.text.table) (derivation_from w f new ls (c.in_ok-lines.ensures.derived f x of)),
+            (world_stays old new c.in_ok-lines.ensures.extends w c.requires.ready.text.table)
+            (derivation_from w f new ls (c.in_ok-lines.ensures.derived f x of)),
         ends new ls front end split (Requires (requirement_of old x))
             (ap (statement_of new) states ∙ ap Requires (requirement_stays old new c.in_ok-lines.ensures.extends x ids.0)),
         refl,

@@ -41,13 +41,15 @@ loop-k-preserved c =
     let at = call_stays old mid more w call known ∙ ap (call_by old) c.index-calls-k.is
     ∙ sym (get_or-map (call_by old) c.args.calls.now c.loop-k.k call) in
     let (line, is, grown) = subst (λ d. AppendsLine (world_of old c.args.p.now) d c.loop-k.out.items c.call_text.new.out.items) at
-    (subst (λ v. AppendsLine v (call_by mid call) c.loop-k.out.items c.call_text.new.out.items) (world_stays old mid more w c.requires.text.table)
+    (subst (λ v. AppendsLine v (call_by mid call) c.loop-k.out.items c.call_text.new.out.items)
+    (world_stays old mid more w c.requires.text.table)
     c.in_ok-call_text.ensures.line) in (
       onward old mid new more onwards,
       text_stays mid new onwards w text,
       record { passed = subst (λ v. HavePassed c.args.p.now.limits v (rules_of c.args.p.now)) stays passed.passed; limits = passed.limits },
       subst (λ v. IsCallerOf v c.in_ok-caller.caller) stays c.in_ok-caller.ensures.caller,
-      lines_next _ calls c.loop-k.k _ line _ _ (omega (arith, length-map c.args.calls.now (call_by old), c.loop-k-test.true)) lines is grown,
+      lines_next _ calls c.loop-k.k _ line _ _
+          (omega (arith, length-map c.args.calls.now (call_by old), c.loop-k-test.true)) lines is grown,
     )
 
 pub returns : goal.returns

@@ -6,7 +6,8 @@ use Rattle.swreq_reply.proofs.checking.check_all.Given as goal
 
 abbrev pub invariant-loop-k : goal.invariant-loop-k
 invariant-loop-k g l =
-    CameFirst l.s.limits (world_in l.initial.table l.s) (last_rules l.s.protocols.now.rounds) l.k (g.W.Watch.told l.initial.watch) (g.W.Watch.told l.watch)
+    CameFirst l.s.limits (world_in l.initial.table l.s) (last_rules l.s.protocols.now.rounds) l.k (g.W.Watch.told l.initial.watch)
+    (g.W.Watch.told l.watch)
     × AreMadeIn l.table l.s l.k l.pieces.items
     × IsReady l.table l.s
     × IsLast l.table l.s l.last

@@ -17,10 +17,12 @@ returns c =
     let ids = c.args.s.now.world.now in
     let f = c.args.own.now.f in
     let (text, is, e) = c.in_ok-system_text.ensures.ok in
-    subst (λ (k : Content). AreMade (IsPiece w k) (maker ids k) (count_of ids k) (f.place + 1) (set c.args.pieces.now.items f.place (Some c.new.result)))
+    subst (λ (k : Content).
+    AreMade (IsPiece w k) (maker ids k) (count_of ids k) (f.place + 1) (set c.args.pieces.now.items f.place (Some c.new.result)))
     (sym c.requires.systems)
     (only_one (IsPiece w Systems) (maker ids Systems) (count_of ids Systems) f.place c.args.pieces.now.items
-    (subst (λ (k : Content). AreMade (IsPiece w k) (maker ids k) (count_of ids k) f.place c.args.pieces.now.items) c.requires.systems c.requires.pieces)
+    (subst (λ (k : Content). AreMade (IsPiece w k) (maker ids k) (count_of ids k) f.place c.args.pieces.now.items)
+    c.requires.systems c.requires.pieces)
     f.place c.requires.machine.signature c.new.result
     (subst (IsSystemText w (signature_at w f)) (sym (c.new.ensures ∙ e ∙ ap (λ (t : List ℕ). t ++ text) c.new-piece.ensures.items)) is)
     (λ k g below by same. ap (λ (x : FuncId). x.place) (same_Some (record { place = k }) g by) ∙ same))

@@ -36,7 +36,8 @@ returns-in-Ok g c =
 
 pub returns : goal.returns
 returns g c =
-    replies_refused c.requires.request c.requires.world c.requires.checks (g.W.Watch.told c.args.watch.now) (g.W.Watch.told c.check.new.watch)
+    replies_refused c.requires.request c.requires.world c.requires.checks (g.W.Watch.told c.args.watch.now)
+    (g.W.Watch.told c.check.new.watch)
     c.in-Err.e c.unchecked.result
     (subst (λ (limits : Limits). Checks limits (world_by c.args.table.now c.args.world.now) (g.W.Watch.told c.args.watch.now)
     (g.W.Watch.told c.check.new.watch) (Err c.in-Err.e)) c.limits_of.ensures c.in-Err.ensures.check) c.unchecked.ensures

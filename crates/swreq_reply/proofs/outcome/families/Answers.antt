@@ -20,7 +20,8 @@ returns-in_err-family_text-in-Ok g c =
 pub returns-in_ok-family_text-in-Ok : goal.returns-in_ok-family_text-in-Ok
 returns-in_ok-family_text-in-Ok g c =
     families_given c.requires.request c.requires.world c.requires.checked.passed c.requires.families
-    (g.W.Watch.told c.args.watch.now) (g.W.Watch.told c.kept_family.new.watch) c.in-Ok.family (Ok (record { status = 0; output = c.new.result }))
+    (g.W.Watch.told c.args.watch.now) (g.W.Watch.told c.kept_family.new.watch) c.in-Ok.family
+    (Ok (record { status = 0; output = c.new.result }))
     (rw c.limits_of.ensures at c.in-Ok.ensures.answer) c.in-Ok.ensures.given
     (refl, rw (c.new.ensures, c.in_ok-family_text-in-Ok.ensures.ok, c.new-out.ensures.items))
 

@@ -12,12 +12,14 @@ lists_wanted-requires g c q member = asked_within c.args.world.now c.args.table.
 pub returns-in_err-wanted : goal.returns-in_err-wanted
 returns-in_err-wanted g c =
     let p = err_from_is_err_and c.from_residual.result c.from_residual.ensures.1 in
-    rw p.1 (finishes_alone c.requires.request c.requires.world c.requires.checked.passed (checks_for_pieces (line_of c.args.r.now).command c.requires.prints)
+    rw p.1 (finishes_alone c.requires.request c.requires.world c.requires.checked.passed
+    (checks_for_pieces (line_of c.args.r.now).command c.requires.prints)
     (g.W.Watch.told c.args.watch.now) {P = λ o. ⊥} (Err p.0) tt (λ o none. absurd none))
 
 pub answered-requires-clause-made : goal.answered-requires-clause-made
 answered-requires-clause-made g c =
-    let same = world_stays c.args.table.now c.minimised_lines.new.table c.minimised_lines.ensures.extends c.args.world.now c.requires.text.table in
+    let same =
+    world_stays c.args.table.now c.minimised_lines.new.table c.minimised_lines.ensures.extends c.args.world.now c.requires.text.table in
     record {
       text = text_stays c.args.table.now c.minimised_lines.new.table c.minimised_lines.ensures.extends c.args.world.now c.requires.text;
       prints = c.requires.prints;

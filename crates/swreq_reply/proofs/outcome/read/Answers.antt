@@ -12,14 +12,16 @@ returns-then-input-gt-TEXT_LIMIT g c =
     let long = c.if-input-gt-TEXT_LIMIT.true in record {
       reply = replies_alone c.args.line.now c.args.input.now (g.W.Watch.told c.args.watch.now) c.refused.result c.refused.ensures
           (λ o is. is_refused (too_long long is refl));
-      refused = λ o told r. IfOk-weaker c.refused.result _ _ (λ answer is. is ∙ sym (long_refused c.args.line.now _ long r)) c.refused.ensures;
+      refused =
+          λ o told r. IfOk-weaker c.refused.result _ _ (λ answer is. is ∙ sym (long_refused c.args.line.now _ long r)) c.refused.ensures;
     }
 
 pub returns-in-None : goal.returns-in-None
 returns-in-None g c =
     let within : length c.args.input.now ≤ 1048576 = omega (arith, c.if-input-gt-TEXT_LIMIT.false) in
     let (two, none) = c.in-None.ensures.parts in record {
-      reply = replies_alone c.args.line.now c.args.input.now (g.W.Watch.told c.args.watch.now) c.refused-in-None.result c.refused-in-None.ensures
+      reply = replies_alone c.args.line.now c.args.input.now
+          (g.W.Watch.told c.args.watch.now) c.refused-in-None.result c.refused-in-None.ensures
           (λ o is. is_refused (in_one_part within two none is refl));
       refused = λ o told r. IfOk-weaker c.refused-in-None.result _ _
           (λ answer is. is ∙ sym (undivided_refused c.args.line.now _ two none within r)) c.refused-in-None.ensures;
@@ -36,7 +38,11 @@ one_verdict-requires g c = rw c.second_at.ensures (rw c.in-Some.ensures.input (o
 
 pub with_source-requires : goal.with_source-requires
 with_source-requires g c = record {
-  parts = record { whole = refl; within = rw c.in-Some.ensures.input (omega (arith, c.if-input-gt-TEXT_LIMIT.false)); divided = c.in-Some.ensures.parts };
+  parts = record {
+    whole = refl;
+    within = rw c.in-Some.ensures.input (omega (arith, c.if-input-gt-TEXT_LIMIT.false));
+    divided = c.in-Some.ensures.parts;
+  };
   limits = c.requires.limits;
   count = c.requires.count;
 }

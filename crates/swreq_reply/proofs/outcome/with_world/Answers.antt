@@ -8,4 +8,5 @@ checked-requires-clause-checks g c e = c.in_default.not-Judgements (c.content_of
 
 pub returns-in-Judgements : goal.returns-in-Judgements
 returns-in-Judgements g c =
-    replies_alone (line_of c.args.r.now) (parts_of c.args.r.now).input (g.W.Watch.told c.args.watch.now) c.judged.result c.judged.ensures (λ o h. h)
+    replies_alone (line_of c.args.r.now) (parts_of c.args.r.now).input
+    (g.W.Watch.told c.args.watch.now) c.judged.result c.judged.ensures (λ o h. h)

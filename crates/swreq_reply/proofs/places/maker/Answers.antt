@@ -8,7 +8,8 @@ use Rattle.swreq_reply.proofs.places.maker.Goals as goal
 
 pub overflow_cast-result : goal.overflow_cast-result
 overflow_cast-result c =
-    let within : c.args.k < length c.args.world.now.signatures = subst (λ (k : Content). c.args.k < count_of c.args.world.now k) c.in-Systems.is c.requires.k in
+    let within : c.args.k < length c.args.world.now.signatures =
+    subst (λ (k : Content). c.args.k < count_of c.args.world.now k) c.in-Systems.is c.requires.k in
     omega (arith, within, c.requires.short.signatures)
 
 pub returns-in-Answers : goal.returns-in-Answers

@@ -10,5 +10,7 @@ loop-k-init c =
 
 pub returns : goal.returns
 returns c =
-    let all : c.loop-k.k ≡ count_of c.args.world.now c.args.content = omega (arith, c.count_of-k-end.ensures, c.loop-k-test.false, c.loop-k.auto.k-end) in
-    subst (λ (n : ℕ). ArePlaces (maker c.args.world.now c.args.content) (length c.args.world.now.signatures) n c.loop-k.places.items) all c.loop-k.invariant
+    let all : c.loop-k.k ≡ count_of c.args.world.now c.args.content =
+    omega (arith, c.count_of-k-end.ensures, c.loop-k-test.false, c.loop-k.auto.k-end) in
+    subst (λ (n : ℕ). ArePlaces (maker c.args.world.now c.args.content) (length c.args.world.now.signatures) n c.loop-k.places.items) all
+    c.loop-k.invariant

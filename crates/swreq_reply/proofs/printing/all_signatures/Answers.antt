@@ -14,11 +14,21 @@ pub loop-k-preserved : goal.loop-k-preserved
 loop-k-preserved c =
     let (line, is, grown) = c.in_ok-put_named.ensures in
     lines_next (IsNamedLine (world_of c.args.m.now)) (world_of c.args.m.now).signatures c.loop-k.k no_signature line _ _
-    (omega (arith, length-map c.args.m.now.world.now.signatures (signature_by c.args.m.now.table.now), c.functions-k-end.ensures, c.loop-k-test.true))
+    (omega (
+      arith,
+      length-map c.args.m.now.world.now.signatures (signature_by c.args.m.now.table.now),
+      c.functions-k-end.ensures,
+      c.loop-k-test.true,
+    ))
     c.loop-k.invariant is grown
 
 pub returns : goal.returns
 returns c =
     lines_all (IsNamedLine (world_of c.args.m.now)) (world_of c.args.m.now).signatures c.loop-k.k _
-    (omega (arith, length-map c.args.m.now.world.now.signatures (signature_by c.args.m.now.table.now), c.functions-k-end.ensures, c.loop-k-test.false))
+    (omega (
+      arith,
+      length-map c.args.m.now.world.now.signatures (signature_by c.args.m.now.table.now),
+      c.functions-k-end.ensures,
+      c.loop-k-test.false,
+    ))
     c.loop-k.invariant

@@ -15,7 +15,8 @@ loop-k-init c = lines_none (IsSystemText (world_of c.args.m.now)) (world_of c.ar
 pub loop-k-preserved : goal.loop-k-preserved
 loop-k-preserved c =
     let m = c.args.m.now in
-    let counted : length m.pieces.now ≡ length m.world.now.signatures = c.requires.whole.pieces.counted ∙ ap (count_of m.world.now) c.requires.systems in
+    let counted : length m.pieces.now ≡ length m.world.now.signatures =
+    c.requires.whole.pieces.counted ∙ ap (count_of m.world.now) c.requires.systems in
     let below : c.loop-k.k < length m.world.now.signatures = omega (arith, counted, c.loop-k-test.true) in
     lines_next (IsSystemText (world_of m)) (world_of m).signatures c.loop-k.k no_signature _ _ _
     (omega (arith, below, length-map m.world.now.signatures (signature_by m.table.now))) c.loop-k.invariant
@@ -25,6 +26,7 @@ loop-k-preserved c =
 pub returns : goal.returns
 returns c =
     let m = c.args.m.now in
-    let counted : length m.pieces.now ≡ length m.world.now.signatures = c.requires.whole.pieces.counted ∙ ap (count_of m.world.now) c.requires.systems in
+    let counted : length m.pieces.now ≡ length m.world.now.signatures =
+    c.requires.whole.pieces.counted ∙ ap (count_of m.world.now) c.requires.systems in
     lines_all (IsSystemText (world_of m)) (world_of m).signatures c.loop-k.k _
     (omega (arith, counted, length-map m.world.now.signatures (signature_by m.table.now), c.loop-k-test.false)) c.loop-k.invariant

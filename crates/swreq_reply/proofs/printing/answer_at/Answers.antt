@@ -10,7 +10,8 @@ use Rattle.swreq_reply.proofs.Printed.{by_list, by_piece}
 use Rattle.swreq_reply.proofs.printing.answer_at.Goals as goal
 
 -- what the query at a place asks is asked of the text
-asks : (qs read : List Query) (k : ℕ) (found o : Option FuncId) → read ≡ qs → found ≡ list_asked (get_or read k (Signature (record { place = 0 })))
+asks : (qs read : List Query) (k : ℕ) (found o : Option FuncId) → read ≡ qs
+    → found ≡ list_asked (get_or read k (Signature (record { place = 0 })))
     → found ≡ o → list_asked (get_or qs k (Signature (record { place = 0 }))) ≡ o
 asks qs read k found o same e is =
     sym (e ∙ ap (λ (all : List Query). list_asked (get_or all k (Signature (record { place = 0 })))) same) ∙ is
@@ -31,6 +32,7 @@ text_at-requires-in-None c = (by_piece c.args.m.now c.requires.whole c.requires.
 
 pub returns-in-None : goal.returns-in-None
 returns-in-None c =
-    subst (IsLineOf (world_of c.args.m.now) true (backing_of c.args.m.now.content) (query_at c.args.m.now c.args.k)) (sym c.text_at-in-None.ensures)
+    subst (IsLineOf (world_of c.args.m.now) true (backing_of c.args.m.now.content) (query_at c.args.m.now c.args.k))
+    (sym c.text_at-in-None.ensures)
     (by_piece c.args.m.now c.requires.whole c.requires.answers.0 c.requires.answers.1 c.args.k c.requires.k
     (asks _ _ _ _ _ c.queries.ensures c.list_asked.ensures c.in-None.is)).1

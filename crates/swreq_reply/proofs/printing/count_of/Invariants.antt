@@ -6,4 +6,5 @@ use Rattle.swreq_reply.specs.Pieces.{world_of}
 use Rattle.swreq_reply.proofs.printing.count_of.Given as goal
 
 abbrev pub invariant-loop-k : goal.invariant-loop-k
-invariant-loop-k l = Counted (HasAnswer (world_of l.m) true (answer_of l.verdict)) (take l.k (world_of l.m).queries) l.count × (l.count ≤ l.k)
+invariant-loop-k l =
+    Counted (HasAnswer (world_of l.m) true (answer_of l.verdict)) (take l.k (world_of l.m).queries) l.count × (l.count ≤ l.k)

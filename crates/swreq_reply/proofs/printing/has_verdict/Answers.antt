@@ -12,7 +12,8 @@ pub returns : goal.returns
 returns c =
     let m = c.args.m.now in
     let tells = tells_verdict (world_of m) (query_at m c.args.k) c.answer_at.result.now
-    (subst (λ (k : Content). IsLineOf (world_of m) true (backing_of k) (query_at m c.args.k) c.answer_at.result.now) c.requires.counts.1 c.answer_at.ensures)
+    (subst (λ (k : Content). IsLineOf (world_of m) true (backing_of k) (query_at m c.args.k) c.answer_at.result.now)
+    c.requires.counts.1 c.answer_at.ensures)
     c.args.verdict in
     let line = c.line.ensures m.world.now.lexicon in
     Decides-like c.eq.result (λ e. tells.0 (e ∙ line)) (λ has. tells.1 has ∙ sym line)

@@ -12,10 +12,12 @@ use Rattle.swreq_reply.specs.declared.content.Content.{Content}
 use Rattle.swreq_reply.proofs.printing.last_answer.Goals as goal
 
 -- the line of the query at the last place answers the last query
-at_end : (w : TextWorld) (qs : List TermQuery) (d : TermQuery) (line : Text) (n : ℕ) → suc n ≡ length qs → IsLineOf w true Nothing (get_or qs n d) line
+at_end : (w : TextWorld) (qs : List TermQuery) (d : TermQuery) (line : Text) (n : ℕ) → suc n ≡ length qs
+    → IsLineOf w true Nothing (get_or qs n d) line
     → AnswersLast w true qs line
 at_end w [] d line n e h = absurd (omega (arith, e))
-at_end w (q ∷ []) d line n e h = let none : n ≡ 0 = omega (arith, e) in subst (λ (k : ℕ). IsLineOf w true Nothing (get_or (q ∷ []) k d) line) none h
+at_end w (q ∷ []) d line n e h =
+    let none : n ≡ 0 = omega (arith, e) in subst (λ (k : ℕ). IsLineOf w true Nothing (get_or (q ∷ []) k d) line) none h
 at_end w (q ∷ r ∷ qs) d line zero e h = absurd (omega (arith, e))
 at_end w (q ∷ r ∷ qs) d line (suc n) e h = at_end w (r ∷ qs) d line n (omega (arith, e)) h
 
@@ -34,8 +36,10 @@ returns c =
     let m = c.args.m.now in
     let count = length c.queries-count.result.now in
     at_end (world_of m) (world_of m).queries _ c.answer_at.result.now (count - 1)
-    (some count (world_of m).queries c.if-count-eq0.false (ap length c.queries-count.ensures ∙ sym (length-map m.world.now.queries (query_by m.table.now))))
-    (subst (λ (k : Content). IsLineOf (world_of m) true (backing_of k) (query_at m (count - 1)) c.answer_at.result.now) c.requires.counts.1 c.answer_at.ensures)
+    (some count (world_of m).queries c.if-count-eq0.false
+    (ap length c.queries-count.ensures ∙ sym (length-map m.world.now.queries (query_by m.table.now))))
+    (subst (λ (k : Content). IsLineOf (world_of m) true (backing_of k) (query_at m (count - 1)) c.answer_at.result.now)
+    c.requires.counts.1 c.answer_at.ensures)
   where
     some : (n : ℕ) (qs : List TermQuery) → n ≢ 0 → n ≡ length qs → suc (n - 1) ≡ length qs
     some n qs other same = omega (arith, other, same)

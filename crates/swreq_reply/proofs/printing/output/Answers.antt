@@ -8,14 +8,17 @@ use Rattle.swreq_reply.proofs.printing.output.Goals as goal
 pub returns-in-Answers : goal.returns-in-Answers
 returns-in-Answers c =
     IfOk-weaker c.shown_answers.result _ _
-    (λ v h parts. subst (λ (k : Content). IsOutput (world_of c.args.m.now) true k parts v.items) (sym c.in-Answers.is) (h parts)) c.shown_answers.ensures
+    (λ v h parts. subst (λ (k : Content). IsOutput (world_of c.args.m.now) true k parts v.items) (sym c.in-Answers.is) (h parts))
+    c.shown_answers.ensures
 
 pub returns-in-Signatures : goal.returns-in-Signatures
 returns-in-Signatures c =
     IfOk-weaker c.all_signatures.result _ _
-    (λ v h parts. subst (λ (k : Content). IsOutput (world_of c.args.m.now) true k parts v.items) (sym c.in-Signatures.is) h) c.all_signatures.ensures
+    (λ v h parts. subst (λ (k : Content). IsOutput (world_of c.args.m.now) true k parts v.items) (sym c.in-Signatures.is) h)
+    c.all_signatures.ensures
 
 pub returns-in-Systems : goal.returns-in-Systems
 returns-in-Systems c =
     IfOk-weaker c.all_systems.result _ _
-    (λ v h parts. subst (λ (k : Content). IsOutput (world_of c.args.m.now) true k parts v.items) (sym c.in-Systems.is) h) c.all_systems.ensures
+    (λ v h parts. subst (λ (k : Content). IsOutput (world_of c.args.m.now) true k parts v.items) (sym c.in-Systems.is) h)
+    c.all_systems.ensures

@@ -16,7 +16,8 @@ returns c =
       name ++ (codes ": " ++ list),
       (list, list_at m c.requires.whole c.requires.signatures c.args.f c.requires.f, refl),
       e ∙ ap (λ (t : List ℕ). c.append_bytes.new.out.items ++ t) c.text_at.ensures
-          ∙ ap (λ (t : List ℕ). t ++ list) (c.in_ok-append_bytes.ensures.ok ∙ ap (λ (t : List ℕ). t ++ codes ": ") c.in_ok-full_name.ensures.ok)
+          ∙ ap (λ (t : List ℕ). t ++ list)
+          (c.in_ok-append_bytes.ensures.ok ∙ ap (λ (t : List ℕ). t ++ codes ": ") c.in_ok-full_name.ensures.ok)
           ∙ append_assoc (c.args.out.now.items ++ name) (codes ": ") list ∙ append_assoc c.args.out.now.items name (codes ": " ++ list),
     ))
     c.append_bytes-2.ensures.ok

@@ -23,4 +23,5 @@ returns-in-Each c =
 pub returns-in-Counts : goal.returns-in-Counts
 returns-in-Counts c =
     IfOk-weaker c.counts.result _ _
-    (λ v counted parts. subst (λ (s : Shown). IsOutput (world_of c.args.m.now) true (Answers s) parts v.items) (sym c.in-Counts.is) counted) c.counts.ensures
+    (λ v counted parts. subst (λ (s : Shown). IsOutput (world_of c.args.m.now) true (Answers s) parts v.items) (sym c.in-Counts.is) counted)
+    c.counts.ensures

@@ -38,6 +38,7 @@ returns c keep made =
     usable_by_words w c.requires.setting.text.closed keep c.args.protocols.now made x.proto c.requires.place.proto r c.usable.result b
     (c.usable.ensures.usable w (kept_facts w keep) r made.usable (place_numbered s.world.now s.table.now x c.requires.place))
     c.if-not-usable.false
-    (subst (λ (z : Word). Decides b (Links rules z (right_side (symbols_of s.world.now.lexicon) (SelfOf x.proto) r))) c.in_ok-sides.ensures.left
+    (subst (λ (z : Word). Decides b (Links rules z (right_side (symbols_of s.world.now.lexicon) (SelfOf x.proto) r)))
+    c.in_ok-sides.ensures.left
     (subst (λ (z : Word). Decides b (Links rules c.in_ok-sides.sides.0 z)) c.in_ok-sides.ensures.right
     (subst (λ z. Decides b (Links z c.in_ok-sides.sides.0 c.in_ok-sides.sides.1)) c.rules.ensures d)))) c.are_linked.ensures

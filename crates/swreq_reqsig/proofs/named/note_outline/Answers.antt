@@ -14,7 +14,8 @@ returns-in-Conformance c =
 pub returns-in-Object : goal.returns-in-Object
 returns-in-Object c =
     let lists = c.args.lists.now in
-    IfOk-weaker c.note-in-Object.result _ _ (λ x h. subst (λ (z : Outline). AreNoted z c.args.k lists c.note-in-Object.new.lists) (sym c.in-Object.is)
+    IfOk-weaker c.note-in-Object.result _ _
+    (λ x h. subst (λ (z : Outline). AreNoted z c.args.k lists c.note-in-Object.new.lists) (sym c.in-Object.is)
     (noted_object c.in-Object.subject c.in-Object.owner c.args.k lists c.note-in-Object.new.lists h)) c.note-in-Object.ensures
 
 pub returns-in_ok-note-in-Equality : goal.returns-in_ok-note-in-Equality

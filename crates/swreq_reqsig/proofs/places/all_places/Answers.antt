@@ -11,7 +11,8 @@ pub loop-k-preserved : goal.loop-k-preserved
 loop-k-preserved c =
     let w = c.args.world.now in
     one_protocol w w.lexicon.written_order c.loop-k.k c.proto_at-p.result c.bare_requirements-list.result.now c.loop-k.all.items
-    c.add_places.new.all.items (all_places w) c.proto_at-p.ensures c.bare_requirements-list.ensures c.in_ok-add_places.ensures c.loop-k.invariant
+    c.add_places.new.all.items (all_places w) c.proto_at-p.ensures c.bare_requirements-list.ensures
+    c.in_ok-add_places.ensures c.loop-k.invariant
 
 pub returns : goal.returns
 returns c =

@@ -8,7 +8,8 @@ loop-left-preserved-then-grew c =
     let w = c.loop-left.invariant.within in record {
       within = omega (arith, w);
       passed = goes_on c.args.places.now c.args.flags.now c.loop-left.left (c.loop-left.left - 1) _ _ c.loop-left.grew c.go_on-added.result
-          c.loop-left.grew c.args.marks.now.items c.loop-left.marks.items c.go_on-added.new.marks.items (omega (arith, t)) w c.requires.flags
+          c.loop-left.grew c.args.marks.now.items c.loop-left.marks.items c.go_on-added.new.marks.items
+          (omega (arith, t)) w c.requires.flags
           c.loop-left.invariant.passed c.go_on-added.ensures.stays c.go_on-added.ensures.added
           (ap (λ b. b || c.go_on-added.result) c.if-grew.true ∙ sym c.if-grew.true);
     }
@@ -19,7 +20,8 @@ loop-left-preserved c =
     let w = c.loop-left.invariant.within in record {
       within = omega (arith, w);
       passed = goes_on c.args.places.now c.args.flags.now c.loop-left.left (c.loop-left.left - 1) _ _ c.loop-left.grew c.go_on-added.result
-          c.go_on-added.result c.args.marks.now.items c.loop-left.marks.items c.go_on-added.new.marks.items (omega (arith, t)) w c.requires.flags
+          c.go_on-added.result c.args.marks.now.items c.loop-left.marks.items c.go_on-added.new.marks.items
+          (omega (arith, t)) w c.requires.flags
           c.loop-left.invariant.passed c.go_on-added.ensures.stays c.go_on-added.ensures.added
           (ap (λ b. b || c.go_on-added.result) c.if-grew.false);
     }

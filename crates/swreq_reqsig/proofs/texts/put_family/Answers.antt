@@ -31,5 +31,6 @@ returns c =
     let w = world_by c.args.table.now c.args.world.now in
     let kept = c.args.family.now.kept in
     lines_done w w.lexicon.written_order kept c.loop-k.k c.loop-k.out.items (c.args.out.now.items ++ family_text w kept)
-    (let a = c.loop-k-test.false in let b = c.protocols-k-end.ensures in let e = c.requires.text.closed.ids.each_once in omega (arith, a, b, e))
+    (let a = c.loop-k-test.false in let b = c.protocols-k-end.ensures in
+    let e = c.requires.text.closed.ids.each_once in omega (arith, a, b, e))
     c.loop-k.invariant

@@ -15,12 +15,14 @@ replace-requires-clause-within c =
     let h = redex_within p.rules c.args.w.now.items c.args.at p.number c.args.rule.now p.redex p.is_rule in
     omega (arith, h, ap length c.symbols.ensures, c.args.w.now.ok.0)
 
-step : (c : After-replace) (rules : List Rule) (number : ℕ) → RuleAt rules number c.args.rule.now → FirstRedex rules c.args.w.now.items c.args.at number
+step : (c : After-replace) (rules : List Rule) (number : ℕ) → RuleAt rules number c.args.rule.now
+    → FirstRedex rules c.args.w.now.items c.args.at number
     → ReductionStep rules c.args.w.now.items c.replace.new.w.items
 step c rules number is redex =
     first_step_is rules c.args.w.now.items c.replace.new.w.items c.args.at number (length c.symbols.result.now) c.args.rule.now redex is
     (ap length c.symbols.ensures)
-    (c.replace.ensures.items ∙ ap (λ r. take c.args.at c.args.w.now.items ++ (r ++ drop (c.args.at + length c.symbols.result.now) c.args.w.now.items)) c.symbols-2.ensures)
+    (c.replace.ensures.items ∙ ap (λ r.
+    take c.args.at c.args.w.now.items ++ (r ++ drop (c.args.at + length c.symbols.result.now) c.args.w.now.items)) c.symbols-2.ensures)
 
 pub returns-clause-step : goal.returns-clause-step
 returns-clause-step c = step c
@@ -28,5 +30,6 @@ returns-clause-step c = step c
 pub returns-clause-no_longer : goal.returns-clause-no_longer
 returns-clause-no_longer c =
     let p = c.requires in
-    let h = less_no_longer c.replace.new.w.items c.args.w.now.items (step_down p.rules _ _ (a_step p.rules _ _ (step c p.rules p.number p.is_rule p.redex))) in
+    let h = less_no_longer c.replace.new.w.items c.args.w.now.items
+    (step_down p.rules _ _ (a_step p.rules _ _ (step c p.rules p.number p.is_rule p.redex))) in
     omega (arith, h, c.replace.new.w.ok.0, c.args.w.now.ok.0)

@@ -25,7 +25,9 @@ returns-clause-stands c =
     let h : head (term_at c.args.table.now c.args.u) ≡ u.head = ap head (sym c.in_ok-owned.ensures) ∙ heads_same (Generic u.head) u.steps in
     let within : k < length c.args.args.now = subst (λ z. place_of c.args.params z < length c.args.args.now) h c.requires.param in
     let read : term_at c.args.table.now (get_or c.args.args.now c.place_of.result first) ≡ of u.head
-    = ap (λ z. term_at c.args.table.now (get_or c.args.args.now z first)) c.place_of.ensures ∙ sym (get_or-map (term_at c.args.table.now) c.args.args.now k first self within) in
+    = ap (λ z. term_at c.args.table.now (get_or c.args.args.now z first)) c.place_of.ensures
+    ∙ sym (get_or-map (term_at c.args.table.now) c.args.args.now k first self within) in
     let e = ap (λ z. with_steps z c.items.result.now) read ∙ (ap (with_steps (of u.head)) c.items.ensures
-    ∙ (sym (substitute_steps of (Generic u.head) u.steps) ∙ ap (with_arguments c.args.params (map (term_at c.args.table.now) c.args.args.now)) c.in_ok-owned.ensures)) in
+    ∙ (sym (substitute_steps of (Generic u.head) u.steps)
+    ∙ ap (with_arguments c.args.params (map (term_at c.args.table.now) c.args.args.now)) c.in_ok-owned.ensures)) in
     IfOk-weaker c.followed.result _ _ (λ id h. h ∙ e) c.followed.ensures.stands

@@ -30,7 +30,8 @@ numbers_of-requires-clause-args c =
     let x = c.args.world.now.lexicon in
     let types = c.in_ok-types.types.items in
     let are : named types ≡ c.args.c.now.args = c.in_ok-types.ensures ∙ c.items.ensures in
-    subst (All (IsTypeIn old x)) (sym c.deref.ensures.value) (all_of_text old x types (subst (All (IsArgumentIn old x)) (sym are) c.requires.call.args))
+    subst (All (IsTypeIn old x)) (sym c.deref.ensures.value)
+    (all_of_text old x types (subst (All (IsArgumentIn old x)) (sym are) c.requires.call.args))
 
 pub numbers_of-requires-clause-list : goal.numbers_of-requires-clause-list
 numbers_of-requires-clause-list c =
@@ -51,9 +52,12 @@ numbers_of-requires-clause-over c =
     let count : n ≡ param_count p
     = ap length c.deref.ensures.value ∙ sym (length-map types (λ (t : TermId). Some t)) ∙ ap length are ∙ c.requires.call.count in
     let over : All (λ (r : Requirement). IsOver (λ h. place_of p h < n) (requirement_of old r)) c.in_ok-list.list.items
-    = λ k d l. over_places p n count _ (of_callee old w g c.in_ok-list.list.items c.in_ok-list.ensures c.requires.text c.requires.call.callee k d l).1 in
-    subst (λ (rs : List Requirement). All (λ (r : Requirement). IsOver (λ h. place_of c.params.result h < n) (requirement_of old r)) rs) (sym c.deref-2.ensures.value)
-    (subst (λ (q : Params). All (λ (r : Requirement). IsOver (λ h. place_of q h < n) (requirement_of old r)) c.in_ok-list.list.items) (sym c.params.ensures) over)
+    = λ k d l. over_places p n count _
+    (of_callee old w g c.in_ok-list.list.items c.in_ok-list.ensures c.requires.text c.requires.call.callee k d l).1 in
+    subst (λ (rs : List Requirement). All (λ (r : Requirement). IsOver (λ h. place_of c.params.result h < n) (requirement_of old r)) rs)
+    (sym c.deref-2.ensures.value)
+    (subst (λ (q : Params). All (λ (r : Requirement). IsOver (λ h. place_of q h < n) (requirement_of old r)) c.in_ok-list.list.items)
+    (sym c.params.ensures) over)
 
 pub returns-clause-failing : goal.returns-clause-failing
 returns-clause-failing c =
@@ -77,7 +81,8 @@ returns-clause-failing c =
       ts,
       (
         are,
-        same_failing (facts_of v) (written_list f) c.requires.machine.params params (ap (map (term_at old)) c.deref.ensures.value) rs numbers.items
+        same_failing (facts_of v) (written_list f) c.requires.machine.params params
+            (ap (map (term_at old)) c.deref.ensures.value) rs numbers.items
             (h (written_list f) c.requires.machine.machine),
       ),
     ))

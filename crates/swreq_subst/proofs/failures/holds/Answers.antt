@@ -21,7 +21,8 @@ derives-requires-clause-r c =
     let by = c.args.by.now in
     let x = by.world.now.lexicon in (
       c.in_ok-requirement.ensures.ids,
-      subst (IsRequirementOf x) (sym c.in_ok-requirement.ensures.stands) (requirement_of_text x old by.args.now c.requires.args by.params (requirement_of old c.args.r) c.requires.r.1),
+      subst (IsRequirementOf x) (sym c.in_ok-requirement.ensures.stands)
+          (requirement_of_text x old by.args.now c.requires.args by.params (requirement_of old c.args.r) c.requires.r.1),
     )
 
 pub returns-clause-holds : goal.returns-clause-holds
@@ -31,7 +32,9 @@ returns-clause-holds c =
     let m = c.args.by.now.machine.now in
     let w = c.args.by.now.world.now in
     let same = world_stays old new c.requirement_with.ensures.extends w c.requires.text.table in
-    let here = subst (λ (v : TextWorld). IfOk c.derives.result (λ b. (list : List TermRequirement) → IsMachineOf v list m → IsTrue b ↔ IsDerivable v m list (Requires (requirement_of new c.in_ok-requirement.requirement))))
+    let here = subst (λ (v : TextWorld). IfOk c.derives.result (λ b. (list : List TermRequirement) → IsMachineOf v list m
+    → IsTrue b ↔ IsDerivable v m list (Requires (requirement_of new c.in_ok-requirement.requirement))))
     same c.derives.ensures in
-    subst (λ (r : TermRequirement). IfOk c.derives.result (λ b. (list : List TermRequirement) → IsMachineOf (world_by old w) list m → IsTrue b ↔ IsDerivable (world_by old w) m list (Requires r)))
+    subst (λ (r : TermRequirement). IfOk c.derives.result (λ b.
+    (list : List TermRequirement) → IsMachineOf (world_by old w) list m → IsTrue b ↔ IsDerivable (world_by old w) m list (Requires r)))
     c.in_ok-requirement.ensures.stands here

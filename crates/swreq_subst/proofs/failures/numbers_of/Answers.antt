@@ -33,7 +33,8 @@ loop-k-init c =
     let rs = listed old c.args.list.now in
     record {
       extends = unchanged old;
-      failing = λ given h. subst (AreFailingUpTo (facts_of w) (Written (generic_params by.machine.now.params) given) by.params args rs 0) (sym c.new-numbers.ensures.items)
+      failing = λ given h. subst (AreFailingUpTo (facts_of w) (Written (generic_params by.machine.now.params) given) by.params args rs 0)
+          (sym c.new-numbers.ensures.items)
           (none_yet (facts_of w) (Written (generic_params by.machine.now.params) given) by.params args rs);
     }
 
@@ -42,18 +43,21 @@ holds-requires-clause-text c = text_stays c.args.table.now c.loop-k.table c.loop
 
 pub holds-requires-clause-args : goal.holds-requires-clause-args
 holds-requires-clause-args c =
-    types_in_stay c.args.table.now c.loop-k.table c.loop-k.invariant.extends c.args.by.now.world.now.lexicon c.args.by.now.args.now c.requires.args
+    types_in_stay c.args.table.now c.loop-k.table c.loop-k.invariant.extends c.args.by.now.world.now.lexicon
+    c.args.by.now.args.now c.requires.args
 
 pub holds-requires-clause-r : goal.holds-requires-clause-r
 holds-requires-clause-r c =
-    requirement_in_stays c.args.table.now c.loop-k.table c.loop-k.invariant.extends c.args.by.now.world.now.lexicon (get_or c.args.list.now c.loop-k.k no_requirement)
+    requirement_in_stays c.args.table.now c.loop-k.table c.loop-k.invariant.extends c.args.by.now.world.now.lexicon
+    (get_or c.args.list.now c.loop-k.k no_requirement)
     (c.requires.list c.loop-k.k no_requirement c.loop-k-test.true)
 
 pub holds-requires-clause-over : goal.holds-requires-clause-over
 holds-requires-clause-over c =
     let known = c.requires.list c.loop-k.k no_requirement c.loop-k-test.true in
     subst (IsOver (λ g. place_of c.args.by.now.params g < length c.args.by.now.args.now))
-    (sym (requirement_stays c.args.table.now c.loop-k.table c.loop-k.invariant.extends (get_or c.args.list.now c.loop-k.k no_requirement) known.0))
+    (sym (requirement_stays c.args.table.now c.loop-k.table c.loop-k.invariant.extends
+    (get_or c.args.list.now c.loop-k.k no_requirement) known.0))
     (c.requires.over c.loop-k.k no_requirement c.loop-k-test.true)
 
 pub loop-k-preserved : goal.loop-k-preserved
@@ -72,18 +76,25 @@ loop-k-preserved c =
     let b = c.in_ok-holds.holds in
     let known = c.requires.list k no_requirement c.loop-k-test.true in
     let same = world_stays old mid more by.world.now c.requires.text.table in
-    let args = types_stay old mid more types (All-weaker (IsTypeIn old by.world.now.lexicon) (IsOf old) (λ t h. h.0) types c.requires.args) in
+    let args =
+    types_stay old mid more types (All-weaker (IsTypeIn old by.world.now.lexicon) (IsOf old) (λ t h. h.0) types c.requires.args) in
     let required = requirement_stays old mid more r known.0 in
-    let here = subst (λ (u : TextWorld). (given : List TermRequirement) → IsMachineOf u given m → IsTrue b ↔ IsDerivable u m given (Requires (requirement_with p (map (term_at mid) types) (requirement_of mid r))))
+    let here = subst (λ (u : TextWorld). (given : List TermRequirement) → IsMachineOf u given m
+    → IsTrue b ↔ IsDerivable u m given (Requires (requirement_with p (map (term_at mid) types) (requirement_of mid r))))
     same c.in_ok-holds.ensures.holds in
-    let typed = subst (λ (ts : List Term). (given : List TermRequirement) → IsMachineOf v given m → IsTrue b ↔ IsDerivable v m given (Requires (requirement_with p ts (requirement_of mid r)))) args here in
-    let answer = subst (λ (q : TermRequirement). (given : List TermRequirement) → IsMachineOf v given m → IsTrue b ↔ IsDerivable v m given (Requires (requirement_with p (map (term_at old) types) q))) required typed in
+    let typed = subst (λ (ts : List Term). (given : List TermRequirement) → IsMachineOf v given m
+    → IsTrue b ↔ IsDerivable v m given (Requires (requirement_with p ts (requirement_of mid r)))) args here in
+    let answer = subst (λ (q : TermRequirement). (given : List TermRequirement) → IsMachineOf v given m
+    → IsTrue b ↔ IsDerivable v m given (Requires (requirement_with p (map (term_at old) types) q))) required typed in
     let next : suc k ≡ k + 1 = omega arith in
     record {
       extends = onward old mid c.holds.new.table more c.holds.ensures.extends;
-      failing = λ given h. subst (λ n. AreFailingUpTo (facts_of v) (Written (generic_params m.params) given) p (map (term_at old) types) rs n c.note.new.numbers.items) next
-          (noted (facts_of v) (Written (generic_params m.params) given) p (map (term_at old) types) rs k (k + 1) c.loop-k.numbers.items c.note.new.numbers.items (requirement_of old r) b
-          (c.loop-k.invariant.failing given h) (has_number old c.args.list.now k no_requirement c.loop-k-test.true) (sym next) (answer given h) c.in_ok-note.ensures);
+      failing = λ given h. subst (λ n. AreFailingUpTo (facts_of v) (Written (generic_params m.params) given) p
+          (map (term_at old) types) rs n c.note.new.numbers.items) next
+          (noted (facts_of v) (Written (generic_params m.params) given) p (map (term_at old) types) rs k
+          (k + 1) c.loop-k.numbers.items c.note.new.numbers.items (requirement_of old r) b
+          (c.loop-k.invariant.failing given h) (has_number old c.args.list.now k no_requirement c.loop-k-test.true) (sym next)
+          (answer given h) c.in_ok-note.ensures);
     }
 
 pub returns-clause-failing : goal.returns-clause-failing
@@ -94,7 +105,8 @@ returns-clause-failing c given h =
     let low = c.loop-k-test.false in
     let high = c.loop-k.auto.k-end in
     let last : c.loop-k.k ≡ length rs = omega (arith, length-map c.args.list.now (requirement_of old), low, high) in
-    subst (λ n. AreFailingUpTo (facts_of (world_by old by.world.now)) (Written (generic_params by.machine.now.params) given) by.params (map (term_at old) by.args.now) rs n c.loop-k.numbers.items) last
+    subst (λ n. AreFailingUpTo (facts_of (world_by old by.world.now)) (Written (generic_params by.machine.now.params) given) by.params
+    (map (term_at old) by.args.now) rs n c.loop-k.numbers.items) last
     (c.loop-k.invariant.failing given h)
 
 pub returns-clause-extends : goal.returns-clause-extends

@@ -14,6 +14,7 @@ abbrev pub invariant-loop-k : goal.invariant-loop-k
 invariant-loop-k l = record {
   extends : Extends l.initial.table l.table;
   failing : (given : List TermRequirement) → IsMachineOf (world_by l.initial.table l.by.world.now) given l.by.machine.now
-      → AreFailingUpTo (facts_of (world_by l.initial.table l.by.world.now)) (Written (generic_params l.by.machine.now.params) given) l.by.params
+      → AreFailingUpTo (facts_of (world_by l.initial.table l.by.world.now))
+      (Written (generic_params l.by.machine.now.params) given) l.by.params
       (map (term_at l.initial.table) l.by.args.now) (listed l.initial.table l.list) l.k l.numbers.items;
 }

@@ -27,10 +27,14 @@ returns-then-not-branch-clause-line c =
     let list = written_list (signature_at v c.args.c.now.f) in
     let answer = c.in_ok-are_valid.ensures list c.requires.machine.machine in
     let is_false : c.in_ok-are_valid.field-0 ≡ false = (let n = c.if-not-branch.true in cc) in
-    let wrong = subst (λ b. MatchBool b (AreAllValid (IsDerivable v m list) old c.items.result.now) (IsOneInvalid (IsDerivable v m list) old c.items.result.now)) is_false answer in
+    let wrong = subst (λ b. MatchBool b (AreAllValid (IsDerivable v m list) old c.items.result.now)
+    (IsOneInvalid (IsDerivable v m list) old c.items.result.now)) is_false answer in
     let here = subst (IsOneInvalid (IsDerivable v m list) old) c.items.ensures wrong in
-    let of_source = subst (λ (ps : Params). IsOneInvalid (Derivable (facts_of v) (Written (generic_params ps) list)) old c.args.c.now.args) c.requires.machine.params here in
-    on_ok c.append_bytes.result (λ e. (codes "invalid\n", inl (one_invalid v (call_by old c.args.c.now) old c.args.c.now.args refl of_source, refl), e)) c.append_bytes.ensures.ok
+    let of_source = subst (λ (ps : Params). IsOneInvalid (Derivable (facts_of v) (Written (generic_params ps) list)) old c.args.c.now.args)
+    c.requires.machine.params here in
+    on_ok c.append_bytes.result
+    (λ e. (codes "invalid\n", inl (one_invalid v (call_by old c.args.c.now) old c.args.c.now.args refl of_source, refl), e))
+    c.append_bytes.ensures.ok
 
 pub failing-requires-clause-there : goal.failing-requires-clause-there
 failing-requires-clause-there c =
@@ -40,7 +44,8 @@ failing-requires-clause-there c =
     let list = written_list (signature_at v c.args.c.now.f) in
     let answer = c.in_ok-are_valid.ensures list c.requires.machine.machine in
     let is_true : c.in_ok-are_valid.field-0 ≡ true = (let n = c.if-not-branch.false in cc) in
-    let right = subst (λ b. MatchBool b (AreAllValid (IsDerivable v m list) old c.items.result.now) (IsOneInvalid (IsDerivable v m list) old c.items.result.now)) is_true answer in
+    let right = subst (λ b. MatchBool b (AreAllValid (IsDerivable v m list) old c.items.result.now)
+    (IsOneInvalid (IsDerivable v m list) old c.items.result.now)) is_true answer in
     all_there (IsDerivable v m list) old c.args.c.now.args (subst (AreAllValid (IsDerivable v m list) old) c.items.ensures right)
 
 pub put_verdict-requires-clause-ids : goal.put_verdict-requires-clause-ids
@@ -60,7 +65,8 @@ put_verdict-requires-clause-numbers c =
     let (ts, (are, failing)) = c.in_ok-numbers.ensures.failing in
     let size = list_size old w g c.in_ok-list.list.items c.in_ok-list.ensures ∙ sym (ap length c.deref.ensures.value) in
     subst (All (λ n. (0 < n) × (n ≤ length c.deref.result.now))) (sym c.deref-2.ensures.value)
-    (numbers_within (facts_of v) (source_of (signature_at v c.args.c.now.f)) (signature_at v g).params ts (written_list (signature_at v g)) (length c.deref.result.now)
+    (numbers_within (facts_of v) (source_of (signature_at v c.args.c.now.f)) (signature_at v g).params ts (written_list (signature_at v g))
+    (length c.deref.result.now)
     c.in_ok-numbers.numbers.items size failing)
 
 pub returns-clause-line : goal.returns-clause-line
@@ -78,16 +84,21 @@ returns-clause-line c =
     let ns = c.in_ok-numbers.numbers.items in
     let answer = c.in_ok-are_valid.ensures (written_list f) c.requires.machine.machine in
     let is_true : c.in_ok-are_valid.field-0 ≡ true = (let n = c.if-not-branch.false in cc) in
-    let right = subst (λ b. MatchBool b (AreAllValid (IsDerivable v m (written_list f)) old c.items.result.now) (IsOneInvalid (IsDerivable v m (written_list f)) old c.items.result.now)) is_true answer in
+    let right = subst (λ b. MatchBool b (AreAllValid (IsDerivable v m (written_list f)) old c.items.result.now)
+    (IsOneInvalid (IsDerivable v m (written_list f)) old c.items.result.now)) is_true answer in
     let here = subst (AreAllValid (IsDerivable v m (written_list f)) old) c.items.ensures right in
-    let valid = subst (λ (ps : Params). AreAllValid (Derivable (facts_of v) (Written (generic_params ps) (written_list f))) old args) c.requires.machine.params here in
+    let valid = subst (λ (ps : Params). AreAllValid (Derivable (facts_of v) (Written (generic_params ps) (written_list f))) old args)
+    c.requires.machine.params here in
     let (ts, (are, failing)) = c.in_ok-numbers.ensures.failing in
     let world = world_stays old new c.failing.ensures.extends w c.requires.text.table in
     let same : listed new c.deref.result.now ≡ rs
-    = ap (listed new) c.deref.ensures.value ∙ sym (list_is new w g list c.in_ok-list.ensures) ∙ ap (λ (u : TextWorld). written_list (signature_at u g)) world in
-    let names = ap (λ (x : LexiconView). c.new-line.result.items ++ verdict_text x (listed new c.deref.result.now) c.deref-2.result.now) c.lexicon.ensures in
+    = ap (listed new) c.deref.ensures.value ∙ sym (list_is new w g list c.in_ok-list.ensures)
+    ∙ ap (λ (u : TextWorld). written_list (signature_at u g)) world in
+    let names = ap (λ (x : LexiconView). c.new-line.result.items ++ verdict_text x (listed new c.deref.result.now) c.deref-2.result.now)
+    c.lexicon.ensures in
     let begun = ap (λ z. z ++ verdict_text w.lexicon (listed new c.deref.result.now) c.deref-2.result.now) c.new-line.ensures.items in
-    let text = c.in_ok-put_verdict.ensures ∙ names ∙ begun ∙ ap (λ (z : List TermRequirement). verdict_text w.lexicon z c.deref-2.result.now) same
+    let text =
+    c.in_ok-put_verdict.ensures ∙ names ∙ begun ∙ ap (λ (z : List TermRequirement). verdict_text w.lexicon z c.deref-2.result.now) same
     ∙ ap (verdict_text w.lexicon rs) c.deref-2.ensures.value in
     on_ok c.append_bytes-2.result
     (λ e. (

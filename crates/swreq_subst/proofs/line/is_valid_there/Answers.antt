@@ -9,6 +9,7 @@ use Rattle.swreq_subst.proofs.line.is_valid_there.Goals as goal
 
 pub returns-in-Some : goal.returns-in-Some
 returns-in-Some c =
-    subst (λ (a : Option TermId). IfOk c.is_valid.result (λ b. (list : List TermRequirement) → IsMachineOf (world_by c.args.table.now c.args.world.now) list c.args.machine.now
+    subst (λ (a : Option TermId). IfOk c.is_valid.result
+    (λ b. (list : List TermRequirement) → IsMachineOf (world_by c.args.table.now c.args.world.now) list c.args.machine.now
     → IsTrue b ↔ IsValidThere (IsDerivable (world_by c.args.table.now c.args.world.now) c.args.machine.now list) c.args.table.now a))
     (sym c.in-Some.is) c.is_valid.ensures

@@ -7,4 +7,5 @@ pub params-requires : goal.params-requires
 params-requires c =
     let text = c.args.text.now in
     let d = c.args.c.now in
-    ((c.requires.signatures (option_map (word text) d.callee_outer) (word text d.callee) c.in-Some.g).0 (sym c.func_called.ensures ∙ c.in-Some.is)).0
+    ((c.requires.signatures (option_map (word text) d.callee_outer) (word text d.callee) c.in-Some.g).0
+    (sym c.func_called.ensures ∙ c.in-Some.is)).0

@@ -9,4 +9,5 @@ returns-in-Ok c = sym (ap (least c.args.best) c.in-Ok.ensures.answer)
 
 pub returns-in-Err : goal.returns-in-Err
 returns-in-Err c =
-    c.earlier.ensures ∙ first_after c.args.best (of_type_on c.args.d.now c.args.signature c.args.text.now c.args.t.now) c.in-Err.r c.in-Err.ensures.answer
+    c.earlier.ensures
+    ∙ first_after c.args.best (of_type_on c.args.d.now c.args.signature c.args.text.now c.args.t.now) c.in-Err.r c.in-Err.ensures.answer

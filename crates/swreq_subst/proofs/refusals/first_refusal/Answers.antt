@@ -9,11 +9,13 @@ loop-k-preserved c =
     let w = c.args.world.now in
     let text = c.args.text.now in
     let calls = c.args.calls.now in
-    more_parts (of_call w text) calls c.loop-k.k c.index-calls-k.result c.loop-k.best c.check_call-best.result (least None (refusals w text calls)) c.loop-k-test.true
+    more_parts (of_call w text) calls c.loop-k.k c.index-calls-k.result c.loop-k.best c.check_call-best.result
+    (least None (refusals w text calls)) c.loop-k-test.true
     c.index-calls-k.is c.check_call-best.ensures c.loop-k.invariant
 
 pub returns : goal.returns
 returns c =
     let calls = c.args.calls.now in
-    all_parts (of_call c.args.world.now c.args.text.now) calls c.loop-k.k c.loop-k.best (least None (refusals c.args.world.now c.args.text.now calls)) c.loop-k-test.false
+    all_parts (of_call c.args.world.now c.args.text.now) calls c.loop-k.k c.loop-k.best
+    (least None (refusals c.args.world.now c.args.text.now calls)) c.loop-k-test.false
     c.loop-k.invariant

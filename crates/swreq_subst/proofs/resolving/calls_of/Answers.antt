@@ -13,7 +13,8 @@ use Rattle.swreq_subst.proofs.resolving.calls_of.Goals as goal
 pub call_of-requires-clause-resolves : goal.call_of-requires-clause-resolves
 call_of-requires-clause-resolves c =
     subst (λ (d : CallDecl). of_call c.args.world.now c.args.text.now d ≡ []) (sym c.index-calls-k.is)
-    (nothing_of_each (of_call c.args.world.now c.args.text.now) c.args.calls.now c.loop-k.k c.index-calls-k.result c.requires.resolve c.loop-k-test.true)
+    (nothing_of_each (of_call c.args.world.now c.args.text.now) c.args.calls.now c.loop-k.k c.index-calls-k.result
+    c.requires.resolve c.loop-k-test.true)
 
 pub loop-k-preserved : goal.loop-k-preserved
 loop-k-preserved c =
@@ -33,7 +34,8 @@ loop-k-preserved c =
           (sym (meant_next (call_by old) (call_by new) found all call (calls_stay old new more w found i.known) c.in_ok-push.ensures.items))
           (next_one (SaysCall w text) (map (call_by old) found) c.args.calls.now c.loop-k.k (call_by new call) c.index-calls-k.result
           c.loop-k-test.true c.index-calls-k.is i.say c.in_ok-call.ensures.says);
-      known = known_next (IsCallIn new w) found all call (calls_in_stay old new more w found i.known) c.in_ok-call.ensures.known c.in_ok-push.ensures.items;
+      known = known_next (IsCallIn new w) found all call
+          (calls_in_stay old new more w found i.known) c.in_ok-call.ensures.known c.in_ok-push.ensures.items;
     }
 
 pub returns-clause-say : goal.returns-clause-say
@@ -42,4 +44,5 @@ returns-clause-say c =
     (take_all c.loop-k.k c.args.calls.now c.loop-k-test.false) c.loop-k.invariant.say
 
 pub returns-in_err-call-clause-extends : goal.returns-in_err-call-clause-extends
-returns-in_err-call-clause-extends c = onward c.args.table.now c.loop-k.table c.call_of.new.table c.loop-k.invariant.extends c.call_of.ensures.extends
+returns-in_err-call-clause-extends c =
+    onward c.args.table.now c.loop-k.table c.call_of.new.table c.loop-k.invariant.extends c.call_of.ensures.extends

@@ -12,7 +12,11 @@ calls_of-requires-clause-resolve c = none_refused (refusals c.args.world.now c.a
 
 pub returns-in-Some-clause-refused : goal.returns-in-Some-clause-refused
 returns-in-Some-clause-refused c =
-    inl (c.in-Some.r, least_is_first (refusals c.args.world.now c.args.text.now c.args.calls.now) c.in-Some.r (sym c.in-Some.ensures), c.error_of.ensures)
+    inl (
+      c.in-Some.r,
+      least_is_first (refusals c.args.world.now c.args.text.now c.args.calls.now) c.in-Some.r (sym c.in-Some.ensures),
+      c.error_of.ensures,
+    )
 
 pub returns-in-Some-clause-refuses : goal.returns-in-Some-clause-refuses
 returns-in-Some-clause-refuses c e (r, first, is) =
@@ -25,4 +29,5 @@ returns-in-Ok-clause-ok c = λ _. none_refused (refusals c.args.world.now c.args
 
 pub returns-in-Ok-clause-refuses : goal.returns-in-Ok-clause-refuses
 returns-in-Ok-clause-refuses c e (r, first, is) =
-    no_member r (subst (λ (qs : List Refusal). Contains qs r) (none_refused (refusals c.args.world.now c.args.text.now c.args.calls.now) (sym c.in-None.ensures)) first.is)
+    no_member r (subst (λ (qs : List Refusal). Contains qs r)
+    (none_refused (refusals c.args.world.now c.args.text.now c.args.calls.now) (sym c.in-None.ensures)) first.is)

@@ -39,17 +39,23 @@ loop-k-preserved c =
     let all = c.push.new.self.items in
     record {
       extends = onward first old new i.extends more;
-      say = subst (λ (z : List (Option Term)). OneByOne (SaysArgument w c.args.text.now c.args.f) z (take (c.loop-k.k + 1) c.args.types.now))
-          (sym (meant_next (option_map (term_at old)) (option_map (term_at new)) found all a (arguments_stay old new more w.lexicon found i.known) c.in_ok-push.ensures.items))
-          (next_one (SaysArgument w c.args.text.now c.args.f) (map (option_map (term_at old)) found) c.args.types.now c.loop-k.k (option_map (term_at new) a) c.index-types-k.result
+      say =
+          subst (λ (z : List (Option Term)). OneByOne (SaysArgument w c.args.text.now c.args.f) z (take (c.loop-k.k + 1) c.args.types.now))
+          (sym (meant_next (option_map (term_at old)) (option_map (term_at new)) found all a
+          (arguments_stay old new more w.lexicon found i.known) c.in_ok-push.ensures.items))
+          (next_one (SaysArgument w c.args.text.now c.args.f) (map (option_map (term_at old)) found) c.args.types.now c.loop-k.k
+          (option_map (term_at new) a) c.index-types-k.result
           c.loop-k-test.true c.index-types-k.is i.say c.in_ok-argument.ensures.says);
-      known = known_next (IsArgumentIn new w.lexicon) found all a (arguments_in_stay old new more w.lexicon found i.known) c.in_ok-argument.ensures.known c.in_ok-push.ensures.items;
+      known = known_next (IsArgumentIn new w.lexicon) found all a
+          (arguments_in_stay old new more w.lexicon found i.known) c.in_ok-argument.ensures.known c.in_ok-push.ensures.items;
     }
 
 pub returns-clause-say : goal.returns-clause-say
 returns-clause-say c =
-    subst (λ (z : List TypeDecl). OneByOne (SaysArgument c.args.world.now c.args.text.now c.args.f) (map (option_map (term_at c.loop-k.table)) c.loop-k.found.items) z)
+    subst (λ (z : List TypeDecl).
+    OneByOne (SaysArgument c.args.world.now c.args.text.now c.args.f) (map (option_map (term_at c.loop-k.table)) c.loop-k.found.items) z)
     (take_all c.loop-k.k c.args.types.now c.loop-k-test.false) c.loop-k.invariant.say
 
 pub returns-in_err-argument-clause-extends : goal.returns-in_err-argument-clause-extends
-returns-in_err-argument-clause-extends c = onward c.args.table.now c.loop-k.table c.type_of.new.table c.loop-k.invariant.extends c.type_of.ensures.extends
+returns-in_err-argument-clause-extends c =
+    onward c.args.table.now c.loop-k.table c.type_of.new.table c.loop-k.invariant.extends c.type_of.ensures.extends

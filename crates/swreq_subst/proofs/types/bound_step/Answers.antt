@@ -17,7 +17,12 @@ returns c =
     let (i, at, declares_it) = declared_there text (declared w) p a (protocol_of (declared w) (word text p)) c.requires.resolves in
     let has = c.requires.ids.associated (word text p) (word text a) i at declares_it in
     let says : SaysAssociated text x (assoc_by x.associated (proto_by x.protocols (word text p)) (name_by x.names (word text a))) p a
-    = record { pair = pair (proto_by x.protocols (word text p)) (name_by x.names (word text a)); there = has.associated; protocol = has.protocol; name = has.name } in
+    = record {
+      pair = pair (proto_by x.protocols (word text p)) (name_by x.names (word text a));
+      there = has.associated;
+      protocol = has.protocol;
+      name = has.name;
+    } in
     let names = c.lexicon-lexicon.ensures in
     let proto = c.proto_id-p.ensures ∙ (λ i. proto_by (names i).protocols (c.word.ensures i)) in
     let name = c.name_id-a.ensures ∙ (λ i. name_by (names i).names (c.word-2.ensures i)) in

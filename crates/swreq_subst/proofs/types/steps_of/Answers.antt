@@ -9,7 +9,8 @@ use Rattle.swreq_subst.proofs.types.steps_of.Goals as goal
 
 pub step_of-requires-clause-resolves : goal.step_of-requires-clause-resolves
 step_of-requires-clause-resolves c =
-    nothing_of_each (of_step c.args.text.now (declared c.args.world.now)) c.args.steps.now c.loop-k.k (Plain (record { start = 0; end = 0 })) c.requires.resolve c.loop-k-test.true
+    nothing_of_each (of_step c.args.text.now (declared c.args.world.now)) c.args.steps.now c.loop-k.k
+    (Plain (record { start = 0; end = 0 })) c.requires.resolve c.loop-k-test.true
 
 pub loop-k-preserved : goal.loop-k-preserved
 loop-k-preserved c =

@@ -15,7 +15,10 @@ returns-clause-known c =
     let w = c.args.world.now in
     let x = w.lexicon in
     let steps = c.in-Some-2.steps.items in
-    let found = subst (λ o. MatchOption o (HasUnknown w text c.items.result.now) (λ v. SaySteps text x v.items c.items.result.now)) c.in-Some-2.is c.in_ok-steps.ensures in
+    let found = subst (λ o. MatchOption o (HasUnknown w text c.items.result.now) (λ v. SaySteps text x v.items c.items.result.now))
+    c.in-Some-2.is c.in_ok-steps.ensures in
     let says = subst (λ (ds : List StepDecl). SaySteps text x steps ds) c.items.ensures found in
-    let stands = c.in_ok-id.ensures.stands ∙ ap₂ with_steps c.in_ok-head.ensures.ok.stands c.deref.ensures.value in
-    (c.in_ok-id.ensures.id, subst (IsTermOf x) (sym stands) (term_of_text text x (Generic c.in-Some.param) steps c.args.t.now.steps tt says))
+    let stands = c.in_ok-id.ensures.stands ∙ ap₂ with_steps c.in_ok-head.ensures.ok.stands c.deref.ensures.value in (
+      c.in_ok-id.ensures.id,
+      subst (IsTermOf x) (sym stands) (term_of_text text x (Generic c.in-Some.param) steps c.args.t.now.steps tt says),
+    )

@@ -25,11 +25,29 @@ add_members-requires t c =
     = ap (without rest) c.without-front.ensures.front ∙ without_both rest half c.args.count whole (omega arith) in
     let size : member_count front ≡ member_count whole - half = ap member_count c.without-front.ensures.front ∙ count_without half whole in
     let front_in : IsTypeIn by.table.now by.world.now.lexicon c.without-front.result
-    = (c.without-front.ensures.there, subst (IsTermOf by.world.now.lexicon) (sym c.without-front.ensures.front) (of_text_without by.world.now.lexicon half whole c.requires.t.1)) in
-    let base = subst (ShowsValid (symbols_of by.world.now.lexicon) (facts_of (world_by by.table.now by.world.now)) (source_over by.over) (Links by.rules.now)) (sym same) c.requires.base.valid in
-    let linked = subst (λ z. Links by.rules.now (word_of (symbols_of by.world.now.lexicon) (source_over by.over) z) c.args.word.now.items) (sym same) c.requires.base.linked in (
+    = (
+      c.without-front.ensures.there,
+      subst (IsTermOf by.world.now.lexicon) (sym c.without-front.ensures.front)
+          (of_text_without by.world.now.lexicon half whole c.requires.t.1),
+    ) in
+    let base = subst (ShowsValid (symbols_of by.world.now.lexicon) (facts_of (world_by by.table.now by.world.now)) (source_over by.over)
+    (Links by.rules.now)) (sym same) c.requires.base.valid in
+    let linked = subst (λ z. Links by.rules.now (word_of (symbols_of by.world.now.lexicon) (source_over by.over) z) c.args.word.now.items)
+    (sym same) c.requires.base.linked in (
       omega (arith, c.decreases, c.if-count-eq0.false),
-      (c.requires.text, (front_in, (omega (arith, size, c.requires.count), (record { valid = base; linked = linked; least = c.requires.base.least }, (omega (arith, c.requires.fits.0), omega (arith, c.requires.fits.1)))))),
+      (
+        c.requires.text,
+        (
+          front_in,
+          (
+            omega (arith, size, c.requires.count),
+            (
+              record { valid = base; linked = linked; least = c.requires.base.least },
+              (omega (arith, c.requires.fits.0), omega (arith, c.requires.fits.1)),
+            ),
+          ),
+        ),
+      ),
     )
 
 pub returns-then-not-add_members-clause-valid : goal.returns-then-not-add_members-clause-valid
@@ -38,7 +56,8 @@ returns-then-not-add_members-clause-valid t c =
     let whole = term_at by.table.now c.args.t in (
       (λ h. cc),
       (λ h. c.if-not-add_members.ensures.valid.1
-          (subst (ShowsValid (symbols_of by.world.now.lexicon) (facts_of (world_by by.table.now by.world.now)) (source_over by.over) (Links by.rules.now))
+          (subst (ShowsValid (symbols_of by.world.now.lexicon) (facts_of (world_by by.table.now by.world.now))
+          (source_over by.over) (Links by.rules.now))
           (sym c.without-front.ensures.front)
           (valid_without (world_by by.table.now by.world.now) (source_over by.over) by.rules.now (c.args.count / 2) whole h))),
     )

@@ -12,5 +12,9 @@ returns-in_err-extend_from_slice-clause-rest g c =
     let came : length more ≡ n = length-take-le n c.read.new.buf c.in-Ok.ensures.count in (
       length bytes + n,
       omega (arith, c.in-Ok.ensures.count, c.read.auto.buf, length-take c.min-want.result c.loop-buf.buf),
-      (bytes ++ more, Consumes-trans _ _ _ bytes more c.loop-buf.invariant.so_far c.in-Ok.ensures.next, length-append bytes more ∙ omega (arith, came)),
+      (
+        bytes ++ more,
+        Consumes-trans _ _ _ bytes more c.loop-buf.invariant.so_far c.in-Ok.ensures.next,
+        length-append bytes more ∙ omega (arith, came),
+      ),
     )

@@ -7,5 +7,6 @@ pub loop-at-preserved : goal.loop-at-preserved
 loop-at-preserved g c = record {
   within = omega (arith, c.in-Ok.ensures.count);
   uncounted = c.in-Ok.ensures.uncounted ∙ c.loop-at.invariant.uncounted;
-  so_far = Appends-more _ _ _ c.args.bytes.now _ c.loop-at.at c.in-Ok.n (grind (arith, common_steps)) c.loop-at.invariant.so_far c.in-Ok.ensures.appended;
+  so_far = Appends-more _ _ _ c.args.bytes.now _ c.loop-at.at c.in-Ok.n
+      (grind (arith, common_steps)) c.loop-at.invariant.so_far c.in-Ok.ensures.appended;
 }

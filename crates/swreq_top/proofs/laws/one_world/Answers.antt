@@ -6,4 +6,5 @@ use Rattle.swreq_top.proofs.laws.one_world.Goals as goal
 pub returns : goal.returns
 returns c = λ w v f g.
     c.world_is_one.ensures g.skeleton w v
-    (subst (λ (s : Skeleton). IsWorldOf c.args.text.now s w) (c.one_skeleton.ensures f.skeleton g.skeleton f.stands g.stands) f.world) g.world
+    (subst (λ (s : Skeleton). IsWorldOf c.args.text.now s w)
+    (c.one_skeleton.ensures f.skeleton g.skeleton f.stands g.stands) f.world) g.world

@@ -8,5 +8,6 @@ pub returns-in-None : goal.returns-in-None
 returns-in-None c =
     let ends = c.args.ends.now.items in
     marked_first ends _ c.args.node c.args.number c.requires
-    (subst (λ x. slice_get ends c.args.node ≡ Some x) c.in-None.is (slice_get_read ends (length ends) c.args.node c.index.result.now refl c.requires c.index.ensures))
+    (subst (λ x. slice_get ends c.args.node ≡ Some x) c.in-None.is
+    (slice_get_read ends (length ends) c.args.node c.index.result.now refl c.requires c.index.ensures))
     refl

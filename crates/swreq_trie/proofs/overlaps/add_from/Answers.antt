@@ -8,8 +8,10 @@ loop-spot-init c = gains_start c.args.spots.now (IsFromKey c.args.number c.args.
 
 pub loop-spot-preserved : goal.loop-spot-preserved
 loop-spot-preserved c =
-    gains_more c.args.spots.now (IsFromKey c.args.number c.args.at c.args.long c.args.depth) c.loop-spot.spot-index _ c.loop-spot-test.true c.args.keys.now.items c.loop-spot.keys.items
+    gains_more c.args.spots.now (IsFromKey c.args.number c.args.at c.args.long c.args.depth) c.loop-spot.spot-index _ c.loop-spot-test.true
+    c.args.keys.now.items c.loop-spot.keys.items
     c.add_from_one.new.keys.items c.loop-spot.invariant c.in_ok-add_from_one.ensures
 
 pub returns : goal.returns
-returns c = gains_all c.args.spots.now (IsFromKey c.args.number c.args.at c.args.long c.args.depth) c.loop-spot.spot-index (omega arith) c.args.keys.now.items c.loop-spot.keys.items c.loop-spot.invariant
+returns c = gains_all c.args.spots.now (IsFromKey c.args.number c.args.at c.args.long c.args.depth) c.loop-spot.spot-index
+    (omega arith) c.args.keys.now.items c.loop-spot.keys.items c.loop-spot.invariant

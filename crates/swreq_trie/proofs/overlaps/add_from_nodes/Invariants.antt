@@ -6,5 +6,6 @@ use Rattle.swreq_trie.proofs.overlaps.add_from_nodes.Given as goal
 
 abbrev pub invariant-loop-met : goal.invariant-loop-met
 invariant-loop-met l = Gains
-    (GainedBelow l.nodes (λ met key. (spot : Spot) × IsListed l.lists met.node spot × IsFromKey l.number l.at l.long met.depth spot key) l.met-index)
+    (GainedBelow l.nodes
+    (λ met key. (spot : Spot) × IsListed l.lists met.node spot × IsFromKey l.number l.at l.long met.depth spot key) l.met-index)
     l.initial.keys.items l.keys.items

@@ -8,8 +8,10 @@ loop-spot-init c = gains_start c.args.spots.now (IsInsideKey c.args.entries.now 
 
 pub loop-spot-preserved : goal.loop-spot-preserved
 loop-spot-preserved c =
-    gains_more c.args.spots.now (IsInsideKey c.args.entries.now c.args.left.now c.args.number) c.loop-spot.spot-index _ c.loop-spot-test.true c.args.keys.now.items c.loop-spot.keys.items
+    gains_more c.args.spots.now (IsInsideKey c.args.entries.now c.args.left.now c.args.number) c.loop-spot.spot-index _
+    c.loop-spot-test.true c.args.keys.now.items c.loop-spot.keys.items
     c.add_inside.new.keys.items c.loop-spot.invariant c.in_ok-add_inside.ensures
 
 pub returns : goal.returns
-returns c = gains_all c.args.spots.now (IsInsideKey c.args.entries.now c.args.left.now c.args.number) c.loop-spot.spot-index (omega arith) c.args.keys.now.items c.loop-spot.keys.items c.loop-spot.invariant
+returns c = gains_all c.args.spots.now (IsInsideKey c.args.entries.now c.args.left.now c.args.number) c.loop-spot.spot-index
+    (omega arith) c.args.keys.now.items c.loop-spot.keys.items c.loop-spot.invariant

@@ -11,7 +11,8 @@ loop-list-preserved c =
     let lists = c.args.lists.now in
     let is = c.list-item.is in
     let read : c.list-item.result ≡ get_or lists c.loop-list.list-index c.list-item.result = cc in
-    copies_more lists c.loop-list.copies.items c.push.new.self.items c.loop-list.list-index c.list-item.result c.in_ok-from_slice.field-0 c.loop-list-test.true
+    copies_more lists c.loop-list.copies.items c.push.new.self.items c.loop-list.list-index c.list-item.result
+    c.in_ok-from_slice.field-0 c.loop-list-test.true
     c.loop-list.invariant
     (c.in_ok-from_slice.ensures.items ∙ c.deref.ensures.value ∙ (λ i. (read i).items))
     c.in_ok-push.ensures.items

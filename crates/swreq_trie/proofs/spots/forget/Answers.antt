@@ -10,7 +10,8 @@ pub loop-node-preserved : goal.loop-node-preserved
 loop-node-preserved c =
     let lists = c.loop-node.lists.items in
     let many = c.loop-node.invariant.as_many in
-    forgotten_more c.args.lists.now.items lists _ c.args.side c.loop-node.node c.loop-node.invariant c.index_mut.result.now c.retain.new.list
+    forgotten_more c.args.lists.now.items lists _ c.args.side c.loop-node.node c.loop-node.invariant
+    c.index_mut.result.now c.retain.new.list
     (slice_get_read lists (length lists) c.loop-node.node c.index_mut.result.now refl (omega (arith, many)) c.index_mut.ensures.value) refl
     (retained c.index_mut.result.now.items c.retain.new.list.items c.args.side c.retain.ensures)
 

@@ -59,5 +59,6 @@ loop-at-preserved c =
 
 pub returns-clause-spots : goal.returns-clause-spots
 returns-clause-spots c =
-    all_inside c.loop-at.edges c.loop-at.inside.items c.args.side (record { left = c.args.left.now; number = c.args.number }) c.loop-at.at (omega arith)
+    all_inside c.loop-at.edges c.loop-at.inside.items c.args.side
+    (record { left = c.args.left.now; number = c.args.number }) c.loop-at.at (omega arith)
     c.loop-at.invariant.spots

@@ -4,7 +4,8 @@ use Rattle.swreq_trie.proofs.walk.find.Goals as goal
 
 pub returns-in-None-clause-found : goal.returns-in-None-clause-found
 returns-in-None-clause-found c v =
-    none_told c.args.w.now v c.args.edges.now c.args.ends.now c.loop-k.k c.loop-k.node c.loop-k.invariant.walked c.loop-k.invariant.none _ (omega arith)
+    none_told c.args.w.now v c.args.edges.now c.args.ends.now c.loop-k.k c.loop-k.node c.loop-k.invariant.walked
+    c.loop-k.invariant.none _ (omega arith)
     c.requires c.in-None.ensures.found
 
 pub returns-in-Some-end_at-clause-found : goal.returns-in-Some-end_at-clause-found

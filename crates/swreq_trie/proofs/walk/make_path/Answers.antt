@@ -47,12 +47,14 @@ loop-symbol-preserved c =
     let new = c.make_step.new in
     let left = c.args.left.now in
     let n = c.loop-symbol.symbol-index in
-    let walked : Leads new.edges 0 (take (n + 1) left) c.in_ok-node.node = leads_on_in old.edges new.edges c.make_step.ensures.grown left n _ c.loop-symbol-test.true
+    let walked : Leads new.edges 0 (take (n + 1) left) c.in_ok-node.node =
+    leads_on_in old.edges new.edges c.make_step.ensures.grown left n _ c.loop-symbol-test.true
     old.node c.in_ok-node.node i.walked c.in_ok-node.ensures.child in
     record {
       walked = walked;
       listed = passing_on new.edges new.passing.items c.args.begin left n c.in_ok-node.node
-          (passing_kept old.edges new.edges old.passing.items new.passing.items c.make_step.ensures.grown c.make_step.ensures.passing c.args.begin left n i.listed)
+          (passing_kept old.edges new.edges old.passing.items new.passing.items c.make_step.ensures.grown c.make_step.ensures.passing
+          c.args.begin left n i.listed)
           walked c.in_ok-node.ensures.listed;
       only = only_on (λ m s. (s ≡ c.args.begin) × IsOnWay old.edges left m) (λ m s. (s ≡ c.args.begin) × IsChild new.edges old.node _ m)
           (λ m s. (s ≡ c.args.begin) × IsOnWay new.edges left m) c.args.passing.now.items old.passing.items new.passing.items

@@ -6,23 +6,29 @@ use Rattle.swreq_trie.proofs.Index.{passing_kept, way_kept}
 use Rattle.swreq_trie.proofs.walk.make_way.Goals as goal
 
 pub returns-clause-leads : goal.returns-clause-leads
-returns-clause-leads c = leads_kept c.make_path.new.edges c.add_inside.new.edges c.add_inside.ensures.grown c.args.side.now.left.now 0 c.in_ok-node.node c.in_ok-node.ensures.leads
+returns-clause-leads c = leads_kept c.make_path.new.edges c.add_inside.new.edges c.add_inside.ensures.grown c.args.side.now.left.now 0
+    c.in_ok-node.node c.in_ok-node.ensures.leads
 
 pub returns-clause-listed : goal.returns-clause-listed
 returns-clause-listed c =
-    passing_kept c.make_path.new.edges c.add_inside.new.edges c.make_path.new.passing.items c.make_path.new.passing.items c.add_inside.ensures.grown
+    passing_kept c.make_path.new.edges c.add_inside.new.edges c.make_path.new.passing.items c.make_path.new.passing.items
+    c.add_inside.ensures.grown
     (keeps_itself c.make_path.new.passing.items) _ c.args.side.now.left.now (length c.args.side.now.left.now) c.in_ok-node.ensures.listed
 
 pub returns-clause-passes : goal.returns-clause-passes
 returns-clause-passes c =
     let begin = begin_of c.args.side.now.index (record { left = c.args.side.now.left.now; number = c.args.side.now.number }) in
-    only_like (λ n s. (s ≡ begin) × IsOnWay c.make_path.new.edges c.args.side.now.left.now n) (λ n s. (s ≡ begin) × IsOnWay c.add_inside.new.edges c.args.side.now.left.now n)
+    only_like (λ n s. (s ≡ begin) × IsOnWay c.make_path.new.edges c.args.side.now.left.now n)
+    (λ n s. (s ≡ begin) × IsOnWay c.add_inside.new.edges c.args.side.now.left.now n)
     c.args.passing.now.items c.make_path.new.passing.items
-    (λ n s h. (h.0, way_kept c.make_path.new.edges c.add_inside.new.edges c.add_inside.ensures.grown c.args.side.now.left.now n h.1)) c.make_path.ensures.only
+    (λ n s h. (h.0, way_kept c.make_path.new.edges c.add_inside.new.edges c.add_inside.ensures.grown c.args.side.now.left.now n h.1))
+    c.make_path.ensures.only
 
 pub returns-in_err-add_inside-clause-passes : goal.returns-in_err-add_inside-clause-passes
 returns-in_err-add_inside-clause-passes c =
     let begin = begin_of c.args.side.now.index (record { left = c.args.side.now.left.now; number = c.args.side.now.number }) in
-    only_like (λ n s. (s ≡ begin) × IsOnWay c.make_path.new.edges c.args.side.now.left.now n) (λ n s. (s ≡ begin) × IsOnWay c.add_inside.new.edges c.args.side.now.left.now n)
+    only_like (λ n s. (s ≡ begin) × IsOnWay c.make_path.new.edges c.args.side.now.left.now n)
+    (λ n s. (s ≡ begin) × IsOnWay c.add_inside.new.edges c.args.side.now.left.now n)
     c.args.passing.now.items c.make_path.new.passing.items
-    (λ n s h. (h.0, way_kept c.make_path.new.edges c.add_inside.new.edges c.add_inside.ensures.grown c.args.side.now.left.now n h.1)) c.make_path.ensures.only
+    (λ n s h. (h.0, way_kept c.make_path.new.edges c.add_inside.new.edges c.add_inside.ensures.grown c.args.side.now.left.now n h.1))
+    c.make_path.ensures.only

@@ -18,7 +18,8 @@ returns-in_err-tell-clause-err g c =
 pub loop-k-init : goal.loop-k-init
 loop-k-init g c =
     let told = g.W.Watch.told in (
-      subst (GrewBy (told c.args.watch.now) (told c.tell.new.self)) (sym (start_alone c.args.base c.args.rules.now)) c.in_ok-tell.ensures.ok,
+      subst (GrewBy (told c.args.watch.now) (told c.tell.new.self))
+          (sym (start_alone c.args.base c.args.rules.now)) c.in_ok-tell.ensures.ok,
       omega arith,
     )
 
@@ -39,7 +40,8 @@ loop-k-preserved g c =
     let from = c.loop-k.invariant.1 in (
       subst (GrewBy (told c.args.watch.now) (told c.tell_birth.new.watch))
           (sym (one_birth c.args.base c.loop-k.k c.args.rules.now c.rule.result.now from c.rule.ensures))
-          (grew_on (told c.args.watch.now) (told c.loop-k.watch) (told c.tell_birth.new.watch) (events c.args.base (take c.loop-k.k c.args.rules.now)) _
+          (grew_on (told c.args.watch.now) (told c.loop-k.watch) (told c.tell_birth.new.watch)
+          (events c.args.base (take c.loop-k.k c.args.rules.now)) _
           c.loop-k.invariant.0 c.in_ok-tell_birth.ensures.ok),
       omega (arith, from),
     )

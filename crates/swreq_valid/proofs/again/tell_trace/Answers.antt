@@ -19,7 +19,8 @@ returns-in_err-tell-clause-err g c =
 pub loop-k-init : goal.loop-k-init
 loop-k-init g c =
     let told = g.W.Watch.told in (
-      subst (GrewBy (told c.args.watch.now) (told c.tell.new.self)) (sym (start_alone c.args.base c.args.trace.now)) c.in_ok-tell.ensures.ok,
+      subst (GrewBy (told c.args.watch.now) (told c.tell.new.self))
+          (sym (start_alone c.args.base c.args.trace.now)) c.in_ok-tell.ensures.ok,
       omega arith,
     )
 
@@ -40,8 +41,10 @@ loop-k-preserved g c =
     let from = c.loop-k.invariant.1 in (
       subst (GrewBy (told c.args.watch.now) (told c.tell_birth.new.watch))
           (sym (one_birth c.args.base c.loop-k.k c.args.trace.now c.index-trace-k.result from
-          (slice_get_read c.args.trace.now (length c.args.trace.now) c.loop-k.k c.index-trace-k.result refl c.loop-k-test.true c.index-trace-k.is)))
-          (grew_on (told c.args.watch.now) (told c.loop-k.watch) (told c.tell_birth.new.watch) (events c.args.base (take c.loop-k.k c.args.trace.now)) _
+          (slice_get_read c.args.trace.now
+          (length c.args.trace.now) c.loop-k.k c.index-trace-k.result refl c.loop-k-test.true c.index-trace-k.is)))
+          (grew_on (told c.args.watch.now) (told c.loop-k.watch) (told c.tell_birth.new.watch)
+          (events c.args.base (take c.loop-k.k c.args.trace.now)) _
           c.loop-k.invariant.0 c.in_ok-tell_birth.ensures.ok),
       omega (arith, from),
     )

@@ -5,4 +5,5 @@ use Rattle.swreq_valid.proofs.basic.basic.Given as goal
 
 abbrev pub invariant-loop-k : goal.invariant-loop-k
 invariant-loop-k l =
-    l.v.items ++ basic_of (symbols_of l.world.lexicon) (drop l.k l.world.lexicon.written_order) ≡ basic_equations (symbols_of l.world.lexicon)
+    l.v.items ++ basic_of (symbols_of l.world.lexicon) (drop l.k l.world.lexicon.written_order)
+    ≡ basic_equations (symbols_of l.world.lexicon)

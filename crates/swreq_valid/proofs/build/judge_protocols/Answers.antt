@@ -9,5 +9,6 @@ pub returns-in_ok-protocols-in-None-clause-judged : goal.returns-in_ok-protocols
 returns-in_ok-protocols-in-None-clause-judged c =
     let w = world_by c.args.table.now c.args.world.now in (
       ap (λ z. last_rules z) c.in_ok-protocols-in-None.ensures.same,
-      subst (λ r. HoldsOfEach (IsShownSide (symbols_of w.lexicon) (facts_of w) r) (protocol_sides w)) c.last.ensures (rw c.in-None.is at c.in_ok-found.ensures),
+      subst (λ r. HoldsOfEach (IsShownSide (symbols_of w.lexicon) (facts_of w) r) (protocol_sides w)) c.last.ensures
+          (rw c.in-None.is at c.in_ok-found.ensures),
     )

@@ -8,5 +8,6 @@ conforms-requires-clause-proto c =
 
 pub returns : goal.returns
 returns c =
-    assoc_result c.args.by.now.world.now.lexicon c.args.by.now.rules.now c.args.by.now.over (term_at c.args.by.now.table.now c.args.t) c.args.d
+    assoc_result c.args.by.now.world.now.lexicon c.args.by.now.rules.now c.args.by.now.over
+    (term_at c.args.by.now.table.now c.args.t) c.args.d
     c.assoc-declared.result c.conforms.result c.assoc-declared.ensures c.conforms.ensures

@@ -12,37 +12,59 @@ use Rattle.swreq_valid.proofs.kept.run_kept.Goals as goal
 
 pub run-requires-clause-wanted : goal.run-requires-clause-wanted
 run-requires-clause-wanted g c =
-    kept_all_wanted c.args.world.now c.args.table.now c.args.keep.now.lists c.requires.text c.requires.keep c.in_ok-all.all.items c.in_ok-all.ensures
+    kept_all_wanted c.args.world.now c.args.table.now c.args.keep.now.lists c.requires.text c.requires.keep
+    c.in_ok-all.all.items c.in_ok-all.ensures
 
 pub returns-clause-answer : goal.returns-clause-answer
 returns-clause-answer g c =
-    subst (λ p. Answers c.args.limits p (g.W.Watch.told c.args.watch.now) (g.W.Watch.told c.run.new.watch) (rules_of c.run.result)) (kept_plan_is c.args.world.now c.args.table.now c.args.keep.now.lists c.requires.text c.requires.keep [] (record { basic = c.in_ok-basic.basic; all = c.in_ok-all.all; limits = c.args.limits }) refl c.in_ok-basic.ensures c.in_ok-all.ensures)
-    (answers_over c.args.limits (plan_of c.args.world.now c.args.table.now [] (record { basic = c.in_ok-basic.basic; all = c.in_ok-all.all; limits = c.args.limits })) (kept_facts (world_by c.args.table.now c.args.world.now) c.args.keep.now.lists) refl (g.W.Watch.told c.args.watch.now) (g.W.Watch.told c.run.new.watch) (rules_of c.run.result) c.run.ensures.answer)
+    subst (λ p. Answers c.args.limits p (g.W.Watch.told c.args.watch.now) (g.W.Watch.told c.run.new.watch) (rules_of c.run.result))
+    (kept_plan_is c.args.world.now c.args.table.now c.args.keep.now.lists c.requires.text c.requires.keep []
+    (record { basic = c.in_ok-basic.basic; all = c.in_ok-all.all; limits = c.args.limits }) refl c.in_ok-basic.ensures c.in_ok-all.ensures)
+    (answers_over c.args.limits
+    (plan_of c.args.world.now c.args.table.now [] (record { basic = c.in_ok-basic.basic; all = c.in_ok-all.all; limits = c.args.limits }))
+    (kept_facts (world_by c.args.table.now c.args.world.now) c.args.keep.now.lists) refl (g.W.Watch.told c.args.watch.now)
+    (g.W.Watch.told c.run.new.watch) (rules_of c.run.result) c.run.ensures.answer)
 
 pub returns-clause-only : goal.returns-clause-only
 returns-clause-only g c =
-    subst (λ p. IsOnlyOutcome c.args.limits p (rules_of c.run.result)) (kept_plan_is c.args.world.now c.args.table.now c.args.keep.now.lists c.requires.text c.requires.keep [] (record { basic = c.in_ok-basic.basic; all = c.in_ok-all.all; limits = c.args.limits }) refl c.in_ok-basic.ensures c.in_ok-all.ensures)
-    (only_over c.args.limits (plan_of c.args.world.now c.args.table.now [] (record { basic = c.in_ok-basic.basic; all = c.in_ok-all.all; limits = c.args.limits })) (kept_facts (world_by c.args.table.now c.args.world.now) c.args.keep.now.lists) refl (rules_of c.run.result) c.run.ensures.only)
+    subst (λ p. IsOnlyOutcome c.args.limits p (rules_of c.run.result))
+    (kept_plan_is c.args.world.now c.args.table.now c.args.keep.now.lists c.requires.text c.requires.keep []
+    (record { basic = c.in_ok-basic.basic; all = c.in_ok-all.all; limits = c.args.limits }) refl c.in_ok-basic.ensures c.in_ok-all.ensures)
+    (only_over c.args.limits
+    (plan_of c.args.world.now c.args.table.now [] (record { basic = c.in_ok-basic.basic; all = c.in_ok-all.all; limits = c.args.limits }))
+    (kept_facts (world_by c.args.table.now c.args.world.now) c.args.keep.now.lists) refl (rules_of c.run.result) c.run.ensures.only)
 
 pub returns-clause-rounds : goal.returns-clause-rounds
 returns-clause-rounds g c =
-    subst (λ p. IfOk c.run.result (AreRounds c.args.limits p)) (kept_plan_is c.args.world.now c.args.table.now c.args.keep.now.lists c.requires.text c.requires.keep [] (record { basic = c.in_ok-basic.basic; all = c.in_ok-all.all; limits = c.args.limits }) refl c.in_ok-basic.ensures c.in_ok-all.ensures)
-    (ok_rounds_over c.args.limits (plan_of c.args.world.now c.args.table.now [] (record { basic = c.in_ok-basic.basic; all = c.in_ok-all.all; limits = c.args.limits })) (kept_facts (world_by c.args.table.now c.args.world.now) c.args.keep.now.lists) refl c.run.result c.run.ensures.rounds)
+    subst (λ p. IfOk c.run.result (AreRounds c.args.limits p))
+    (kept_plan_is c.args.world.now c.args.table.now c.args.keep.now.lists c.requires.text c.requires.keep []
+    (record { basic = c.in_ok-basic.basic; all = c.in_ok-all.all; limits = c.args.limits }) refl c.in_ok-basic.ensures c.in_ok-all.ensures)
+    (ok_rounds_over c.args.limits
+    (plan_of c.args.world.now c.args.table.now [] (record { basic = c.in_ok-basic.basic; all = c.in_ok-all.all; limits = c.args.limits }))
+    (kept_facts (world_by c.args.table.now c.args.world.now) c.args.keep.now.lists) refl c.run.result c.run.ensures.rounds)
 
 pub returns-clause-rules : goal.returns-clause-rules
 returns-clause-rules g c =
-    kept_rules (world_by c.args.table.now c.args.world.now) c.requires.text.closed c.args.keep.now.lists c.args.limits (g.W.Watch.told c.args.watch.now) (g.W.Watch.told c.run.new.watch) c.run.result
-    (subst (λ p. Answers c.args.limits p (g.W.Watch.told c.args.watch.now) (g.W.Watch.told c.run.new.watch) (rules_of c.run.result)) (kept_plan_is c.args.world.now c.args.table.now c.args.keep.now.lists c.requires.text c.requires.keep [] (record { basic = c.in_ok-basic.basic; all = c.in_ok-all.all; limits = c.args.limits }) refl c.in_ok-basic.ensures c.in_ok-all.ensures)
-    (answers_over c.args.limits (plan_of c.args.world.now c.args.table.now [] (record { basic = c.in_ok-basic.basic; all = c.in_ok-all.all; limits = c.args.limits })) (kept_facts (world_by c.args.table.now c.args.world.now) c.args.keep.now.lists) refl (g.W.Watch.told c.args.watch.now) (g.W.Watch.told c.run.new.watch) (rules_of c.run.result) c.run.ensures.answer))
+    kept_rules (world_by c.args.table.now c.args.world.now) c.requires.text.closed c.args.keep.now.lists c.args.limits
+    (g.W.Watch.told c.args.watch.now) (g.W.Watch.told c.run.new.watch) c.run.result
+    (subst (λ p. Answers c.args.limits p (g.W.Watch.told c.args.watch.now) (g.W.Watch.told c.run.new.watch) (rules_of c.run.result))
+    (kept_plan_is c.args.world.now c.args.table.now c.args.keep.now.lists c.requires.text c.requires.keep []
+    (record { basic = c.in_ok-basic.basic; all = c.in_ok-all.all; limits = c.args.limits }) refl c.in_ok-basic.ensures c.in_ok-all.ensures)
+    (answers_over c.args.limits
+    (plan_of c.args.world.now c.args.table.now [] (record { basic = c.in_ok-basic.basic; all = c.in_ok-all.all; limits = c.args.limits }))
+    (kept_facts (world_by c.args.table.now c.args.world.now) c.args.keep.now.lists) refl (g.W.Watch.told c.args.watch.now)
+    (g.W.Watch.told c.run.new.watch) (rules_of c.run.result) c.run.ensures.answer))
 
 pub returns-in_err-basic-clause-answer : goal.returns-in_err-basic-clause-answer
 returns-in_err-basic-clause-answer g c =
     let p = err_from_is_err_and c.from_residual.result c.from_residual.ensures.1 in
     rw (p.1, p.2)
-    (nothing_told c.args.limits (kept_plan (world_by c.args.table.now c.args.world.now) c.args.keep.now.lists) (g.W.Watch.told c.args.watch.now))
+    (nothing_told c.args.limits (kept_plan (world_by c.args.table.now c.args.world.now) c.args.keep.now.lists)
+    (g.W.Watch.told c.args.watch.now))
 
 pub returns-in_err-all-clause-answer : goal.returns-in_err-all-clause-answer
 returns-in_err-all-clause-answer g c =
     let p = err_from_is_err_and c.from_residual-in_err-all.result c.from_residual-in_err-all.ensures.1 in
     rw (p.1, p.2)
-    (nothing_told c.args.limits (kept_plan (world_by c.args.table.now c.args.world.now) c.args.keep.now.lists) (g.W.Watch.told c.args.watch.now))
+    (nothing_told c.args.limits (kept_plan (world_by c.args.table.now c.args.world.now) c.args.keep.now.lists)
+    (g.W.Watch.told c.args.watch.now))

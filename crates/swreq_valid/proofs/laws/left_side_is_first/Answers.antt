@@ -6,5 +6,6 @@ use Rattle.swreq_valid.proofs.laws.left_side_is_first.Goals as goal
 
 pub returns : goal.returns
 returns c f s t u left right at n h =
-    let first = head_fails (IsValidSide f) (record { source = s; term = t; at = left }) (record { source = s; term = u; at = right } ∷ []) left n refl in
+    let first = head_fails (IsValidSide f) (record { source = s; term = t; at = left })
+    (record { source = s; term = u; at = right } ∷ []) left n refl in
     one_first (IsValidSide f) (sides_at s (Equals t u) left right) at left h first

@@ -6,7 +6,8 @@ use Rattle.swreq_valid.proofs.machine.in_signature.Goals as goal
 pub loop-k-preserved : goal.loop-k-preserved
 loop-k-preserved c =
     part_more (map (in_signature c.args.params)) (λ r. in_signature c.args.params r ∷ []) refl (λ r rs. refl) c.args.list.now c.loop-k.k _
-    c.loop-k.wanted.items c.push.new.self.items (map (in_signature c.args.params) c.args.list.now) c.loop-k-test.true c.in_ok-push.ensures.items c.loop-k.invariant
+    c.loop-k.wanted.items c.push.new.self.items
+    (map (in_signature c.args.params) c.args.list.now) c.loop-k-test.true c.in_ok-push.ensures.items c.loop-k.invariant
 
 pub returns : goal.returns
 returns c =

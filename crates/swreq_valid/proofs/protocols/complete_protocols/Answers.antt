@@ -12,9 +12,11 @@ returns-in-Some-clause-answer g c = c.in-Some.ensures (protocols_of (world_by c.
 pub returns-in-Some-clause-only : goal.returns-in-Some-clause-only
 returns-in-Some-clause-only g c =
     let plan = protocols_of (world_by c.args.table.now c.args.world.now) in
-    only c.args.limits plan (g.W.Watch.told c.args.watch.now) (g.W.Watch.told c.limit_of_basic.new.watch) (Err c.in-Some.failed) (c.in-Some.ensures plan refl refl)
+    only c.args.limits plan (g.W.Watch.told c.args.watch.now) (g.W.Watch.told c.limit_of_basic.new.watch) (Err c.in-Some.failed)
+    (c.in-Some.ensures plan refl refl)
 
 pub returns-in-None-clause-answer : goal.returns-in-None-clause-answer
 returns-in-None-clause-answer g c =
-    subst (λ z. Answers c.args.limits (protocols_of (world_by c.args.table.now c.args.world.now)) z (g.W.Watch.told c.run_protocols.new.watch) (rules_of c.run_protocols.result))
+    subst (λ z. Answers c.args.limits (protocols_of (world_by c.args.table.now c.args.world.now)) z
+    (g.W.Watch.told c.run_protocols.new.watch) (rules_of c.run_protocols.result))
     c.in-None.ensures c.run_protocols.ensures.answer

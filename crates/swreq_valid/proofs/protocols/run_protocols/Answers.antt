@@ -13,18 +13,29 @@ run-requires-clause-wanted g c =
     protocols_wanted_all c.args.world.now c.args.table.now c.requires.text c.in_ok-all.all.items c.in_ok-all.ensures
 
 pub returns-clause-answer : goal.returns-clause-answer
-returns-clause-answer g c = subst (λ p. Answers c.args.limits p (g.W.Watch.told c.args.watch.now) (g.W.Watch.told c.run.new.watch) (rules_of c.run.result)) (protocols_plan_is c.args.world.now c.args.table.now [] (record { basic = c.in_ok-basic.basic; all = c.in_ok-all.all; limits = c.args.limits }) refl c.in_ok-basic.ensures c.in_ok-all.ensures) c.run.ensures.answer
+returns-clause-answer g c = subst (λ p. Answers c.args.limits p (g.W.Watch.told c.args.watch.now)
+    (g.W.Watch.told c.run.new.watch) (rules_of c.run.result)) (protocols_plan_is c.args.world.now c.args.table.now []
+    (record { basic = c.in_ok-basic.basic; all = c.in_ok-all.all; limits = c.args.limits }) refl c.in_ok-basic.ensures c.in_ok-all.ensures)
+    c.run.ensures.answer
 
 pub returns-clause-only : goal.returns-clause-only
-returns-clause-only g c = subst (λ p. IsOnlyOutcome c.args.limits p (rules_of c.run.result)) (protocols_plan_is c.args.world.now c.args.table.now [] (record { basic = c.in_ok-basic.basic; all = c.in_ok-all.all; limits = c.args.limits }) refl c.in_ok-basic.ensures c.in_ok-all.ensures) c.run.ensures.only
+returns-clause-only g c = subst (λ p. IsOnlyOutcome c.args.limits p (rules_of c.run.result)) (protocols_plan_is c.args.world.now
+    c.args.table.now [] (record { basic = c.in_ok-basic.basic; all = c.in_ok-all.all; limits = c.args.limits }) refl c.in_ok-basic.ensures
+    c.in_ok-all.ensures) c.run.ensures.only
 
 pub returns-clause-rounds : goal.returns-clause-rounds
-returns-clause-rounds g c = subst (λ p. IfOk c.run.result (AreRounds c.args.limits p)) (protocols_plan_is c.args.world.now c.args.table.now [] (record { basic = c.in_ok-basic.basic; all = c.in_ok-all.all; limits = c.args.limits }) refl c.in_ok-basic.ensures c.in_ok-all.ensures) c.run.ensures.rounds
+returns-clause-rounds g c = subst (λ p. IfOk c.run.result (AreRounds c.args.limits p)) (protocols_plan_is c.args.world.now
+    c.args.table.now [] (record { basic = c.in_ok-basic.basic; all = c.in_ok-all.all; limits = c.args.limits }) refl c.in_ok-basic.ensures
+    c.in_ok-all.ensures) c.run.ensures.rounds
 
 pub returns-clause-rules : goal.returns-clause-rules
 returns-clause-rules g c =
-    protocols_rules (world_by c.args.table.now c.args.world.now) c.requires.text.closed c.args.limits (g.W.Watch.told c.args.watch.now) (g.W.Watch.told c.run.new.watch) c.run.result
-    (subst (λ p. Answers c.args.limits p (g.W.Watch.told c.args.watch.now) (g.W.Watch.told c.run.new.watch) (rules_of c.run.result)) (protocols_plan_is c.args.world.now c.args.table.now [] (record { basic = c.in_ok-basic.basic; all = c.in_ok-all.all; limits = c.args.limits }) refl c.in_ok-basic.ensures c.in_ok-all.ensures) c.run.ensures.answer)
+    protocols_rules (world_by c.args.table.now c.args.world.now) c.requires.text.closed c.args.limits (g.W.Watch.told c.args.watch.now)
+    (g.W.Watch.told c.run.new.watch) c.run.result
+    (subst (λ p. Answers c.args.limits p (g.W.Watch.told c.args.watch.now) (g.W.Watch.told c.run.new.watch) (rules_of c.run.result))
+    (protocols_plan_is c.args.world.now c.args.table.now []
+    (record { basic = c.in_ok-basic.basic; all = c.in_ok-all.all; limits = c.args.limits }) refl c.in_ok-basic.ensures c.in_ok-all.ensures)
+    c.run.ensures.answer)
 
 pub returns-in_err-basic-clause-answer : goal.returns-in_err-basic-clause-answer
 returns-in_err-basic-clause-answer g c =

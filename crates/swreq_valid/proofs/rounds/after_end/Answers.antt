@@ -21,13 +21,15 @@ next_used-requires-clause-flags c =
 pub next_used-requires-clause-shown : goal.next_used-requires-clause-shown
 next_used-requires-clause-shown c x k =
     c.requires.shown x
-    (subst (λ (u : List Bool). Contains (chosen (items_of c.args.text.now.table.now c.args.start.now.all.items) u) x) c.deref.ensures.value k)
+    (subst (λ (u : List Bool). Contains (chosen (items_of c.args.text.now.table.now c.args.start.now.all.items) u) x)
+    c.deref.ensures.value k)
 
 pub returns-in-None : goal.returns-in-None
 returns-in-None c base due end =
     let plan = plan_of c.args.text.now.world.now c.args.text.now.table.now base c.args.start.now in
     lasts_here c.args.start.now.limits plan c.args.state c.requires.flags c.args.rules due end c.requires.shown
-    (subst (Tells (AreShown plan c.args.rules) plan.all) c.deref.ensures.value (rw c.in-None.is at c.in_ok-next.ensures)) c.new.result c.new.ensures
+    (subst (Tells (AreShown plan c.args.rules) plan.all) c.deref.ensures.value (rw c.in-None.is at c.in_ok-next.ensures))
+    c.new.result c.new.ensures
 
 pub returns : goal.returns
 returns c base due end =

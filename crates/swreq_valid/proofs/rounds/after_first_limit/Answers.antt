@@ -10,7 +10,8 @@ pub returns-in-None : goal.returns-in-None
 returns-in-None c =
     let limits = c.args.start.now.limits in
     let plan = plan_of c.args.text.now.world.now c.args.text.now.table.now (first_rules c.args.below) c.args.start.now in
-    stops_here limits plan c.args.state c.requires.flags c.requires.first (record { which = c.args.passed.which; trace = c.args.passed.trace }) c.requires.stops
+    stops_here limits plan c.args.state c.requires.flags c.requires.first
+    (record { which = c.args.passed.which; trace = c.args.passed.trace }) c.requires.stops
     (subst (λ (u : List Bool). IsClosed limits plan (chosen plan.all u)) c.deref.ensures.value (rw c.in-None.is at c.in_ok-joined.ensures))
 
 pub returns : goal.returns

@@ -25,7 +25,8 @@ after_end-requires-clause-shown g c x k =
     let base = first_rules c.args.below in
     let plan = plan_of c.args.text.now.world.now c.args.text.now.table.now base c.args.start.now in
     round_shows limits plan c.requires.underway.1.round c.in-Ok.rules
-    (subst (λ (u : List Bool). IsAnswer limits base (given plan (chosen plan.all u)) (Ok c.in-Ok.rules)) c.deref.ensures.value c.in-Ok.ensures.answer) x k
+    (subst (λ (u : List Bool). IsAnswer limits base (given plan (chosen plan.all u)) (Ok c.in-Ok.rules)) c.deref.ensures.value
+    c.in-Ok.ensures.answer) x k
 
 pub returns-in_err-turn-in-Ok : goal.returns-in_err-turn-in-Ok
 returns-in_err-turn-in-Ok g c =
@@ -35,8 +36,10 @@ returns-in_err-turn-in-Ok g c =
     let p = err_from_is_err_and c.from_residual.result c.from_residual.ensures.1 in
     rw (p.1, p.2) (
       events (length base) c.in-Ok.rules,
-      ended_part limits plan c.args.state c.requires.due (g.W.Watch.told c.args.watch.now) (g.W.Watch.told c.complete.new.watch) c.in-Ok.rules
-          (subst (λ (u : List Bool). IsAnswer limits base (given plan (chosen plan.all u)) (Ok c.in-Ok.rules)) c.deref.ensures.value c.in-Ok.ensures.answer),
+      ended_part limits plan c.args.state c.requires.due (g.W.Watch.told c.args.watch.now)
+          (g.W.Watch.told c.complete.new.watch) c.in-Ok.rules
+          (subst (λ (u : List Bool). IsAnswer limits base (given plan (chosen plan.all u)) (Ok c.in-Ok.rules)) c.deref.ensures.value
+          c.in-Ok.ensures.answer),
       c.in-Ok.ensures.told,
     )
 
@@ -60,5 +63,6 @@ returns g c =
     let plan = plan_of c.args.text.now.world.now c.args.text.now.table.now base c.args.start.now in
     let told = g.W.Watch.told in
     memory_taken limits plan c.args.state c.requires.due (told c.args.watch.now) (told c.complete.new.watch)
-    (subst (λ (u : List Bool). TellsEvents limits base (given plan (chosen plan.all u)) (told c.args.watch.now) (told c.complete.new.watch) (Err Memory))
+    (subst (λ (u : List Bool).
+    TellsEvents limits base (given plan (chosen plan.all u)) (told c.args.watch.now) (told c.complete.new.watch) (Err Memory))
     c.deref.ensures.value (rw c.in-Err-Memory.field-0-is at c.in-Err-Memory.ensures.told))

@@ -18,10 +18,12 @@ loop-k-preserved c =
     ap (λ z. z ++ left) c.in_ok-push.ensures.items
     ∙ append_assoc c.loop-k.flags.items (set ∷ []) left
     ∙ ap (λ z. c.loop-k.flags.items ++ z)
-    (ap (λ x. x ∷ left) is ∙ sym (either_from a b k false false c.loop-k-test.true (let m = c.loop-k-test.true in let e = c.requires in omega (arith, m, e))))
+    (ap (λ x. x ∷ left) is
+    ∙ sym (either_from a b k false false c.loop-k-test.true (let m = c.loop-k-test.true in let e = c.requires in omega (arith, m, e))))
     ∙ c.loop-k.invariant
 
 pub returns : goal.returns
 returns c =
     sym (append-nil c.loop-k.flags.items)
-    ∙ ap (λ z. c.loop-k.flags.items ++ z) (sym (none_of_either c.args.a.now c.args.b.now c.loop-k.k c.loop-k-test.false)) ∙ c.loop-k.invariant
+    ∙ ap (λ z. c.loop-k.flags.items ++ z) (sym (none_of_either c.args.a.now c.args.b.now c.loop-k.k c.loop-k-test.false))
+    ∙ c.loop-k.invariant

@@ -5,8 +5,11 @@ use Rattle.swreq_valid.proofs.rounds.given_by.Goals as goal
 
 pub join-requires-clause-want : goal.join-requires-clause-want
 join-requires-clause-want c =
-    c.requires.wanted c.index-want.result.now
-    (c.loop-k.k, (let a = c.loop-k-test.true in let b = c.len-k-end.ensures in let o = c.args.start.now.all.ok in omega (arith, a, b, o)), sym c.index-want.ensures)
+    c.requires.wanted c.index-want.result.now (
+      c.loop-k.k,
+      (let a = c.loop-k-test.true in let b = c.len-k-end.ensures in let o = c.args.start.now.all.ok in omega (arith, a, b, o)),
+      sym c.index-want.ensures,
+    )
 
 pub loop-k-preserved : goal.loop-k-preserved
 loop-k-preserved c =

@@ -26,7 +26,8 @@ returns-in-Ok c =
     let base = first_rules c.args.below in
     let plan = plan_of c.args.text.now.world.now c.args.text.now.table.now base c.args.start.now in
     let used = c.args.used.now in
-    let bears = same_borne limits base c.in_ok-first.first c.deref.result.now (given plan (chosen plan.all used)) (Ok c.in-Ok.rules) c.in_ok-first.ensures
+    let bears = same_borne limits base c.in_ok-first.first c.deref.result.now (given plan (chosen plan.all used))
+    (Ok c.in-Ok.rules) c.in_ok-first.ensures
     (c.deref.ensures.value ∙ c.in_ok-equations.ensures base) c.in-Ok.ensures.answer in
     joined_result limits plan used c.requires.flags c.in-Ok.rules bears c.joined_by.result (c.joined_by.ensures base)
 
@@ -37,5 +38,7 @@ returns-in-Err-Limit c =
     let plan = plan_of c.args.text.now.world.now c.args.text.now.table.now base c.args.start.now in
     let used = chosen plan.all c.args.used.now in
     closed_among limits plan used c.in-Err-Limit.field-0-0 c.in-Err-Limit.field-0-1
-    (same_borne limits base c.in_ok-first.first c.deref.result.now (given plan used) (Err (Limit c.in-Err-Limit.field-0-0 c.in-Err-Limit.field-0-1))
-    c.in_ok-first.ensures (c.deref.ensures.value ∙ c.in_ok-equations.ensures base) (rw c.in-Err-Limit.field-0-is at c.in-Err-Limit.ensures.answer))
+    (same_borne limits base c.in_ok-first.first c.deref.result.now (given plan used)
+    (Err (Limit c.in-Err-Limit.field-0-0 c.in-Err-Limit.field-0-1))
+    c.in_ok-first.ensures (c.deref.ensures.value ∙ c.in_ok-equations.ensures base)
+    (rw c.in-Err-Limit.field-0-is at c.in-Err-Limit.ensures.answer))

@@ -10,7 +10,8 @@ pub returns-in_err-used-clause-answer : goal.returns-in_err-used-clause-answer
 returns-in_err-used-clause-answer g c =
     let p = err_from_is_err_and c.from_residual.result c.from_residual.ensures.1 in
     rw (p.1, p.2)
-    (nothing_told c.args.start.now.limits (plan_of c.args.world.now c.args.table.now (first_rules c.args.below) c.args.start.now) (g.W.Watch.told c.args.watch.now))
+    (nothing_told c.args.start.now.limits (plan_of c.args.world.now c.args.table.now (first_rules c.args.below) c.args.start.now)
+    (g.W.Watch.told c.args.watch.now))
 
 pub each-init : goal.each-init
 each-init g c =
@@ -30,7 +31,8 @@ returns-in_err-next-clause-answer g c =
     let plan = plan_of c.args.world.now c.args.table.now (first_rules c.args.below) c.args.start.now in
     let p = err_from_is_err_and c.from_residual-in_err-next.result c.from_residual-in_err-next.ensures.1 in
     rw (p.1, p.2)
-    (failed_taken c.args.start.now.limits plan (told c.args.watch.now) c.each.state (told c.each.watch) (told c.turn.new.watch) c.each.invariant
+    (failed_taken c.args.start.now.limits plan (told c.args.watch.now) c.each.state (told c.each.watch)
+    (told c.turn.new.watch) c.each.invariant
     c.in_err-next.field-0.0 c.in_err-next.ensures)
 
 pub returns-in_err-next-clause-only : goal.returns-in_err-next-clause-only
@@ -40,28 +42,32 @@ returns-in_err-next-clause-only g c =
     let p = err_from_is_err_and c.from_residual-in_err-next.result c.from_residual-in_err-next.ensures.1 in
     rw (p.1, p.2)
     (only c.args.start.now.limits plan (told c.args.watch.now) (told c.turn.new.watch) (Err c.in_err-next.field-0.0)
-    (failed_taken c.args.start.now.limits plan (told c.args.watch.now) c.each.state (told c.each.watch) (told c.turn.new.watch) c.each.invariant
+    (failed_taken c.args.start.now.limits plan (told c.args.watch.now) c.each.state (told c.each.watch)
+    (told c.turn.new.watch) c.each.invariant
     c.in_err-next.field-0.0 c.in_err-next.ensures))
 
 pub each-smaller : goal.each-smaller
 each-smaller g c =
     let told = g.W.Watch.told in
     let plan = plan_of c.args.world.now c.args.table.now (first_rules c.args.below) c.args.start.now in
-    fewer_left c.args.start.now.limits plan (told c.args.watch.now) c.each.state (told c.each.watch) (told c.turn.new.watch) c.each.invariant c.in-Goes.next
+    fewer_left c.args.start.now.limits plan (told c.args.watch.now) c.each.state (told c.each.watch)
+    (told c.turn.new.watch) c.each.invariant c.in-Goes.next
     (rw c.in-Goes.is at c.in_ok-next.ensures)
 
 pub each-preserved : goal.each-preserved
 each-preserved g c =
     let told = g.W.Watch.told in
     let plan = plan_of c.args.world.now c.args.table.now (first_rules c.args.below) c.args.start.now in
-    is_next c.args.start.now.limits plan (told c.args.watch.now) c.each.state (told c.each.watch) (told c.turn.new.watch) c.each.invariant c.in-Goes.next
+    is_next c.args.start.now.limits plan (told c.args.watch.now) c.each.state (told c.each.watch)
+    (told c.turn.new.watch) c.each.invariant c.in-Goes.next
     (rw c.in-Goes.is at c.in_ok-next.ensures)
 
 pub returns-in-Lasts-clause-answer : goal.returns-in-Lasts-clause-answer
 returns-in-Lasts-clause-answer g c =
     let told = g.W.Watch.told in
     let plan = plan_of c.args.world.now c.args.table.now (first_rules c.args.below) c.args.start.now in
-    last_taken c.args.start.now.limits plan (told c.args.watch.now) c.each.state (told c.each.watch) (told c.turn.new.watch) c.each.invariant
+    last_taken c.args.start.now.limits plan (told c.args.watch.now) c.each.state (told c.each.watch)
+    (told c.turn.new.watch) c.each.invariant
     c.in-Lasts.rounds (rw c.in-Lasts.is at c.in_ok-next.ensures)
 
 pub returns-in-Lasts-clause-only : goal.returns-in-Lasts-clause-only
@@ -69,12 +75,14 @@ returns-in-Lasts-clause-only g c =
     let told = g.W.Watch.told in
     let plan = plan_of c.args.world.now c.args.table.now (first_rules c.args.below) c.args.start.now in
     only c.args.start.now.limits plan (told c.args.watch.now) (told c.turn.new.watch) (Ok (last_rules c.in-Lasts.rounds))
-    (last_taken c.args.start.now.limits plan (told c.args.watch.now) c.each.state (told c.each.watch) (told c.turn.new.watch) c.each.invariant
+    (last_taken c.args.start.now.limits plan (told c.args.watch.now) c.each.state (told c.each.watch)
+    (told c.turn.new.watch) c.each.invariant
     c.in-Lasts.rounds (rw c.in-Lasts.is at c.in_ok-next.ensures))
 
 pub returns-in-Lasts-clause-rounds : goal.returns-in-Lasts-clause-rounds
 returns-in-Lasts-clause-rounds g c =
     let told = g.W.Watch.told in
     let plan = plan_of c.args.world.now c.args.table.now (first_rules c.args.below) c.args.start.now in
-    all_rounds c.args.start.now.limits plan (told c.args.watch.now) c.each.state (told c.each.watch) (told c.turn.new.watch) c.each.invariant
+    all_rounds c.args.start.now.limits plan (told c.args.watch.now) c.each.state (told c.each.watch)
+    (told c.turn.new.watch) c.each.invariant
     c.in-Lasts.rounds (rw c.in-Lasts.is at c.in_ok-next.ensures)

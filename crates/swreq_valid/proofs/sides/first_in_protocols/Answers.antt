@@ -9,29 +9,43 @@ use Rattle.swreq_valid.proofs.OfProtocols.{proto_within, protocol_found, protoco
 use Rattle.swreq_valid.proofs.sides.first_in_protocols.Goals as goal
 
 pub loop-k-init : goal.loop-k-init
-loop-k-init c = none_yet (IsShownSide (symbols_of c.args.world.now.lexicon) (facts_of (world_by c.args.table.now c.args.world.now)) c.args.rules.now) (protocol_sides (world_by c.args.table.now c.args.world.now))
+loop-k-init c = none_yet (IsShownSide (symbols_of c.args.world.now.lexicon)
+    (facts_of (world_by c.args.table.now c.args.world.now)) c.args.rules.now) (protocol_sides (world_by c.args.table.now c.args.world.now))
 
 pub requirements-list-requires : goal.requirements-list-requires
-requirements-list-requires c = proto_within c.args.world.now.lexicon c.requires.text.closed.ids c.loop-k.k c.proto_at-p.result c.proto_at-p.ensures
+requirements-list-requires c =
+    proto_within c.args.world.now.lexicon c.requires.text.closed.ids c.loop-k.k c.proto_at-p.result c.proto_at-p.ensures
 
 pub first_invalid-requires-clause-list : goal.first_invalid-requires-clause-list
 first_invalid-requires-clause-list c =
-    protocol_listed c.args.world.now c.args.table.now c.requires.text c.proto_at-p.result c.requirements-list.result.now c.requirements-list.ensures
+    protocol_listed c.args.world.now c.args.table.now c.requires.text c.proto_at-p.result c.requirements-list.result.now
+    c.requirements-list.ensures
 
 pub loop-k-preserved : goal.loop-k-preserved
 loop-k-preserved c =
-    holds_at (IsShownSide (symbols_of c.args.world.now.lexicon) (facts_of (world_by c.args.table.now c.args.world.now)) c.args.rules.now) (sides_in (world_by c.args.table.now c.args.world.now))
-    (λ p. sides (SelfOf p) (requirements_of (world_by c.args.table.now c.args.world.now) p)) refl (λ p ps. refl) c.args.world.now.lexicon.written_order c.loop-k.k c.proto_at-p.result c.in_ok-first.first c.proto_at-p.ensures
-    c.loop-k.invariant (protocol_found c.args.world.now c.args.table.now (IsShownSide (symbols_of c.args.world.now.lexicon) (facts_of (world_by c.args.table.now c.args.world.now)) c.args.rules.now) c.proto_at-p.result c.requirements-list.result.now c.in_ok-first.first c.requirements-list.ensures (c.in_ok-first.ensures [])) c.in-None.is
+    holds_at (IsShownSide (symbols_of c.args.world.now.lexicon) (facts_of (world_by c.args.table.now c.args.world.now)) c.args.rules.now)
+    (sides_in (world_by c.args.table.now c.args.world.now))
+    (λ p. sides (SelfOf p) (requirements_of (world_by c.args.table.now c.args.world.now) p)) refl
+    (λ p ps. refl) c.args.world.now.lexicon.written_order c.loop-k.k c.proto_at-p.result c.in_ok-first.first c.proto_at-p.ensures
+    c.loop-k.invariant (protocol_found c.args.world.now c.args.table.now (IsShownSide (symbols_of c.args.world.now.lexicon)
+    (facts_of (world_by c.args.table.now c.args.world.now)) c.args.rules.now) c.proto_at-p.result c.requirements-list.result.now
+    c.in_ok-first.first c.requirements-list.ensures (c.in_ok-first.ensures [])) c.in-None.is
 
 pub returns-in-Some : goal.returns-in-Some
 returns-in-Some c =
-    fails_at (IsShownSide (symbols_of c.args.world.now.lexicon) (facts_of (world_by c.args.table.now c.args.world.now)) c.args.rules.now) (sides_in (world_by c.args.table.now c.args.world.now))
-    (λ p. sides (SelfOf p) (requirements_of (world_by c.args.table.now c.args.world.now) p)) refl (λ p ps. refl) c.args.world.now.lexicon.written_order c.loop-k.k c.proto_at-p.result c.in_ok-first.first c.in-Some.at c.proto_at-p.ensures
-    c.loop-k.invariant (protocol_found c.args.world.now c.args.table.now (IsShownSide (symbols_of c.args.world.now.lexicon) (facts_of (world_by c.args.table.now c.args.world.now)) c.args.rules.now) c.proto_at-p.result c.requirements-list.result.now c.in_ok-first.first c.requirements-list.ensures (c.in_ok-first.ensures [])) c.in-Some.is
+    fails_at (IsShownSide (symbols_of c.args.world.now.lexicon) (facts_of (world_by c.args.table.now c.args.world.now)) c.args.rules.now)
+    (sides_in (world_by c.args.table.now c.args.world.now))
+    (λ p. sides (SelfOf p) (requirements_of (world_by c.args.table.now c.args.world.now) p)) refl (λ p ps. refl)
+    c.args.world.now.lexicon.written_order c.loop-k.k c.proto_at-p.result c.in_ok-first.first c.in-Some.at c.proto_at-p.ensures
+    c.loop-k.invariant (protocol_found c.args.world.now c.args.table.now (IsShownSide (symbols_of c.args.world.now.lexicon)
+    (facts_of (world_by c.args.table.now c.args.world.now)) c.args.rules.now) c.proto_at-p.result c.requirements-list.result.now
+    c.in_ok-first.first c.requirements-list.ensures (c.in_ok-first.ensures [])) c.in-Some.is
 
 pub returns : goal.returns
 returns c =
-    hold_all (IsShownSide (symbols_of c.args.world.now.lexicon) (facts_of (world_by c.args.table.now c.args.world.now)) c.args.rules.now) (sides_in (world_by c.args.table.now c.args.world.now))
-    (λ p. sides (SelfOf p) (requirements_of (world_by c.args.table.now c.args.world.now) p)) refl (λ p ps. refl) c.args.world.now.lexicon.written_order c.loop-k.k
-    (let a = c.loop-k-test.false in let b = c.protocols-k-end.ensures in let e = c.requires.text.closed.ids.each_once in omega (arith, a, b, e)) c.loop-k.invariant
+    hold_all (IsShownSide (symbols_of c.args.world.now.lexicon) (facts_of (world_by c.args.table.now c.args.world.now)) c.args.rules.now)
+    (sides_in (world_by c.args.table.now c.args.world.now))
+    (λ p. sides (SelfOf p) (requirements_of (world_by c.args.table.now c.args.world.now) p)) refl
+    (λ p ps. refl) c.args.world.now.lexicon.written_order c.loop-k.k
+    (let a = c.loop-k-test.false in let b = c.protocols-k-end.ensures in let e = c.requires.text.closed.ids.each_once in
+    omega (arith, a, b, e)) c.loop-k.invariant

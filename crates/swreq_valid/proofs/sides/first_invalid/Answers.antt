@@ -9,24 +9,31 @@ use Rattle.swreq_valid.proofs.FirstSide.{fails_here, hold_all, holds_here, none_
 use Rattle.swreq_valid.proofs.sides.first_invalid.Goals as goal
 
 pub loop-k-init : goal.loop-k-init
-loop-k-init c rs = none_yet (IsShownSide (symbols_of c.args.world.now.lexicon) (facts_of (world_by c.args.table.now c.args.world.now)) c.args.rules.now) (sides (within rs c.args.over) (placed c.args.table.now c.args.list.now))
+loop-k-init c rs = none_yet (IsShownSide (symbols_of c.args.world.now.lexicon) (facts_of (world_by c.args.table.now c.args.world.now))
+    c.args.rules.now) (sides (within rs c.args.over) (placed c.args.table.now c.args.list.now))
 
 pub first_of-requires-clause-r : goal.first_of-requires-clause-r
 first_of-requires-clause-r c = c.requires.list _ (Contains-get_or c.args.list.now c.loop-k.k _ c.loop-k-test.true)
 
 pub loop-k-preserved : goal.loop-k-preserved
 loop-k-preserved c rs =
-    holds_here (IsShownSide (symbols_of c.args.world.now.lexicon) (facts_of (world_by c.args.table.now c.args.world.now)) c.args.rules.now) (λ xs. sides (within rs c.args.over) (placed c.args.table.now xs))
-    (λ r. sides_of (within rs c.args.over) (placed_by c.args.table.now r)) refl (λ r xs. refl) c.args.list.now c.loop-k.k _ c.in_ok-first.first c.loop-k-test.true
+    holds_here (IsShownSide (symbols_of c.args.world.now.lexicon) (facts_of (world_by c.args.table.now c.args.world.now)) c.args.rules.now)
+    (λ xs. sides (within rs c.args.over) (placed c.args.table.now xs))
+    (λ r. sides_of (within rs c.args.over) (placed_by c.args.table.now r)) refl
+    (λ r xs. refl) c.args.list.now c.loop-k.k _ c.in_ok-first.first c.loop-k-test.true
     (c.loop-k.invariant rs) (c.in_ok-first.ensures rs) c.in-None.is
 
 pub returns : goal.returns
 returns c rs =
-    hold_all (IsShownSide (symbols_of c.args.world.now.lexicon) (facts_of (world_by c.args.table.now c.args.world.now)) c.args.rules.now) (λ xs. sides (within rs c.args.over) (placed c.args.table.now xs))
-    (λ r. sides_of (within rs c.args.over) (placed_by c.args.table.now r)) refl (λ r xs. refl) c.args.list.now c.loop-k.k c.loop-k-test.false (c.loop-k.invariant rs)
+    hold_all (IsShownSide (symbols_of c.args.world.now.lexicon) (facts_of (world_by c.args.table.now c.args.world.now)) c.args.rules.now)
+    (λ xs. sides (within rs c.args.over) (placed c.args.table.now xs))
+    (λ r. sides_of (within rs c.args.over) (placed_by c.args.table.now r)) refl
+    (λ r xs. refl) c.args.list.now c.loop-k.k c.loop-k-test.false (c.loop-k.invariant rs)
 
 pub returns-in-Some : goal.returns-in-Some
 returns-in-Some c rs =
-    fails_here (IsShownSide (symbols_of c.args.world.now.lexicon) (facts_of (world_by c.args.table.now c.args.world.now)) c.args.rules.now) (λ xs. sides (within rs c.args.over) (placed c.args.table.now xs))
-    (λ r. sides_of (within rs c.args.over) (placed_by c.args.table.now r)) refl (λ r xs. refl) c.args.list.now c.loop-k.k _ c.in_ok-first.first c.in-Some.at c.loop-k-test.true
+    fails_here (IsShownSide (symbols_of c.args.world.now.lexicon) (facts_of (world_by c.args.table.now c.args.world.now)) c.args.rules.now)
+    (λ xs. sides (within rs c.args.over) (placed c.args.table.now xs))
+    (λ r. sides_of (within rs c.args.over) (placed_by c.args.table.now r)) refl
+    (λ r xs. refl) c.args.list.now c.loop-k.k _ c.in_ok-first.first c.in-Some.at c.loop-k-test.true
     (c.loop-k.invariant rs) (c.in_ok-first.ensures rs) c.in-Some.is

@@ -9,5 +9,6 @@ use Rattle.swreq_valid.proofs.FirstSide.{SoFar}
 use Rattle.swreq_valid.proofs.sides.first_invalid.Given as goal
 
 abbrev pub invariant-loop-k : goal.invariant-loop-k
-invariant-loop-k l = (rs : List TermRequirement) → SoFar (IsShownSide (symbols_of l.world.lexicon) (facts_of (world_by l.table l.world)) l.rules)
+invariant-loop-k l =
+    (rs : List TermRequirement) → SoFar (IsShownSide (symbols_of l.world.lexicon) (facts_of (world_by l.table l.world)) l.rules)
     (sides (within rs l.fn.over) (placed l.table l.list)) (sides (within rs l.fn.over) (placed l.table (drop l.k l.list)))

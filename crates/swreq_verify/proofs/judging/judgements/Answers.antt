@@ -42,8 +42,10 @@ loop-n-preserved c =
     let terms = c.args.table.now in
     let known = (goal.at.loop-n-preserved c).After-index-turn in
     record {
-      before = judged_in_turn (world_by terms c.args.world.now) (map (section_of terms) c.args.sections.now) c.in_ok-turns.turns.items c.loop-n.found.items
-          c.loop-n.n c.index-turn.result.now c.in_ok-said.said.judgement c.loop-n.invariant.before (turn_at known) c.in_ok-said.ensures.said;
+      before = judged_in_turn (world_by terms c.args.world.now)
+          (map (section_of terms) c.args.sections.now) c.in_ok-turns.turns.items c.loop-n.found.items
+          c.loop-n.n c.index-turn.result.now c.in_ok-said.said.judgement c.loop-n.invariant.before
+          (turn_at known) c.in_ok-said.ensures.said;
       kept = c.in_ok-said.ensures.kept;
     }
 

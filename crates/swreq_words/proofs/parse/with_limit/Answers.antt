@@ -13,5 +13,6 @@ returns c =
     let local : (c.long-option.result).global ≡ false = ap (λ (a : Arg). a.global) c.long-option.ensures ∙ c.new.ensures.optional.1 in
     record {
       app = IfOk-weaker c.arg.result _ _ (λ r h. h.shape local ∙ ap (with_rule (app_of c.args.command)) is) c.arg.ensures;
-      globals = IfOk-weaker c.arg.result _ _ (λ r h. h.globals ∙ ap (λ b. (out-Command c.args.command).has_globals || b) local ∙ or-false _) c.arg.ensures;
+      globals = IfOk-weaker c.arg.result _ _
+          (λ r h. h.globals ∙ ap (λ b. (out-Command c.args.command).has_globals || b) local ∙ or-false _) c.arg.ensures;
     }

@@ -3,7 +3,8 @@ use Rattle.swreq_lexicon.specs.Texts.{IsLexiconOf}
 use Rattle.swreq_world.proofs.assemble.with_names.Goals as goal
 
 pub of-requires : goal.of-requires
-of-requires c = record { declared = c.requires.declared; small = (c.lists_are_short.ensures c.requires.limit c.args.s.now c.requires.stands).lexicon }
+of-requires c =
+    record { declared = c.requires.declared; small = (c.lists_are_short.ensures c.requires.limit c.args.s.now c.requires.stands).lexicon }
 
 pub assemble-requires : goal.assemble-requires
 assemble-requires c = record {

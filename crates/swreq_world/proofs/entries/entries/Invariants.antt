@@ -5,4 +5,5 @@ use Rattle.swreq_world.specs.Own.{own_signature}
 use Rattle.swreq_world.proofs.entries.entries.Given as goal
 
 abbrev pub invariant-loop-g : goal.invariant-loop-g
-invariant-loop-g l = FillsEntries l.fn.table l.table (map (own_signature (words_by l.words) l.order) (take l.g-index l.g-items)) l.made.items
+invariant-loop-g l =
+    FillsEntries l.fn.table l.table (map (own_signature (words_by l.words) l.order) (take l.g-index l.g-items)) l.made.items

@@ -22,6 +22,8 @@ returns-then-are_together c =
     let own = c.items-then-are_together.result.now in
     let same = ap (around c.args.entries.now) (c.are_together.ensures c.if-are_together.true) in
     let changed =
-    end_changed bare struct_of_last c.items.result.now c.args.list.items (c.requires ∙ ap (λ z. map bare (struct_of_last ++ z)) (sym c.items.ensures)) own in
+    end_changed bare struct_of_last c.items.result.now c.args.list.items
+    (c.requires ∙ ap (λ z. map bare (struct_of_last ++ z)) (sym c.items.ensures)) own in
     IfOk-weaker c.with_end.result _ _
-    (λ v e. e ∙ changed ∙ ap (λ z. map bare (z ++ own)) same ∙ ap (λ z. map bare (struct_of_entry ++ z)) c.items-then-are_together.ensures) c.with_end.ensures
+    (λ v e. e ∙ changed ∙ ap (λ z. map bare (z ++ own)) same ∙ ap (λ z. map bare (struct_of_entry ++ z)) c.items-then-are_together.ensures)
+    c.with_end.ensures

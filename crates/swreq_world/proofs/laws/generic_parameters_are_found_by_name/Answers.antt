@@ -10,5 +10,6 @@ pub returns : goal.returns
 returns c = λ terms s w stands is resolve.
     let text = c.args.text.now in
     let slices = c.tokens_are_slices.ensures in
-    param_found terms w text s is resolve.names (struct_params_in_order text s slices stands) (function_params_in_order text s slices stands)
+    param_found terms w text s is resolve.names (struct_params_in_order text s slices stands)
+    (function_params_in_order text s slices stands)
     (all_declared s (first_offset (chars text)) (functions_rising text s slices stands))

@@ -14,7 +14,8 @@ use Rattle.swreq_world.specs.WorldOf.{words_of}
 use Rattle.swreq_world.specs.Worlds.{TextWorld}
 use Rattle.swreq_world.proofs.laws.signatures_are_found_by_name.Goals as goal
 
-apart : (c : goal.After-tokens_are_slices) (s : Skeleton) (w : TextWorld) → StandsFor c.args.text.now s → StandApart (words_of c.args.text.now s w)
+apart : (c : goal.After-tokens_are_slices) (s : Skeleton) (w : TextWorld) → StandsFor c.args.text.now s
+    → StandApart (words_of c.args.text.now s w)
 apart c s w stands =
     let text = c.args.text.now in
     let slices = c.tokens_are_slices.ensures in record {

@@ -24,9 +24,11 @@ module _ (text : List ℕ) (s : Skeleton) where
   }
 
   is_of_lexicon : (w : TextWorld) → IsWorldOf text s w → w ≡ of_lexicon w.lexicon
-  is_of_lexicon w of_w = λ i. record { lexicon = w.lexicon; requirements = of_w.requirements i; signatures = of_w.signatures i; queries = of_w.queries i }
+  is_of_lexicon w of_w =
+      λ i. record { lexicon = w.lexicon; requirements = of_w.requirements i; signatures = of_w.signatures i; queries = of_w.queries i }
 
 pub returns : goal.returns
 returns c = λ s w v h k.
     let text = c.args.text.now in
-    is_of_lexicon text s w h ∙ ap (of_lexicon text s) (c.lexicon_is_one.ensures s w.lexicon v.lexicon h.lexicon k.lexicon) ∙ sym (is_of_lexicon text s v k)
+    is_of_lexicon text s w h ∙ ap (of_lexicon text s) (c.lexicon_is_one.ensures s w.lexicon v.lexicon h.lexicon k.lexicon)
+    ∙ sym (is_of_lexicon text s v k)

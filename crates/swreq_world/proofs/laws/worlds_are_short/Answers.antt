@@ -8,7 +8,8 @@ returns c =
     let text = c.args.text.now in
     record {
       world = λ limit s w stands is.
-          short_world text s w is (c.lists_are_short.ensures limit s stands) (c.requirements_are_few.ensures limit (words_of text s w) stands);
+          short_world text s w is (c.lists_are_short.ensures limit s stands)
+          (c.requirements_are_few.ensures limit (words_of text s w) stands);
       by_table = λ limit terms s w stands is.
           short_by_table terms w
           (short_world text s (world_by terms w) is (c.lists_are_short.ensures limit s stands)

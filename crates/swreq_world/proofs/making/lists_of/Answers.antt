@@ -15,8 +15,10 @@ returns-clause-lists c =
       third = c.entries.new.table;
       order = c.in_ok-order.ensures.ok ∙ c.in_ok-of.ensures;
       requirements = c.in_ok-requirements.ensures.fills;
-      signatures = subst (λ (order : List Signature). FillsEntries c.requirements.new.table c.entries.new.table (map (own_signature words order) order) c.in_ok-signatures.signatures.items)
+      signatures = subst (λ (order : List Signature). FillsEntries c.requirements.new.table c.entries.new.table
+          (map (own_signature words order) order) c.in_ok-signatures.signatures.items)
           c.deref.ensures c.in_ok-signatures.ensures.fills;
-      queries = subst (λ (order : List Signature). FillsQueries c.entries.new.table c.queries.new.table (map (query_of words order) words.skeleton.queries) c.in_ok-queries.queries.items)
+      queries = subst (λ (order : List Signature). FillsQueries c.entries.new.table c.queries.new.table
+          (map (query_of words order) words.skeleton.queries) c.in_ok-queries.queries.items)
           c.deref-2.ensures c.in_ok-queries.ensures.fills;
     }

@@ -16,5 +16,6 @@ loop-at-preserved c =
       within = omega arith;
       added = c.in_ok-push.ensures.items ∙ ap (λ (gs : List Signature). gs ++ Function c.loop-at.at ∷ []) c.loop-at.invariant.added
           ∙ append_assoc c.args.order.now.items (functions_from c.args.from n) (Function c.loop-at.at ∷ [])
-          ∙ ap (λ (gs : List Signature). c.args.order.now.items ++ gs) (sym (functions_push c.args.from n (c.loop-at.at + 1 - c.args.from) c.loop-at.at e f));
+          ∙ ap (λ (gs : List Signature). c.args.order.now.items ++ gs)
+          (sym (functions_push c.args.from n (c.loop-at.at + 1 - c.args.from) c.loop-at.at e f));
     }

@@ -14,8 +14,11 @@ loop-rank-preserved c =
     let within = c.loop-rank-test.true in
     record {
       within = omega arith;
-      filled = fills_more AreOf placed (λ a b x. are_of_stay a b x) (λ a b x. placed_stay a b x) (requirements_named w) names c.loop-rank.rank [] c.args.table.now c.loop-rank.table c.listed.new.table
-          c.loop-rank.made.items c.push.new.self.items c.in_ok-list.list (omega arith) c.loop-rank.invariant.filled c.in_ok-list.ensures.extends c.in_ok-list.ensures.of
-          (c.in_ok-list.ensures.means ∙ ap (requirements_named w) (sym (get_or_from_slice_get names c.loop-rank.rank c.proto_name-name.result.now [] c.proto_name-name.ensures)))
+      filled = fills_more AreOf placed (λ a b x. are_of_stay a b x) (λ a b x. placed_stay a b x)
+          (requirements_named w) names c.loop-rank.rank [] c.args.table.now c.loop-rank.table c.listed.new.table
+          c.loop-rank.made.items c.push.new.self.items c.in_ok-list.list
+          (omega arith) c.loop-rank.invariant.filled c.in_ok-list.ensures.extends c.in_ok-list.ensures.of
+          (c.in_ok-list.ensures.means ∙ ap (requirements_named w)
+          (sym (get_or_from_slice_get names c.loop-rank.rank c.proto_name-name.result.now [] c.proto_name-name.ensures)))
           c.in_ok-push.ensures.items;
     }

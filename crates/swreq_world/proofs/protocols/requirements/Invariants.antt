@@ -7,7 +7,8 @@ use Rattle.swreq_world.proofs.protocols.requirements.Given as goal
 abbrev pub invariant-loop-rank : goal.invariant-loop-rank
 invariant-loop-rank l = record {
   within : l.rank ≤ length l.words.lexicon.now.protocols;
-  filled : FillsLists l.fn.table l.table (map (requirements_named (words_by l.words)) (take l.rank l.words.lexicon.now.protocols)) l.made.items;
+  filled : FillsLists l.fn.table l.table
+      (map (requirements_named (words_by l.words)) (take l.rank l.words.lexicon.now.protocols)) l.made.items;
 }
 
 abbrev pub decreases-loop-rank : goal.decreases-loop-rank

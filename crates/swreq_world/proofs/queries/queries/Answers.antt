@@ -10,5 +10,6 @@ loop-q-preserved c =
     let meaning = query_of (words_by c.args.words.now) c.args.order.now in
     let asks = c.in_ok-query.ensures.asks in
     fills_more HasQueryIdsOf query_by query_of_stay query_stays meaning c.items-q-items.result.now c.loop-q.q-index c.q-item.result
-    c.args.table.now c.loop-q.table c.query_of.new.table c.loop-q.made.items c.push.new.self.items c.in_ok-query.query c.loop-q-test.true c.loop-q.invariant
+    c.args.table.now c.loop-q.table c.query_of.new.table c.loop-q.made.items c.push.new.self.items c.in_ok-query.query
+    c.loop-q-test.true c.loop-q.invariant
     asks.extends asks.are_of (asks.means ∙ ap meaning c.q-item.is) c.in_ok-push.ensures.items

@@ -9,5 +9,6 @@ pub func_id-f-requires : goal.func_id-f-requires
 func_id-f-requires c =
     subst IsSmall (sym c.asked_signature-g.ensures)
     (asked_small (words_by c.args.words.now)
-    (λ i. subst (λ (d : Spaces). length (get_or d.nested i []) ≤ 1048576) (sym c.requires.declared.declared) (c.requires.short.functions_of i))
+    (λ i.
+    subst (λ (d : Spaces). length (get_or d.nested i []) ≤ 1048576) (sym c.requires.declared.declared) (c.requires.short.functions_of i))
     c.args.q.now.outer c.args.q.now.function)

@@ -7,4 +7,5 @@ use Rattle.swreq_closure.proofs.closure.Closure.count.Goals as goal
 pub returns-in-None : goal.returns-in-None
 returns-in-None c =
     let among = c.args.among.now in
-    sym (count_none (λ to. leads c.args.self.now c.args.from to && has among to) (room among) (λ to. ap (λ b. b && has among to) (c.in-None.ensures to)))
+    sym (count_none (λ to. leads c.args.self.now c.args.from to && has among to) (room among)
+    (λ to. ap (λ b. b && has among to) (c.in-None.ensures to)))

@@ -21,6 +21,7 @@ returns c = by c.known.result c.known.ensures
         ∙ sym (rows_tell c.self.inside.rows.items c.self.invariant from to) ∙ ap (λ m. leads m from to) c.self.view_is
 
     by : (found : Option (Bor Bits)) → MatchOption found (row_at rows from ≡ None) (λ row. row_at rows from ≡ Some row.now)
-        → MatchOption found ((to : ℕ) → leads c.args.self.now from to ≡ false) (λ places. (to : ℕ) → has places.now to ≡ leads c.args.self.now from to)
+        → MatchOption found ((to : ℕ) → leads c.args.self.now from to ≡ false)
+        (λ places. (to : ℕ) → has places.now to ≡ leads c.args.self.now from to)
     by None none = λ to. sym (tells to) ∙ ap (λ r. row_has r to) none
     by (Some row) some = λ to. sym (ap (λ r. row_has r to) some) ∙ tells to

@@ -14,5 +14,6 @@ returns-in-None c =
     subst (λ (rules : List Rule). MatchResult c.find_at.result (Chosen rules (drop c.args.at w)) (TellNone rules w c.args.at))
     (sym (ap (λ b. rules_below b ++ own.rules) c.in-None.is) ∙ c.self.view_is)
     (alone_found c.index.result.now own.rules
-    (first_index own.before c.index.result.now own.rules (c.self.invariant.1 ∙ ap (λ b. length (rules_below b)) c.in-None.is) c.index.ensures)
+    (first_index own.before c.index.result.now own.rules
+    (c.self.invariant.1 ∙ ap (λ b. length (rules_below b)) c.in-None.is) c.index.ensures)
     w c.args.at c.find_at.result c.find_at.ensures)

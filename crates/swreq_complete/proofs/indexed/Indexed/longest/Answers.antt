@@ -8,7 +8,8 @@ use Rattle.swreq_complete.proofs.indexed.Indexed.longest.Goals as goal
 pub returns-in-None : goal.returns-in-None
 returns-in-None c =
     let own = c.self.inside.own in
-    subst (λ (rules : List Rule). NoneLonger rules c.longest-own.result) (sym (ap (λ b. rules_below b ++ own.rules) c.in-None.is) ∙ c.self.view_is)
+    subst (λ (rules : List Rule). NoneLonger rules c.longest-own.result)
+    (sym (ap (λ b. rules_below b ++ own.rules) c.in-None.is) ∙ c.self.view_is)
     (longer_after own.before c.index.result.now own.rules c.index.ensures c.longest-own.result c.longest-own.ensures)
 
 pub returns-in-Some : goal.returns-in-Some

@@ -10,7 +10,8 @@ use Rattle.swreq_confpath.proofs.tried.Tried.keep.Goals as goal
 
 pub returns-then-contains_key : goal.returns-then-contains_key
 returns-then-contains_key c s there =
-    let found = ap (λ spots. is_some (lookup (eq-value.it c.args.place) spots)) (sym c.self.view_is) ∙ (sym c.contains_key.ensures ∙ c.if-contains_key.true) in
+    let found = ap (λ spots. is_some (lookup (eq-value.it c.args.place) spots)) (sym c.self.view_is)
+    ∙ (sym c.contains_key.ensures ∙ c.if-contains_key.true) in
     inl (is_reached c.args.place c.args.self.now found, refl)
 
 pub returns : goal.returns

@@ -18,5 +18,8 @@ returns-in-1 c = (
 pub returns-in_default : goal.returns-in_default
 returns-in_default c = let z = c.in_default in (
   (λ i. absurd (true≢false (sym i))),
-  λ h. elim ((two_depths c.args.self c.args.g).0 h) [ inl k ↦ (let e : c.args.g.depth ≡ 0 = k.0 in absurd (omega arith)) | inr k ↦ (let e : c.args.g.depth ≡ 1 = k.0 in absurd (omega arith)) ],
+  λ h. elim ((two_depths c.args.self c.args.g).0 h) [
+    | inl k ↦ (let e : c.args.g.depth ≡ 0 = k.0 in absurd (omega arith))
+    | inr k ↦ (let e : c.args.g.depth ≡ 1 = k.0 in absurd (omega arith))
+  ],
 )

@@ -9,13 +9,16 @@ use Rattle.swreq_lexicon.proofs.associated.Associated.find.Goals as goal
 pub returns-in-Some : goal.returns-in-Some
 returns-in-Some c =
     sym (ap (option_map assoc_at) (ap (position (is_pair c.args.p c.args.a)) (sym c.self.view_is)
-    ∙ root_at c.self.inside.ranked (rising_from_sorted cmp-value.it c.self.inside.ranked c.items-keys.ensures.sorted) c.args.p c.args.a c.in-Some.rank (c.in-Some.ensures ∙ ap Some c.of.ensures)))
+    ∙ root_at c.self.inside.ranked (rising_from_sorted cmp-value.it c.self.inside.ranked c.items-keys.ensures.sorted) c.args.p c.args.a
+    c.in-Some.rank (c.in-Some.ensures ∙ ap Some c.of.ensures)))
 
 pub returns-in-Some-find : goal.returns-in-Some-find
 returns-in-Some-find c =
     sym (ap (option_map assoc_at) (ap (position (is_pair c.args.p c.args.a)) (sym c.self.view_is)
-    ∙ other_at c.self.inside.ranked (rising_from_sorted cmp-value.it c.self.inside.ranked c.items-keys.ensures.sorted) c.args.p c.args.a c.in-Some-find.rank
-    (λ h. c.in-None.ensures (subst (Contains c.self.inside.ranked) (sym c.of.ensures) h)) (c.in-Some-find.ensures ∙ ap Some c.of-in-None.ensures)))
+    ∙ other_at c.self.inside.ranked (rising_from_sorted cmp-value.it c.self.inside.ranked c.items-keys.ensures.sorted) c.args.p
+    c.args.a c.in-Some-find.rank
+    (λ h. c.in-None.ensures (subst (Contains c.self.inside.ranked) (sym c.of.ensures) h))
+    (c.in-Some-find.ensures ∙ ap Some c.of-in-None.ensures)))
 
 pub returns-in-None-find : goal.returns-in-None-find
 returns-in-None-find c =

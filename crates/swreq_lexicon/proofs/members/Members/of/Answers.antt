@@ -7,5 +7,6 @@ rows-requires-clause-names c d h = c.requires.names d ((c.written.ensures d).0 h
 
 pub returns : goal.returns
 returns c =
-    same_rows (inherits_by c.args.protocols.now.places c.args.protocols.now.resolved.inherits) c.args.ordered.now c.written.result.now c.args.associated.now
+    same_rows (inherits_by c.args.protocols.now.places c.args.protocols.now.resolved.inherits) c.args.ordered.now
+    c.written.result.now c.args.associated.now
     c.in_ok-rows.rows.items c.written.ensures c.in_ok-rows.ensures

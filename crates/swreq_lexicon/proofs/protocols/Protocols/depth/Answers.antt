@@ -6,11 +6,13 @@ use Rattle.swreq_lexicon.specs.Views.{inherits_by, place_by}
 use Rattle.swreq_lexicon.proofs.PlaceSets.{depth_counted, depth_le}
 use Rattle.swreq_lexicon.proofs.protocols.Protocols.depth.Goals as goal
 
-counted : (c : goal.After-count) → c.count.result ≡ depth (inherits_by c.self.inside.places.items c.self.inside.resolved.inherits) (length c.self.inside.ranks) c.args.p
+counted : (c : goal.After-count)
+    → c.count.result ≡ depth (inherits_by c.self.inside.places.items c.self.inside.resolved.inherits) (length c.self.inside.ranks) c.args.p
 counted c =
     let is = c.self.inside in
     c.count.ensures
-    ∙ (λ i. count_below (λ to. leads (c.inheritance-inheritance.ensures i) ((c.place.ensures ∙ ap (λ v. place_by v.places c.args.p) (sym c.self.view_is)) i) to && has is.firsts to) (room is.firsts))
+    ∙ (λ i. count_below (λ to. leads (c.inheritance-inheritance.ensures i)
+    ((c.place.ensures ∙ ap (λ v. place_by v.places c.args.p) (sym c.self.view_is)) i) to && has is.firsts to) (room is.firsts))
     ∙ depth_counted is.resolved.inherits is.places.items is.firsts (length is.ranks) c.args.p c.self.invariant.2 c.self.invariant.4
 
 pub overflow_cast-result : goal.overflow_cast-result

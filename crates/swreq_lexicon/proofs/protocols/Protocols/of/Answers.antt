@@ -17,7 +17,8 @@ returns-clause-places c p name h =
     let all = protocol_names c.args.text.now c.args.protocols.now in
     let ds = c.args.resolved.declared.protocols in
     let names = ap (map (λ (d : Declaration). d.name)) c.requires.declared ∙ declared_names c.args.text.now c.args.protocols.now in
-    first_place all c.in_ok-ranks.ranks ds c.in_ok-places.places.items names c.in_ok-ranks.ensures.ranking c.in_ok-places.ensures p.rank name h
+    first_place all c.in_ok-ranks.ranks ds c.in_ok-places.places.items names c.in_ok-ranks.ensures.ranking
+    c.in_ok-places.ensures p.rank name h
 
 pub set_of-requires-clause-within : goal.set_of-requires-clause-within
 set_of-requires-clause-within c =
@@ -27,7 +28,8 @@ set_of-requires-clause-within c =
     let count = names_length c.args.text.now c.args.protocols.now in
     subst (λ (xs : List ℕ). (r : ℕ) → r < length xs → get_or xs r 0 < length c.args.protocols.now) (sym c.deref.ensures.value)
     (λ r h.
-    let within = places_within all c.in_ok-ranks.ranks ds c.in_ok-places.places.items names c.in_ok-ranks.ensures.ranking c.in_ok-places.ensures r h in
+    let within =
+    places_within all c.in_ok-ranks.ranks ds c.in_ok-places.places.items names c.in_ok-ranks.ensures.ranking c.in_ok-places.ensures r h in
     omega (arith, within, count))
 
 pub set_of-requires-clause-apart : goal.set_of-requires-clause-apart
@@ -45,7 +47,8 @@ invariant_of-result c =
     let names = ap (map (λ (d : Declaration). d.name)) c.requires.declared ∙ declared_names c.args.text.now c.args.protocols.now in
     let few = c.in_ok-ranks.ensures.few in
     let small = c.requires.small in
-    let size = ap length c.in_ok-written_order.ensures ∙ length-map c.args.protocols.now (λ (p : ProtocolDecl). proto_by c.in_ok-ranks.ranks (word c.args.text.now p.name)) in
+    let size = ap length c.in_ok-written_order.ensures
+    ∙ length-map c.args.protocols.now (λ (p : ProtocolDecl). proto_by c.in_ok-ranks.ranks (word c.args.text.now p.name)) in
     let room = c.in_ok-firsts.ensures.room in (
       omega (arith, few, small),
       omega (arith, few, size),

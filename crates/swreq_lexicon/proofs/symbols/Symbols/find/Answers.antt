@@ -29,7 +29,8 @@ overflow_add-result c =
     c.count_before-before.ensures
     ∙ ap (λ (v : SymbolsView). count_below (sets.has (row_of v.rows c.args.a)) c.in-Some.place) c.self.view_is
     ∙ counted order has c.args.self.now.rows c.requires.rows c.args.a c.in-Some.place (omega (arith, within)) in
-    let fits = rank_fits order has c.args.names c.args.p c.args.a c.in-Some.place c.index.result.now c.count_before-before.result placed below c.requires.names c.requires.few start before in
+    let fits = rank_fits order has c.args.names c.args.p c.args.a c.in-Some.place c.index.result.now c.count_before-before.result placed
+    below c.requires.names c.requires.few start before in
     omega (arith, fits)
 
 pub returns-in-Some : goal.returns-in-Some
@@ -60,6 +61,7 @@ pub returns-else-a-names : goal.returns-else-a-names
 returns-else-a-names c s =
     let has = has_member (inherits_by c.args.protocols.now.places c.args.protocols.now.resolved.inherits) c.args.associated.now in
     elim c.else-a-names.branch [
-      | else-a-names-via-then-a-names+else-has w ↦ rank_not_had c.args.self.now.order has c.args.names c.args.p c.args.a (sym w.has.ensures ∙ w.if-has.false) s
+      | else-a-names-via-then-a-names+else-has w ↦
+          rank_not_had c.args.self.now.order has c.args.names c.args.p c.args.a (sym w.has.ensures ∙ w.if-has.false) s
       | else-a-names-via-else-a-names w ↦ rank_past c.args.self.now.order has c.args.names c.args.p c.args.a w.if-a-names.false s
     ]

@@ -42,11 +42,15 @@ returns c =
     let within = c.last_from-rank.ensures.within in
     let start : c.index.result.now ≡ length (symbols_below c.args.self.now.order has a) =
     c.index.ensures ∙ ap (λ (v : SymbolsView). get_or v.starts a c.index.result.now) c.self.view_is
-    ∙ start_is c.args.self.now.order has c.args.names c.args.self.now.starts c.requires.starts a c.index.result.now (omega (arith, within)) in
+    ∙ start_is c.args.self.now.order has c.args.names c.args.self.now.starts c.requires.starts a c.index.result.now
+    (omega (arith, within)) in
     let from : length (symbols_below c.args.self.now.order has a) ≤ c.args.m =
     subst (λ k. k ≤ c.args.m)
     (ap (λ (xs : List ℕ). get_or xs a 0) c.deref.ensures.value ∙ ap (λ (v : SymbolsView). get_or v.starts a 0) c.self.view_is
-    ∙ start_is c.args.self.now.order has c.args.names c.args.self.now.starts c.requires.starts a 0 (omega (arith, within))) c.last_from-rank.ensures.from in
-    pair_at c.args.self.now.order has c.args.names a c.args.m c.index.result.now c.nth-proto.result within start (omega (arith, start, from))
-    (ap (λ (ps : List ProtoId). slice_get (having ps has (name a)) (c.args.m - c.index.result.now)) (sym (ap (λ (v : SymbolsView). v.order) c.self.view_is))
+    ∙ start_is c.args.self.now.order has c.args.names c.args.self.now.starts c.requires.starts a 0 (omega (arith, within)))
+    c.last_from-rank.ensures.from in
+    pair_at c.args.self.now.order has c.args.names a c.args.m c.index.result.now c.nth-proto.result within start
+    (omega (arith, start, from))
+    (ap (λ (ps : List ProtoId). slice_get (having ps has (name a)) (c.args.m - c.index.result.now))
+    (sym (ap (λ (v : SymbolsView). v.order) c.self.view_is))
     ∙ c.nth-proto.ensures)

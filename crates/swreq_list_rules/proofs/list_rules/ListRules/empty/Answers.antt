@@ -7,5 +7,6 @@ use Rattle.swreq_list_rules.proofs.list_rules.ListRules.empty.Goals as goal
 
 pub returns : goal.returns
 returns c =
-    subst₂ (λ (rules : List Rule) (waiting : List Requirement). AreOfList c.args.setting.now [] (record { rules = rules; waiting = waiting }))
+    subst₂ (λ (rules : List Rule) (waiting : List Requirement).
+    AreOfList c.args.setting.now [] (record { rules = rules; waiting = waiting }))
     (sym (c.in_ok-rules.ensures ∙ c.rules.ensures)) (sym c.new.ensures.items) (empty_list c.args.setting.now c.requires)

@@ -9,7 +9,8 @@ use Rattle.swreq_list_rules.proofs.list_rules.ListRules.with.Goals as goal
 
 pub settle-requires-clause-waiting : goal.settle-requires-clause-waiting
 settle-requires-clause-waiting c = λ r h.
-    elim (Contains-append_cases c.self.inside.waiting.items c.args.more.now r (subst (λ z. Contains z r) c.in_ok-extend_from_slice.ensures.items h)) [
+    elim (Contains-append_cases c.self.inside.waiting.items c.args.more.now r
+    (subst (λ z. Contains z r) c.in_ok-extend_from_slice.ensures.items h)) [
       | inl i ↦ c.requires.waiting r (subst (λ (z : ListRulesView). Contains z.waiting r) c.self.view_is i)
       | inr i ↦ c.requires.more r i
     ]

@@ -16,14 +16,20 @@ returns c =
     let symbols = c.in_ok-candidates.candidates.items in
     let sorted = c.sort_unstable.new.self.items in
     let once = dedup_is ◌==◌ sorted c.dedup.new.self.items c.dedup.ensures.filtered in
-    let followers : (at : ℕ) (x : Symbol) → length u - c.longest-longest.result ≤ at → at ≤ length u → Follows m.words m.lists (drop at u) x → Contains symbols x = λ at x from. subst (λ lists. at ≤ length u → Follows m.words lists (drop at u) x → Contains symbols x) c.deref.ensures.value
+    let followers : (at : ℕ) (x : Symbol) → length u - c.longest-longest.result ≤ at
+    → at ≤ length u → Follows m.words m.lists (drop at u) x → Contains symbols x =
+    λ at x from. subst (λ lists. at ≤ length u → Follows m.words lists (drop at u) x → Contains symbols x) c.deref.ensures.value
     (c.in_ok-candidates.ensures at x (omega (arith, from, c.saturating_sub-from.ensures))) in
-    let found = subst (λ xs. AreConforming rules m.protocols u xs c.in_ok-protocols.protocols.items) c.deref-2.ensures.value c.in_ok-protocols.ensures.found in
-    let are = sorted_conforming rules m.protocols u symbols c.in_ok-protocols.protocols.items sorted found c.sort_unstable.ensures.permutation in
-    subst (λ (n : MapView). ArePropertiesOf rules n.protocols u (record { protocols = c.new.result; layout = c.has-layout.result })) c.self.view_is
+    let found = subst (λ xs. AreConforming rules m.protocols u xs c.in_ok-protocols.protocols.items) c.deref-2.ensures.value
+    c.in_ok-protocols.ensures.found in
+    let are =
+    sorted_conforming rules m.protocols u symbols c.in_ok-protocols.protocols.items sorted found c.sort_unstable.ensures.permutation in
+    subst (λ (n : MapView). ArePropertiesOf rules n.protocols u (record { protocols = c.new.result; layout = c.has-layout.result }))
+    c.self.view_is
     (subst (λ ps. ArePropertiesOf rules m.protocols u (record { protocols = ps; layout = c.has-layout.result })) (sym c.new.ensures)
     (subst (λ ps. ArePropertiesOf rules m.protocols u (record { protocols = ps; layout = c.has-layout.result })) (sym once) (record {
-      protocols_are = all_conforming rules c.count-complete.ensures.complete m (subst (IsMapOf rules) (sym c.self.view_is) c.requires.map) u c.requires.least
+      protocols_are = all_conforming rules c.count-complete.ensures.complete m
+          (subst (IsMapOf rules) (sym c.self.view_is) c.requires.map) u c.requires.least
           c.longest-longest.result c.longest-longest.ensures symbols (dedup ◌==◌ sorted) followers are;
       ascending = IsStrictlyIncreasing-dedup sorted c.sort_unstable.ensures.sorted;
       layout_is = c.has-layout.ensures.answer;

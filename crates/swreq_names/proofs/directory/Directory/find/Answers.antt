@@ -7,4 +7,5 @@ use Rattle.swreq_names.proofs.directory.Directory.find.Goals as goal
 pub returns-in-None : goal.returns-in-None
 returns-in-None c =
     sym (none_placed (names_of c.args.self.now) c.args.name.now 0
-    (λ h. c.in-None.ensures ((c.self.invariant.same c.args.name.now).1 (subst (λ (ds : List Declaration). Contains (names_of ds) c.args.name.now) (sym c.self.view_is) h))))
+    (λ h. c.in-None.ensures ((c.self.invariant.same c.args.name.now).1
+    (subst (λ (ds : List Declaration). Contains (names_of ds) c.args.name.now) (sym c.self.view_is) h))))

@@ -4,7 +4,8 @@ use Rattle.swreq_param.proofs.table.ParamTable.entry.Goals as goal
 
 pub unreachable-requires : goal.unreachable-requires
 unreachable-requires c =
-    let h : c.args.t.place < length c.self.inside.entries.keys = in_table c.self.inside.entries.keys c.args.self.now c.args.t c.self.view_is c.requires in
+    let h : c.args.t.place < length c.self.inside.entries.keys =
+    in_table c.self.inside.entries.keys c.args.self.now c.args.t c.self.view_is c.requires in
     search rules
 
 pub returns : goal.returns

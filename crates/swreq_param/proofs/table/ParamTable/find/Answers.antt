@@ -5,9 +5,11 @@ use Rattle.swreq_param.proofs.table.ParamTable.find.Goals as goal
 
 pub returns-in-Some : goal.returns-in-Some
 returns-in-Some c =
-    stands_at c.self.inside.entries.keys c.args.self.now (Member c.args.base c.args.step) (record { place = c.in-Some.place }) c.self.invariant c.self.view_is
+    stands_at c.self.inside.entries.keys c.args.self.now (Member c.args.base c.args.step)
+    (record { place = c.in-Some.place }) c.self.invariant c.self.view_is
     (found_at c.self.inside.entries.keys (Member c.args.base c.args.step) c.in-Some.place (sym c.in-Some.ensures.index))
 
 pub returns-in-None : goal.returns-in-None
 returns-in-None c =
-    is_absent c.self.inside.entries.keys c.args.self.now (Member c.args.base c.args.step) c.self.invariant (each_once c.self.inside.entries.keys c.len-count.ensures.unique) c.self.view_is c.requires (sym c.in-None.ensures.found)
+    is_absent c.self.inside.entries.keys c.args.self.now (Member c.args.base c.args.step) c.self.invariant
+    (each_once c.self.inside.entries.keys c.len-count.ensures.unique) c.self.view_is c.requires (sym c.in-None.ensures.found)

@@ -17,8 +17,10 @@ returns-clause-same g c =
     let sorted = c.sort_unstable.new.self.items in
     let kept = dedup_is g.T.PartialEq.eq sorted c.dedup.new.self.items c.dedup.ensures.filtered in
     subst (λ (xs : List g.row.T.Denot). (x : g.row.T.Denot) → Contains xs x ↔ Contains c.args.items.items x) (sym kept) (λ x. (
-      λ h. Contains-permutation sorted c.args.items.items x (IsPermutation-sym c.args.items.items sorted c.sort_unstable.ensures.permutation)
+      λ h.
+          Contains-permutation sorted c.args.items.items x (IsPermutation-sym c.args.items.items sorted c.sort_unstable.ensures.permutation)
           (Contains-from_dedup g.T.PartialEq.eq sorted x h),
-      λ h. Contains-dedup g.met.T.Eq.laws (λ y z e. c.requires y z (is_equal (g.T.Ord.cmp y z) (sym (g.met.T.Ord.matches_eq y z) ∙ e))) sorted x
+      λ h. Contains-dedup g.met.T.Eq.laws
+          (λ y z e. c.requires y z (is_equal (g.T.Ord.cmp y z) (sym (g.met.T.Ord.matches_eq y z) ∙ e))) sorted x
           (Contains-permutation c.args.items.items sorted x c.sort_unstable.ensures.permutation h),
     ))

@@ -10,12 +10,14 @@ loop-at-init c =
 
 pub loop-at-preserved : goal.loop-at-preserved
 loop-at-preserved c =
-    gains_at_more (λ at key. (k : ℕ) × IsFrom c.args.self.now c.args.left.now c.args.number k at (place_of key)) c.loop-at.at c.args.keys.now.items
+    gains_at_more (λ at key. (k : ℕ) × IsFrom c.args.self.now c.args.left.now c.args.number k at (place_of key))
+    c.loop-at.at c.args.keys.now.items
     c.loop-at.keys.items c.add_from_at.new.keys.items c.loop-at.invariant c.in_ok-add_from_at.ensures
 
 pub returns : goal.returns
 returns c =
     let whole : c.loop-at.at ≡ length c.args.left.now = omega arith in
     subst
-    (λ n. Gains (GainedAtBelow (λ at key. (k : ℕ) × IsFrom c.args.self.now c.args.left.now c.args.number k at (place_of key)) n) c.args.keys.now.items c.loop-at.keys.items)
+    (λ n. Gains (GainedAtBelow (λ at key. (k : ℕ) × IsFrom c.args.self.now c.args.left.now c.args.number k at (place_of key)) n)
+    c.args.keys.now.items c.loop-at.keys.items)
     whole c.loop-at.invariant

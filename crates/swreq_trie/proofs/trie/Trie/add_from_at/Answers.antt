@@ -20,12 +20,17 @@ returns c =
     on_ok_weaker c.add_from_nodes.result
     (λ g. subst (λ stored. Gains (λ key. (k : ℕ) × IsFrom stored left number k at (place_of key)) old new) c.self.view_is
     (gains_like
-    (λ key. (m : Met) × Holds nodes m × ((spot : Spot) × IsListed t.passing.items m.node spot × IsFromKey number at (length left) m.depth spot key))
+    (λ key.
+    (m : Met) × Holds nodes m × ((spot : Spot) × IsListed t.passing.items m.node spot × IsFromKey number at (length left) m.depth spot key))
     (λ key. (k : ℕ) × IsFrom t.entries.items left number k at (place_of key)) old new
-    (λ key w. listed_from t.edges t.ends.items t.passing.items t.inside.items t.lengths t.entries.items c.self.invariant left number at c.requires nodes met key w)
-    (λ key o. from_listed t.edges t.ends.items t.passing.items t.inside.items t.lengths t.entries.items c.self.invariant left number at c.requires nodes met key o)
-    (subst (λ p. Gains (λ key. (m : Met) × Holds nodes m × ((spot : Spot) × IsListed p m.node spot × IsFromKey number at (length left) m.depth spot key)) old new)
+    (λ key w. listed_from t.edges t.ends.items t.passing.items t.inside.items t.lengths t.entries.items c.self.invariant left number at
+    c.requires nodes met key w)
+    (λ key o. from_listed t.edges t.ends.items t.passing.items t.inside.items t.lengths t.entries.items c.self.invariant left number at
+    c.requires nodes met key o)
+    (subst (λ p. Gains (λ key.
+    (m : Met) × Holds nodes m × ((spot : Spot) × IsListed p m.node spot × IsFromKey number at (length left) m.depth spot key)) old new)
     c.deref-2.ensures.value
-    (subst (λ x. Gains (λ key. (m : Met) × Holds x m × ((spot : Spot) × IsListed c.deref-2.result.now m.node spot × IsFromKey number at (length left) m.depth spot key)) old new)
+    (subst (λ x. Gains (λ key. (m : Met) × Holds x m
+    × ((spot : Spot) × IsListed c.deref-2.result.now m.node spot × IsFromKey number at (length left) m.depth spot key)) old new)
     c.deref-3.ensures.value g))))
     c.add_from_nodes.ensures

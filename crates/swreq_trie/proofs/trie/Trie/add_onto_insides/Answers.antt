@@ -13,7 +13,8 @@ returns-in-None c =
     let t = c.self.inside in let left = c.args.left.now in let number = c.args.number in let keys = c.args.keys.now.items in
     subst (λ stored. Gains (λ key. (k : ℕ) × (at : ℕ) × (0 < at) × IsOnto stored left number k at (place_of key)) keys keys) c.self.view_is
     (gains_none (λ key. (k : ℕ) × (at : ℕ) × (0 < at) × IsOnto t.entries.items left number k at (place_of key)) keys
-    (λ key o. no_insides t.edges t.ends.items t.passing.items t.inside.items t.lengths t.entries.items c.self.invariant left number c.requires _ key
+    (λ key o.
+    no_insides t.edges t.ends.items t.passing.items t.inside.items t.lengths t.entries.items c.self.invariant left number c.requires _ key
     c.in-None.ensures.found o))
 
 pub returns-in-Some : goal.returns-in-Some
@@ -22,12 +23,16 @@ returns-in-Some c =
     let old = c.args.keys.now.items in let new = c.add_insides.new.keys.items in let node = c.in-Some.node in
     let is = c.deref-in-Some.ensures.value in
     on_ok_weaker c.add_insides.result
-    (λ g. subst (λ stored. Gains (λ key. (k : ℕ) × (at : ℕ) × (0 < at) × IsOnto stored left number k at (place_of key)) old new) c.self.view_is
+    (λ g.
+    subst (λ stored. Gains (λ key. (k : ℕ) × (at : ℕ) × (0 < at) × IsOnto stored left number k at (place_of key)) old new) c.self.view_is
     (gains_like (λ key. (spot : Spot) × Holds c.spots_of.result.now spot × IsInsideKey t.entries.items left number spot key)
     (λ key. (k : ℕ) × (at : ℕ) × (0 < at) × IsOnto t.entries.items left number k at (place_of key)) old new
-    (λ key w. listed_inside t.edges t.ends.items t.passing.items t.inside.items t.lengths t.entries.items c.self.invariant left number c.requires _ key node
+    (λ key w. listed_inside t.edges t.ends.items t.passing.items t.inside.items t.lengths t.entries.items c.self.invariant left
+    number c.requires _ key node
     c.in-Some.ensures.found (w.0, subst (λ x. IsListed x node w.0) is (c.spots_of.ensures.only w.0 w.1), w.2))
-    (λ key o. (let r = inside_listed t.edges t.ends.items t.passing.items t.inside.items t.lengths t.entries.items c.self.invariant left number c.requires _ key node
+    (λ key o. (let r = inside_listed t.edges t.ends.items t.passing.items t.inside.items t.lengths t.entries.items c.self.invariant left
+    number c.requires _ key node
     c.in-Some.ensures.found o in (r.0, c.spots_of.ensures.all r.0 (subst (λ x. IsListed x node r.0) (sym is) r.1), r.2)))
-    (subst (λ stored. Gains (λ key. (spot : Spot) × Holds c.spots_of.result.now spot × IsInsideKey stored left number spot key) old new) c.deref.ensures.value g)))
+    (subst (λ stored. Gains (λ key. (spot : Spot) × Holds c.spots_of.result.now spot × IsInsideKey stored left number spot key) old new)
+    c.deref.ensures.value g)))
     c.add_insides.ensures

@@ -7,5 +7,6 @@ use Rattle.swreq_trie.proofs.trie.Trie.collect.Goals as goal
 pub returns : goal.returns
 returns c =
     on_ok_weaker c.add_all.result
-    (subst (λ keys. Gains (λ key. IsPlace c.args.self.now c.args.left.now c.args.number (place_of key)) keys c.add_all.new.keys.items) c.clear.ensures.items)
+    (subst (λ keys. Gains (λ key. IsPlace c.args.self.now c.args.left.now c.args.number (place_of key)) keys c.add_all.new.keys.items)
+    c.clear.ensures.items)
     c.add_all.ensures

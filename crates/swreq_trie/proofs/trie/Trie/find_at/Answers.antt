@@ -11,10 +11,12 @@ returns-in-Ok c =
     let t = c.self.inside in
     let w = c.args.w.now in
     let at = c.args.at in
-    let on_way = subst (λ ends. FirstEnd t.edges ends (take (length w - at) (drop at w)) c.in-Ok.number) c.deref.ensures.value c.in-Ok.ensures.found in
+    let on_way =
+    subst (λ ends. FirstEnd t.edges ends (take (length w - at) (drop at w)) c.in-Ok.number) c.deref.ensures.value c.in-Ok.ensures.found in
     subst (λ stored. Shortest stored (drop at w) c.in-Ok.number) c.self.view_is
     (subst (λ x. Shortest t.entries.items x c.in-Ok.number) (whole_rest w at)
-    (shortest t.edges t.ends.items t.passing.items t.inside.items t.lengths t.entries.items c.self.invariant (take (length w - at) (drop at w)) c.in-Ok.number on_way))
+    (shortest t.edges t.ends.items t.passing.items t.inside.items t.lengths t.entries.items c.self.invariant
+    (take (length w - at) (drop at w)) c.in-Ok.number on_way))
 
 pub returns-in-Err : goal.returns-in-Err
 returns-in-Err c v same =

@@ -18,10 +18,12 @@ invariant_of-self-in-Ok c =
     let entry : Entry = record { left = left; number = c.args.number } in
     let same : c.new-word.result ≡ left = c.new-word.ensures ∙ c.in_ok-from_slice.ensures.items in
     let count : c.len-index.result ≡ length stored = omega (arith, c.len-index.ensures, t.entries.ok.0) in
-    index_more t.edges n.edges t.ends.items n.ends.items t.passing.items n.passing.items t.inside.items n.inside.items t.lengths stored c.self.invariant entry
+    index_more t.edges n.edges t.ends.items n.ends.items t.passing.items n.passing.items t.inside.items n.inside.items t.lengths
+    stored c.self.invariant entry
     e.grown e.forked e.ends e.passing e.inside
     (subst (λ k. ListsOnly t.passing.items n.passing.items (λ m s. (s ≡ begin_of k entry) × IsOnWay n.edges left m)) count e.passes)
-    (subst (λ k. ListsOnly t.inside.items n.inside.items (λ m s. (at : ℕ) × (s ≡ spot_of k entry at) × IsWithin n.edges left at m)) count e.stands)
+    (subst (λ k. ListsOnly t.inside.items n.inside.items (λ m s. (at : ℕ) × (s ≡ spot_of k entry at) × IsWithin n.edges left at m)) count
+    e.stands)
     c.mark.new.ends.items c.in-Ok.node c.in-Ok.ensures.leads c.mark.ensures
     (subst (λ k. IsPassing n.edges n.passing.items (begin_of k entry) left) count c.in-Ok.ensures.listed)
     (subst (λ k. IsInside n.edges n.inside.items k entry) count c.in-Ok.ensures.spots)
@@ -41,11 +43,14 @@ invariant_of-self-in-Err c =
     let count : c.len-index.result ≡ length stored = omega (arith, c.len-index.ensures, t.entries.ok.0) in
     let all_but_one : c.push.new.self.len - 1 ≡ length stored = omega (arith, c.in_ok-push.ensures.len, t.entries.ok.0) in
     let popped : c.pop-entry.new.self.items ≡ stored =
-    c.pop-entry.ensures.rest ∙ ap (λ xs. take (c.push.new.self.len - 1) xs) c.in_ok-push.ensures.items ∙ ap (λ k. take k (stored ++ last ∷ [])) all_but_one
+    c.pop-entry.ensures.rest ∙ ap (λ xs. take (c.push.new.self.len - 1) xs) c.in_ok-push.ensures.items
+    ∙ ap (λ k. take k (stored ++ last ∷ [])) all_but_one
     ∙ take-append-le (length stored) stored (last ∷ []) (omega arith) ∙ take-length stored in
     subst (IsIndex n.edges n.ends.items c.forget.new.lists.items c.forget-in-Err.new.lists.items t.lengths) (sym popped)
-    (index_forgot t.edges n.edges t.ends.items n.ends.items t.passing.items n.passing.items t.inside.items n.inside.items t.lengths stored c.self.invariant entry
+    (index_forgot t.edges n.edges t.ends.items n.ends.items t.passing.items n.passing.items t.inside.items n.inside.items t.lengths
+    stored c.self.invariant entry
     e.grown e.forked e.ends e.passing e.inside
     (subst (λ k. ListsOnly t.passing.items n.passing.items (λ m s. (s ≡ begin_of k entry) × IsOnWay n.edges left m)) count e.passes)
-    (subst (λ k. ListsOnly t.inside.items n.inside.items (λ m s. (at : ℕ) × (s ≡ spot_of k entry at) × IsWithin n.edges left at m)) count e.stands)
+    (subst (λ k. ListsOnly t.inside.items n.inside.items (λ m s. (at : ℕ) × (s ≡ spot_of k entry at) × IsWithin n.edges left at m)) count
+    e.stands)
     c.forget.new.lists.items c.forget-in-Err.new.lists.items c.len-index.result count c.forget.ensures c.forget-in-Err.ensures)

@@ -8,12 +8,14 @@ use Rattle.swreq_valid.proofs.machine.Machine.are_equal.Goals as goal
 
 pub returns-then-not-walk-clause-answer : goal.returns-then-not-walk-clause-answer
 returns-then-not-walk-clause-answer c list is =
-    inl (λ v. (let shown = c.if-not-walk.ensures.valid.1 (derivable_shown (world_of c.args.text.now) c.requires.text.closed c.args.self.now list is
+    inl (λ v.
+    (let shown = c.if-not-walk.ensures.valid.1 (derivable_shown (world_of c.args.text.now) c.requires.text.closed c.args.self.now list is
     (term_at c.args.text.now.table.now c.args.a) v) in cc))
 
 pub returns-then-not-walk-2-clause-answer : goal.returns-then-not-walk-2-clause-answer
 returns-then-not-walk-2-clause-answer c list is =
-    inr (λ v. (let shown = c.if-not-walk-2.ensures.valid.1 (derivable_shown (world_of c.args.text.now) c.requires.text.closed c.args.self.now list is
+    inr (λ v.
+    (let shown = c.if-not-walk-2.ensures.valid.1 (derivable_shown (world_of c.args.text.now) c.requires.text.closed c.args.self.now list is
     (term_at c.args.text.now.table.now c.args.b) v) in cc))
 
 pub returns-clause-answer : goal.returns-clause-answer

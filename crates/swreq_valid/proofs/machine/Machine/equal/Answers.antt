@@ -15,6 +15,7 @@ pub returns-in-None-clause-answer : goal.returns-in-None-clause-answer
 returns-in-None-clause-answer c list is = (
   (λ h. cc),
   λ e. absurd (none_equal (world_by c.args.table.now c.args.world.now) c.args.self.now list (term_at c.args.table.now c.args.a)
-      (term_at c.args.table.now c.args.b) (subst (TellsIfEqual (IsDerivable (world_by c.args.table.now c.args.world.now) c.args.self.now list)
+      (term_at c.args.table.now c.args.b)
+      (subst (TellsIfEqual (IsDerivable (world_by c.args.table.now c.args.world.now) c.args.self.now list)
       (term_at c.args.table.now c.args.a) (term_at c.args.table.now c.args.b)) c.in-None.is (c.are_equal.ensures.answer list is)) e),
 )

@@ -7,9 +7,11 @@ use Rattle.swreq_valid.proofs.machine.Machine.has.Goals as goal
 
 pub vanishing-requires-clause-property : goal.vanishing-requires-clause-property
 vanishing-requires-clause-property c =
-    subst (λ x. IsProperty c.args.map.now.protocols x) (sym c.symbol.ensures) (is_property c.args.map.now.protocols c.args.property c.requires.property)
+    subst (λ x. IsProperty c.args.map.now.protocols x) (sym c.symbol.ensures)
+    (is_property c.args.map.now.protocols c.args.property c.requires.property)
 
 pub returns-clause-answer : goal.returns-clause-answer
 returns-clause-answer c list is =
-    tells_if_has (world_by c.args.text.now.table.now c.args.text.now.world.now) c.requires.text.closed c.args.self.now list is (term_at c.args.text.now.table.now c.args.t)
+    tells_if_has (world_by c.args.text.now.table.now c.args.text.now.world.now) c.requires.text.closed c.args.self.now list is
+    (term_at c.args.text.now.table.now c.args.t)
     c.args.property c.symbol.result c.vanishing.result c.symbol.ensures c.vanishing.ensures.answer

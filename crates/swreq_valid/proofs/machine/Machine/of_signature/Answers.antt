@@ -24,7 +24,8 @@ returns-in_err-list-clause-answer g c =
 
 pub build-requires-clause-written : goal.build-requires-clause-written
 build-requires-clause-written g c =
-    list_written c.args.text.now.table.now c.args.text.now.world.now c.args.f _ _ c.params.ensures (c.deref.ensures.value ∙ c.in_ok-list.ensures)
+    list_written c.args.text.now.table.now c.args.text.now.world.now c.args.f _ _ c.params.ensures
+    (c.deref.ensures.value ∙ c.in_ok-list.ensures)
     c.requires.text c.requires.f
 
 pub returns : goal.returns
@@ -37,9 +38,11 @@ returns g c =
     record {
       answer = builds terms w c.args.f _ _ c.params.ensures (c.deref.ensures.value ∙ c.in_ok-list.ensures) c.args.limits base
           (g.W.Watch.told c.args.watch.now) (g.W.Watch.told c.build.new.watch) (built_rules c.build.result) c.build.ensures.answer;
-      only = meant (λ p rs qs. IsOnlyBuilt c.args.limits (list_of all base p rs) (facts_of all) (sides (WrittenList (generic_params p) rs) qs)
+      only =
+          meant (λ p rs qs. IsOnlyBuilt c.args.limits (list_of all base p rs) (facts_of all) (sides (WrittenList (generic_params p) rs) qs)
           (built_rules c.build.result)) c.build.ensures.only;
-      rounds = meant (λ p rs qs. IfOk c.build.result (λ m. AreRounds c.args.limits (list_of all base p rs) m.rounds)) c.build.ensures.rounds;
+      rounds =
+          meant (λ p rs qs. IfOk c.build.result (λ m. AreRounds c.args.limits (list_of all base p rs) m.rounds)) c.build.ensures.rounds;
       machine = meant (λ p rs qs. IfOk c.build.result (IsMachineOf all rs)) c.build.ensures.machine;
       params = meant (λ p rs qs. IfOk c.build.result (λ m. m.params ≡ p)) c.build.ensures.params;
     }

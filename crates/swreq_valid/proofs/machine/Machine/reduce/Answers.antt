@@ -20,26 +20,31 @@ returns-then-valid-clause-reduced c list is v =
     (with_steps (Generic c.head_of-scratch-inside.result) c.read_steps.new.steps.items)
     (λ q b.
     let same : c.head_of-scratch-inside.result ≡ head q =
-    c.head_of-scratch-inside.ensures (head q).depth (head q).index _ (c.deref.ensures.value ∙ begins_head c.args.text.now.world.now.lexicon rules q [] u b) in
+    c.head_of-scratch-inside.ensures (head q).depth (head q).index _
+    (c.deref.ensures.value ∙ begins_head c.args.text.now.world.now.lexicon rules q [] u b) in
     ap (λ g. with_steps (Generic g) c.read_steps.new.steps.items) same
     ∙ c.read_steps.ensures.steps q
-    (subst₂ (λ r z. BeginsBy c.args.text.now.world.now.lexicon r q [] z) (sym c.rules-rules.ensures) (sym c.deref-then-valid.ensures.value) b))
+    (subst₂ (λ r z. BeginsBy c.args.text.now.world.now.lexicon r q [] z) (sym c.rules-rules.ensures)
+    (sym c.deref-then-valid.ensures.value) b))
 
 pub returns-then-valid-clause-word : goal.returns-then-valid-clause-word
 returns-then-valid-clause-word c list is v =
-    least_in (world_of c.args.text.now) c.requires.text.closed c.args.self.now list is (term_at c.args.text.now.table.now c.args.t) c.walk-valid.new.word.items
+    least_in (world_of c.args.text.now) c.requires.text.closed c.args.self.now list is
+    (term_at c.args.text.now.table.now c.args.t) c.walk-valid.new.word.items
     c.if-valid.ensures.least.0 c.if-valid.ensures.least.1 v
 
 pub returns-else-valid-clause-reduced : goal.returns-else-valid-clause-reduced
 returns-else-valid-clause-reduced c list is v =
     absurd (let shown : IsTrue c.walk-valid.result =
-    c.walk-valid.ensures.valid.1 (derivable_shown (world_of c.args.text.now) c.requires.text.closed c.args.self.now list is (term_at c.args.text.now.table.now c.args.t) v) in
+    c.walk-valid.ensures.valid.1 (derivable_shown (world_of c.args.text.now) c.requires.text.closed c.args.self.now list is
+    (term_at c.args.text.now.table.now c.args.t) v) in
     let fails = c.if-valid.false in cc)
 
 pub returns-else-valid-clause-word : goal.returns-else-valid-clause-word
 returns-else-valid-clause-word c list is v =
     absurd (let shown : IsTrue c.walk-valid.result =
-    c.walk-valid.ensures.valid.1 (derivable_shown (world_of c.args.text.now) c.requires.text.closed c.args.self.now list is (term_at c.args.text.now.table.now c.args.t) v) in
+    c.walk-valid.ensures.valid.1 (derivable_shown (world_of c.args.text.now) c.requires.text.closed c.args.self.now list is
+    (term_at c.args.text.now.table.now c.args.t) v) in
     let fails = c.if-valid.false in cc)
 
 pub returns-then-valid-clause-valid : goal.returns-then-valid-clause-valid

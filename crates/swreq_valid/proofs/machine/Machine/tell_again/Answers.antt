@@ -23,18 +23,22 @@ returns-in_err-tell_course g c limits plan is are =
     = subst (λ (rs : List RoundView). rs ≡ front ++ ended_round used (last_rules rs) ∷ []) c.rounds.ensures split in
     let k = c.loop-k.k in
     let base : c.count_of-base.result ≡ length plan.base = c.count_of-base.ensures ∙ ap length (sym is) in
-    let so_far = subst (λ (n : ℕ). GrewBy (told c.args.watch.now) (told c.loop-k.watch) (events_of n (take k front))) base c.loop-k.invariant in
+    let so_far =
+    subst (λ (n : ℕ). GrewBy (told c.args.watch.now) (told c.loop-k.watch) (events_of n (take k front))) base c.loop-k.invariant in
     let part : TellsRound (length plan.base) (get_or front k c.index-before-k.result) (told c.loop-k.watch) (told c.tell_course.new.watch)
     = subst (λ (r : RoundView). TellsRound (length plan.base) r (told c.loop-k.watch) (told c.tell_course.new.watch)) c.index-before-k.is
-    (subst (λ (n : ℕ). TellsRound n c.index-before-k.result (told c.loop-k.watch) (told c.tell_course.new.watch)) base c.in_err-tell_course.ensures.err) in
+    (subst (λ (n : ℕ). TellsRound n c.index-before-k.result (told c.loop-k.watch) (told c.tell_course.new.watch)) base
+    c.in_err-tell_course.ensures.err) in
     let p = err_from_is_err_and c.from_residual.result c.from_residual.ensures.1 in
-    rw p.1 (front_lost limits plan rounds are (told c.args.watch.now) (told c.tell_course.new.watch) front used whole k c.index-before-k.result
+    rw p.1
+    (front_lost limits plan rounds are (told c.args.watch.now) (told c.tell_course.new.watch) front used whole k c.index-before-k.result
     (told c.loop-k.watch) c.loop-k-test.true so_far part)
 
 pub loop-k-preserved : goal.loop-k-preserved
 loop-k-preserved g c =
     let told = g.W.Watch.told in
-    one_more_round c.count_of-base.result c.before-before.result.now c.loop-k.k c.index-before-k.result (told c.args.watch.now) (told c.loop-k.watch)
+    one_more_round c.count_of-base.result c.before-before.result.now c.loop-k.k c.index-before-k.result
+    (told c.args.watch.now) (told c.loop-k.watch)
     (told c.tell_course.new.watch) c.loop-k-test.true (sym c.index-before-k.is) c.loop-k.invariant c.in_ok-tell_course.ensures.ok
 
 pub returns : goal.returns
@@ -51,9 +55,12 @@ returns g c limits plan is are =
     let own = c.rules.ensures in
     all_told limits plan rounds are (told c.args.watch.now) (told c.tell_round.new.watch) front used whole (told c.loop-k.watch)
     (subst (λ (n : ℕ). GrewBy (told c.args.watch.now) (told c.loop-k.watch) (events_of n front)) base so_far) c.tell_round.result
-    (subst (λ (rs : List Rule). OnOk c.tell_round.result (GrewBy (told c.loop-k.watch) (told c.tell_round.new.watch) (events (length plan.base) rs))) own
-    (subst (λ (n : ℕ). OnOk c.tell_round.result (GrewBy (told c.loop-k.watch) (told c.tell_round.new.watch) (events n c.rules.result.now))) base
+    (subst (λ (rs : List Rule).
+    OnOk c.tell_round.result (GrewBy (told c.loop-k.watch) (told c.tell_round.new.watch) (events (length plan.base) rs))) own
+    (subst (λ (n : ℕ). OnOk c.tell_round.result (GrewBy (told c.loop-k.watch) (told c.tell_round.new.watch) (events n c.rules.result.now)))
+    base
     c.tell_round.ensures.ok))
-    (subst (λ (rs : List Rule). OnErr c.tell_round.result (TellsFront (length plan.base) rs (told c.loop-k.watch) (told c.tell_round.new.watch))) own
+    (subst (λ (rs : List Rule).
+    OnErr c.tell_round.result (TellsFront (length plan.base) rs (told c.loop-k.watch) (told c.tell_round.new.watch))) own
     (subst (λ (n : ℕ). OnErr c.tell_round.result (TellsFront n c.rules.result.now (told c.loop-k.watch) (told c.tell_round.new.watch))) base
     c.tell_round.ensures.err))

@@ -13,7 +13,8 @@ has-requires-clause-map c = subst (λ r. IsMapOf r c.args.map.now) (sym c.rules.
 pub returns-then-walk-clause-answer : goal.returns-then-walk-clause-answer
 returns-then-walk-clause-answer c = (
   c.if-walk.ensures.valid.0 refl,
-  behind_answer (world_by c.args.text.now.table.now c.args.text.now.world.now) c.args.self.now (term_at c.args.text.now.table.now c.args.t) c.args.x c.walk.new.word.items c.deref.result.now
+  behind_answer (world_by c.args.text.now.table.now c.args.text.now.world.now) c.args.self.now
+      (term_at c.args.text.now.table.now c.args.t) c.args.x c.walk.new.word.items c.deref.result.now
       c.has.result (c.if-walk.ensures.valid.0 refl) c.if-walk.ensures.least.1 c.deref.ensures.value
       (subst (λ r. Decides c.has.result (Vanishes r c.deref.result.now c.args.x)) c.rules.ensures c.has.ensures.answer),
 )

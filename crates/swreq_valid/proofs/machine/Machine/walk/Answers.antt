@@ -14,7 +14,8 @@ use Rattle.swreq_valid.proofs.machine.Machine.walk.Goals as goal
 pub returns-clause-valid : goal.returns-clause-valid
 returns-clause-valid c =
     let w = world_by c.args.table.now c.args.world.now in
-    subst₂ (λ r p. IsTrue c.least_word.result ↔ ShowsValid (symbols_of w.lexicon) (facts_of w) (source_over (Signature p)) (Links r) (term_at c.args.table.now c.args.t))
+    subst₂ (λ r p. IsTrue c.least_word.result
+    ↔ ShowsValid (symbols_of w.lexicon) (facts_of w) (source_over (Signature p)) (Links r) (term_at c.args.table.now c.args.t))
     c.rules.ensures c.params.ensures c.least_word.ensures.valid
 
 pub returns-clause-least : goal.returns-clause-least

@@ -14,24 +14,35 @@ pub returns-in_err-rounds-clause-answer : goal.returns-in_err-rounds-clause-answ
 returns-in_err-rounds-clause-answer g c =
     let p = err_from_is_err_and c.from_residual.result c.from_residual.ensures.1 in
     rw p.1
-    (protocols_failed (world_by c.args.table.now c.args.world.now) c.requires.text.closed c.args.limits (g.W.Watch.told c.args.watch.now) (g.W.Watch.told c.complete_protocols.new.watch) c.in_err-rounds.field-0.0 p.0 p.2 c.in_err-rounds.ensures.answer)
+    (protocols_failed (world_by c.args.table.now c.args.world.now) c.requires.text.closed c.args.limits (g.W.Watch.told c.args.watch.now)
+    (g.W.Watch.told c.complete_protocols.new.watch) c.in_err-rounds.field-0.0 p.0 p.2 c.in_err-rounds.ensures.answer)
 
 pub returns-in_err-rounds-clause-only : goal.returns-in_err-rounds-clause-only
 returns-in_err-rounds-clause-only g c =
     let p = err_from_is_err_and c.from_residual.result c.from_residual.ensures.1 in
     rw p.1
-    (only_built c.args.limits (protocols_of (world_by c.args.table.now c.args.world.now)) (facts_of (world_by c.args.table.now c.args.world.now)) (protocol_sides (world_by c.args.table.now c.args.world.now)) (Err p.0) (g.W.Watch.told c.args.watch.now) (g.W.Watch.told c.complete_protocols.new.watch)
-    (protocols_failed (world_by c.args.table.now c.args.world.now) c.requires.text.closed c.args.limits (g.W.Watch.told c.args.watch.now) (g.W.Watch.told c.complete_protocols.new.watch) c.in_err-rounds.field-0.0 p.0 p.2 c.in_err-rounds.ensures.answer))
+    (only_built c.args.limits (protocols_of (world_by c.args.table.now c.args.world.now))
+    (facts_of (world_by c.args.table.now c.args.world.now)) (protocol_sides (world_by c.args.table.now c.args.world.now)) (Err p.0)
+    (g.W.Watch.told c.args.watch.now) (g.W.Watch.told c.complete_protocols.new.watch)
+    (protocols_failed (world_by c.args.table.now c.args.world.now) c.requires.text.closed c.args.limits (g.W.Watch.told c.args.watch.now)
+    (g.W.Watch.told c.complete_protocols.new.watch) c.in_err-rounds.field-0.0 p.0 p.2 c.in_err-rounds.ensures.answer))
 
 pub returns-clause-answer : goal.returns-clause-answer
 returns-clause-answer g c =
-    protocols_judged (world_by c.args.table.now c.args.world.now) c.requires.text.closed c.args.limits (g.W.Watch.told c.args.watch.now) (g.W.Watch.told c.complete_protocols.new.watch) c.in_ok-rounds.rounds c.judge_protocols.result c.in_ok-rounds.ensures.answer c.in_ok-rounds.ensures.rules c.judge_protocols.ensures.judged
+    protocols_judged (world_by c.args.table.now c.args.world.now) c.requires.text.closed c.args.limits (g.W.Watch.told c.args.watch.now)
+    (g.W.Watch.told c.complete_protocols.new.watch) c.in_ok-rounds.rounds c.judge_protocols.result c.in_ok-rounds.ensures.answer
+    c.in_ok-rounds.ensures.rules c.judge_protocols.ensures.judged
 
 pub returns-clause-only : goal.returns-clause-only
 returns-clause-only g c =
-    only_built c.args.limits (protocols_of (world_by c.args.table.now c.args.world.now)) (facts_of (world_by c.args.table.now c.args.world.now)) (protocol_sides (world_by c.args.table.now c.args.world.now)) (protocol_rules c.judge_protocols.result) (g.W.Watch.told c.args.watch.now) (g.W.Watch.told c.complete_protocols.new.watch)
-    (protocols_judged (world_by c.args.table.now c.args.world.now) c.requires.text.closed c.args.limits (g.W.Watch.told c.args.watch.now) (g.W.Watch.told c.complete_protocols.new.watch) c.in_ok-rounds.rounds c.judge_protocols.result c.in_ok-rounds.ensures.answer c.in_ok-rounds.ensures.rules c.judge_protocols.ensures.judged)
+    only_built c.args.limits (protocols_of (world_by c.args.table.now c.args.world.now))
+    (facts_of (world_by c.args.table.now c.args.world.now)) (protocol_sides (world_by c.args.table.now c.args.world.now))
+    (protocol_rules c.judge_protocols.result) (g.W.Watch.told c.args.watch.now) (g.W.Watch.told c.complete_protocols.new.watch)
+    (protocols_judged (world_by c.args.table.now c.args.world.now) c.requires.text.closed c.args.limits (g.W.Watch.told c.args.watch.now)
+    (g.W.Watch.told c.complete_protocols.new.watch) c.in_ok-rounds.rounds c.judge_protocols.result c.in_ok-rounds.ensures.answer
+    c.in_ok-rounds.ensures.rules c.judge_protocols.ensures.judged)
 
 pub returns-clause-usable : goal.returns-clause-usable
 returns-clause-usable g c =
-    build_usable (world_by c.args.table.now c.args.world.now) c.requires.text.closed (last_rules c.in_ok-rounds.rounds) c.in_ok-rounds.ensures.rules c.judge_protocols.result c.judge_protocols.ensures.usable
+    build_usable (world_by c.args.table.now c.args.world.now) c.requires.text.closed
+    (last_rules c.in_ok-rounds.rounds) c.in_ok-rounds.ensures.rules c.judge_protocols.result c.judge_protocols.ensures.usable

@@ -14,7 +14,8 @@ pub returns-in_err-protocols-clause-answer : goal.returns-in_err-protocols-claus
 returns-in_err-protocols-clause-answer g c =
     let p = err_from_is_err_and c.from_residual-in_err-protocols.result c.from_residual-in_err-protocols.ensures.1 in
     rw (p.1, p.2)
-    (memory_at_end c.args.limits (kept_plan (world_by c.args.table.now c.args.world.now) c.args.keep.now.lists) (last_rules c.in_ok-rounds.rounds)
+    (memory_at_end c.args.limits (kept_plan (world_by c.args.table.now c.args.world.now) c.args.keep.now.lists)
+    (last_rules c.in_ok-rounds.rounds)
     (g.W.Watch.told c.args.watch.now) (g.W.Watch.told c.complete_kept.new.watch) c.in_ok-rounds.ensures.answer)
 
 pub returns-clause-answer : goal.returns-clause-answer
@@ -25,19 +26,23 @@ returns-clause-answer g c =
 
 pub returns-clause-only : goal.returns-clause-only
 returns-clause-only g c =
-    subst (λ (z : List RoundView). IsOnlyOutcome c.args.limits (kept_plan (world_by c.args.table.now c.args.world.now) c.args.keep.now.lists) (Ok (last_rules z)))
+    subst (λ (z : List RoundView).
+    IsOnlyOutcome c.args.limits (kept_plan (world_by c.args.table.now c.args.world.now) c.args.keep.now.lists) (Ok (last_rules z)))
     (sym c.in_ok-protocols.ensures.same) c.in_ok-rounds.ensures.only
 
 pub returns-clause-rounds : goal.returns-clause-rounds
 returns-clause-rounds g c =
-    subst (AreRounds c.args.limits (kept_plan (world_by c.args.table.now c.args.world.now) c.args.keep.now.lists)) (sym c.in_ok-protocols.ensures.same) c.in_ok-rounds.ensures.rounds
+    subst (AreRounds c.args.limits (kept_plan (world_by c.args.table.now c.args.world.now) c.args.keep.now.lists))
+    (sym c.in_ok-protocols.ensures.same) c.in_ok-rounds.ensures.rounds
 
 pub returns-clause-rules : goal.returns-clause-rules
 returns-clause-rules g c =
-    subst (λ (z : List RoundView). AreProtocolRules (symbols_of c.args.world.now.lexicon) (kept_facts (world_by c.args.table.now c.args.world.now) c.args.keep.now.lists) (last_rules z))
+    subst (λ (z : List RoundView). AreProtocolRules (symbols_of c.args.world.now.lexicon)
+    (kept_facts (world_by c.args.table.now c.args.world.now) c.args.keep.now.lists) (last_rules z))
     (sym c.in_ok-protocols.ensures.same) c.in_ok-rounds.ensures.rules
 
 pub returns-clause-usable : goal.returns-clause-usable
 returns-clause-usable g c =
-    kept_usable (world_by c.args.table.now c.args.world.now) c.requires.text.closed c.args.keep.now.lists (last_rules c.in_ok-rounds.rounds) c.in_ok-rounds.ensures.rules
+    kept_usable (world_by c.args.table.now c.args.world.now) c.requires.text.closed c.args.keep.now.lists
+    (last_rules c.in_ok-rounds.rounds) c.in_ok-rounds.ensures.rules
     c.in_ok-protocols.protocols.usable c.in_ok-protocols.ensures.usable

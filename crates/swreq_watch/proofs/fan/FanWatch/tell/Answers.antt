@@ -12,7 +12,8 @@ returns-in_err-tell_member-clause-up_to_one g c =
     stopped _ _ _ _ _ _ (omega arith) kept
 
 pub loop-place-preserved : goal.loop-place-preserved
-loop-place-preserved g c = first_set _ _ _ _ _ _ _ c.loop-place.invariant (omega arith) c.index_mut.ensures.value c.in_ok-tell_member.ensures.ok
+loop-place-preserved g c =
+    first_set _ _ _ _ _ _ _ c.loop-place.invariant (omega arith) c.index_mut.ensures.value c.in_ok-tell_member.ensures.ok
 
 pub returns-clause-each : goal.returns-clause-each
 returns-clause-each g c = first_all _ _ _ _ c.loop-place.invariant (rw (length-map c.args.self.now.members.items _) (omega arith))

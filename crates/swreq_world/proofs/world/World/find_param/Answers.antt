@@ -9,8 +9,10 @@ pub overflow_cast-result : goal.overflow_cast-result
 overflow_cast-result c =
     let g = c.entry-entry.result.now.signature in
     let d = c.self.inside.lexicon.value.resolved.declared in
-    let same = ap (λ (n : NamesView). param_of n.declared g c.args.name.now) (sym (c.resolved.ensures ∙ ap (λ (l : LexiconView). l.resolved) c.deref.ensures)) in
-    let below = outer_below d g c.args.name.now c.in-Some-Outer.place (same ∙ sym c.find_param.ensures ∙ c.in-Some-Outer.is ∙ ap Some c.in-Some-Outer.field-0-is) in
+    let same = ap (λ (n : NamesView). param_of n.declared g c.args.name.now)
+    (sym (c.resolved.ensures ∙ ap (λ (l : LexiconView). l.resolved) c.deref.ensures)) in
+    let below = outer_below d g c.args.name.now c.in-Some-Outer.place
+    (same ∙ sym c.find_param.ensures ∙ c.in-Some-Outer.is ∙ ap Some c.in-Some-Outer.field-0-is) in
     let few = c.self.invariant.params.outer g in
     omega arith
 
@@ -18,7 +20,9 @@ pub overflow_cast-result-in-Some-Own : goal.overflow_cast-result-in-Some-Own
 overflow_cast-result-in-Some-Own c =
     let g = c.entry-entry.result.now.signature in
     let d = c.self.inside.lexicon.value.resolved.declared in
-    let same = ap (λ (n : NamesView). param_of n.declared g c.args.name.now) (sym (c.resolved.ensures ∙ ap (λ (l : LexiconView). l.resolved) c.deref.ensures)) in
-    let below = own_below d g c.args.name.now c.in-Some-Own.place (same ∙ sym c.find_param.ensures ∙ c.in-Some-Own.is ∙ ap Some c.in-Some-Own.field-0-is) in
+    let same = ap (λ (n : NamesView). param_of n.declared g c.args.name.now)
+    (sym (c.resolved.ensures ∙ ap (λ (l : LexiconView). l.resolved) c.deref.ensures)) in
+    let below = own_below d g c.args.name.now c.in-Some-Own.place
+    (same ∙ sym c.find_param.ensures ∙ c.in-Some-Own.is ∙ ap Some c.in-Some-Own.field-0-is) in
     let few = c.self.invariant.params.own g in
     omega arith

@@ -11,5 +11,6 @@ returns-in-Some c =
     let inside = c.self.inside in
     let names = c.resolved.ensures ∙ ap (λ (l : LexiconView). l.resolved) c.deref.ensures in
     let id = c.func_id.ensures ∙ ap (λ (order : List Signature). func_id order c.in-Some.g) c.deref-in-Some.ensures in
-    found (view_of inside) c.args.self.now inside.signatures inside.order.value c.resolved.result.now (None) c.args.name.now c.in-Some.g c.func_id.result c.self.view_is refl
+    found (view_of inside) c.args.self.now inside.signatures inside.order.value c.resolved.result.now
+    (None) c.args.name.now c.in-Some.g c.func_id.result c.self.view_is refl
     id c.self.invariant.order names (sym c.find_signature.ensures ∙ c.in-Some.is)
