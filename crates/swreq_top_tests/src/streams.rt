@@ -100,9 +100,9 @@ const COMMANDS: &[(&str, &str, u8, &str)] = &[
 
 /// Each read of the text may fail. It comes in pieces of 10, and one read more finds its end.
 fn reads_fail(rt: &impl Abort, alloc: Global, all: Setting<'_>) -> Result<(), Fail> {
-    for before in 0..all.text.len().div_ceil(10) {
+    for (before, _) in all.text.chunks(10).enumerate() {
         let setting = Setting {
-            failing_read: (before + 1) as u32,
+            failing_read: u32::try_from(before + 1)?,
             ..all
         };
         runs(rt, alloc, setting, 4, b"error: read fault\n")?;
@@ -119,7 +119,7 @@ fn room_is_short(
 ) -> Result<(), Fail> {
     for room in 0..output.len() {
         let setting = Setting {
-            room: room as u32,
+            room: u32::try_from(room)?,
             ..all
         };
         runs(rt, alloc, setting, 5, &output[..room])?;
