@@ -29,7 +29,8 @@ use Rattle.swreq_world.specs.Worlds.{IdWorld}
 use Rattle.swreq_symbols.specs.Meaning.{symbols_of}
 use Rattle.swreq_symbols.proofs.Declared.{at_rank, from_rank, symbol_at}
 use Rattle.swreq_symbols.proofs.Symbols.{text_law}
-use Rattle.swreq_explain.specs.Grounded.{IsGroundOf, named_by, parent}
+use Rattle.swreq_explain.specs.declared.grounds.TextNames.{TextNames}
+use Rattle.swreq_explain.specs.Grounded.{AreNamesOf, IsGroundOf, ground_from, named_by, parent}
 
 -- no more numbers below n pass a test than there are
 below_count : (test : ℕ → Bool) (n : ℕ) → count_below test n ≤ n
@@ -39,6 +40,17 @@ below_count test (suc n) = let h = below_count test n in let e = one (test n) in
     one : (b : Bool) → cond b 1 0 ≤ 1
     one true = omega arith
     one false = omega arith
+
+-- The names of the text, with the generic parameters of a list, are the ground of the world.
+pub ground_is : (terms : List Term) (w : IdWorld) (params : Params) (n : TextNames) → AreNamesOf (world_by terms w) n
+    → IsGroundOf terms w params (ground_from n params (length w.lexicon.protocols))
+ground_is terms w params n h = record {
+  params_are = refl;
+  associated = h.associated;
+  members = h.members;
+  parents = h.parents;
+  protocols = refl;
+}
 
 -- A chain of written inheritance begins with a step to a direct parent.
 first_step : {f : TermFacts} {p r q : ProtoId} → LeadsTo f p r → InheritsDirectly f r q

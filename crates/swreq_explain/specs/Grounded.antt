@@ -12,7 +12,8 @@ use Rattle.swreq_read.specs.declared.ground.Named.{Named}
 use Rattle.swreq_read.specs.declared.ground.Parent.{Parent}
 use Rattle.swreq_world.specs.ByTable.{world_by}
 use Rattle.swreq_world.specs.FactsAt.{facts_of}
-use Rattle.swreq_world.specs.Worlds.{IdWorld}
+use Rattle.swreq_world.specs.Worlds.{IdWorld, TextWorld}
+use Rattle.swreq_explain.specs.declared.grounds.TextNames.{TextNames}
 
 abbrev pub named_by : ProtocolName → Named
 named_by d = record { proto = d.proto; name = d.name }
@@ -30,6 +31,22 @@ pub record AreParentsUpTo (f : TermFacts) (p n : ℕ) (parents : List Parent) : 
 -- the written inheritance of the first `count` protocols
 abbrev pub AreParentsOf : TermFacts → ℕ → List Parent → Type 0
 AreParentsOf f count parents = AreParentsUpTo f count 0 parents
+
+-- They are the associated types and the member symbols of the world, each by rank, and its written inheritance.
+pub record AreNamesOf (w : TextWorld) (n : TextNames) : Type 0 where
+  pub associated : n.associated ≡ map named_by w.lexicon.associated
+  pub members : n.members ≡ map named_by w.lexicon.symbols
+  pub parents : AreParentsOf (facts_of w) (length w.lexicon.protocols) n.parents
+
+-- the names of a text, with the generic parameters of a list, where the text has this many protocols
+abbrev pub ground_from : TextNames → Params → ℕ → Ground
+ground_from n params count = record {
+  params = params;
+  associated = n.associated;
+  members = n.members;
+  parents = n.parents;
+  protocols = count;
+}
 
 pub record IsGroundOf (terms : List Term) (w : IdWorld) (params : Params) (g : Ground) : Type 0 where
   pub params_are : g.params ≡ params

@@ -20,7 +20,7 @@ ghost use Rattle.swreq_explain.specs.Books.{IsBookFor};
 ghost use Rattle.swreq_explain.specs.Written.{AreWritten};
 
 use crate::equations::owned;
-use crate::systems::book_of;
+use crate::systems::only_book;
 use crate::writing::lines_over;
 use std::alloc::{AllocError, Global};
 use swreq_derive::{Line, Requirement};
@@ -135,7 +135,7 @@ pub fn explain(
         (λ v. (l : LineView) → Contains v.items l → HasLineIds world.now.lexicon table.new l) }
     ensures extends { Extends table.old table.new }
 {
-    let book = book_of(alloc, world, table, protocols, machine, f)?;
+    let book = only_book(alloc, world, table, protocols, machine, f)?;
     let lines = explain_by(alloc, world, table, &book, query)?;
     Ok(lines)
 }

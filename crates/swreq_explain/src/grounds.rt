@@ -1,5 +1,5 @@
 //! The names and the written inheritance of a text.
-ghost use Rattle.std.specs.Prelude.{◌≡◌, ◌<◌, ◌≤◌, ◌+◌, ◌^◌, ℕ, Contains, IfOk, MatchOption, OnOk, length, map};
+ghost use Rattle.std.specs.Prelude.{◌≡◌, [], ◌<◌, ◌≤◌, ◌+◌, ◌^◌, ℕ, Contains, IfOk, MatchOption, OnOk, length, map};
 ghost use Rattle.swreq_param.specs.Terms.{self};
 ghost use Rattle.swreq_derive.specs.Derivation.TermRequirement.{Conforms};
 ghost use Rattle.swreq_derive.specs.Facts.{requirement_of};
@@ -10,7 +10,7 @@ ghost use Rattle.swreq_world.specs.ByTable.{world_by};
 ghost use Rattle.swreq_world.specs.FactsAt.{facts_of};
 ghost use Rattle.swreq_world.specs.Short.{IsShort};
 ghost use Rattle.swreq_world.specs.Worlds.{requirements_of};
-ghost use Rattle.swreq_explain.specs.Grounded.{AreParentsOf, AreParentsUpTo, IsGroundOf, named_by};
+ghost use Rattle.swreq_explain.specs.Grounded.{AreNamesOf, AreParentsOf, AreParentsUpTo, ground_from, named_by};
 
 use std::alloc::{AllocError, Global};
 use swreq_derive::{Params, Requirement};
@@ -19,6 +19,15 @@ use swreq_param::{AssocId, ParamTable, ProtoId};
 use swreq_read::{Ground, Named, Parent};
 use swreq_text::Seq;
 use swreq_world::World;
+
+/// The names and the written inheritance of a text, which are the same for all its signatures: the associated types and the member symbols,
+/// each by rank, and the parents.
+#[derive(Drop)]
+pub struct TextNames {
+    associated: Seq<Named>,
+    members: Seq<Named>,
+    parents: Seq<Parent>,
+}
 
 fn named(pair: ProtocolName) -> Named
     ensures { result ≡ named_by pair }
@@ -113,20 +122,50 @@ fn parents_of(alloc: Global, world: &World, table: &ParamTable) -> Result<Vec<Pa
     Ok(parents)
 }
 
-/// The names and the written inheritance of the text, with these generic parameters.
-pub(crate) fn ground_of(
+/// No names and no inheritance.
+pub fn no_names(alloc: Global) -> TextNames
+    ensures { result ≡ record { associated = []; members = []; parents = [] } }
+{
+    TextNames {
+        associated: Seq::new(Vec::new(alloc)),
+        members: Seq::new(Vec::new(alloc)),
+        parents: Seq::new(Vec::new(alloc)),
+    }
+}
+
+/// The names and the written inheritance of a text.
+pub fn names_of_text(
     alloc: Global,
     world: &World,
     table: &ParamTable,
-    params: Params,
-) -> Result<Ground, AllocError>
+) -> Result<TextNames, AllocError>
     requires text { IsTextOver table.now world.now }
     requires short { IsShort world.now }
-    ensures { IfOk result (IsGroundOf table.now world.now params) }
+    ensures { IfOk result (AreNamesOf (world_by table.now world.now)) }
 {
     let associated = associated_of(alloc, world)?;
     let members = members_of(alloc, world)?;
     let parents = parents_of(alloc, world, table)?;
+    Ok(TextNames {
+        associated: Seq::new(associated),
+        members: Seq::new(members),
+        parents: Seq::new(parents),
+    })
+}
+
+/// The names and the written inheritance of the text, with these generic parameters.
+pub(crate) fn ground_of(
+    alloc: Global,
+    world: &World,
+    names: &TextNames,
+    params: Params,
+) -> Result<Ground, AllocError>
+    ensures { IfOk result
+        (λ g. g ≡ ground_from names.now params (length world.now.lexicon.protocols)) }
+{
+    let associated = Vec::from_slice(alloc, names.associated.items())?;
+    let members = Vec::from_slice(alloc, names.members.items())?;
+    let parents = Vec::from_slice(alloc, names.parents.items())?;
     Ok(Ground {
         params,
         associated: Seq::new(associated),

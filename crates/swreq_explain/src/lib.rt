@@ -14,4 +14,5 @@ mod validity;
 mod writing;
 
 pub use explaining::{explain, explain_by};
+pub use grounds::{TextNames, names_of_text, no_names};
 pub use systems::book_of;

@@ -7,13 +7,14 @@ ghost use Rattle.swreq_world.specs.ByTable.{world_by};
 ghost use Rattle.swreq_world.specs.Short.{IsShort};
 ghost use Rattle.swreq_explain.specs.Asked.{AreRoundsFor};
 ghost use Rattle.swreq_explain.specs.Books.{IsBookFor, IsBookOf, list_origin, protocols_origin};
+ghost use Rattle.swreq_explain.specs.Grounded.{AreNamesOf};
 ghost use Rattle.swreq_explain.specs.Numbering.{AreNumberedIn, numbered_in};
 ghost use Rattle.swreq_explain.specs.Rounds.{AreSystemsOf, IsBegun, IsSystemOf, Origin};
 ghost use Rattle.swreq_explain.specs.Uses.{HaveFlags, course_of};
 
 use crate::equations::{add_used, basic};
 use crate::first_use::Makings;
-use crate::grounds::ground_of;
+use crate::grounds::{TextNames, ground_of, names_of_text};
 use crate::numbered::{add_numbered, protocols_numbered};
 use std::alloc::{AllocError, Global};
 use swreq_lowering::FuncId;
@@ -174,18 +175,19 @@ fn assemble(
     alloc: Global,
     world: &World,
     table: &ParamTable,
+    names: &TextNames,
     protocols: &Protocols,
-    machine: &Machine,
-    f: FuncId,
+    own: Own<'_>,
 ) -> Result<Book, AllocError>
     requires text { IsTextOver table.now world.now }
     requires short { IsShort world.now }
-    requires rounds { AreRoundsFor table.now world.now f protocols.now machine.now }
-    ensures { IfOk result (IsBookOf table.now world.now f protocols.now machine.now) }
+    requires names { AreNamesOf (world_by table.now world.now) names.now }
+    requires rounds { AreRoundsFor table.now world.now own.f protocols.now own.machine.now }
+    ensures { IfOk result
+        (IsBookOf table.now world.now own.entry.f protocols.now own.entry.machine.now) }
 {
-    let ground = ground_of(alloc, world, table, machine.params())?;
+    let ground = ground_of(alloc, world, names, own.machine.params())?;
     let mut systems = world_systems(alloc, world, table, protocols)?;
-    let own = Own { f, machine };
     add_machine(alloc, world, table, protocols, own, &mut systems)?;
     Ok(Book {
         ground,
@@ -193,8 +195,29 @@ fn assemble(
     })
 }
 
-/// The book of the machine of a signature. Lines are written from it for all that the machine answers.
+/// The book of the machine of a signature, by the names of its text. Lines are written from it for all that the machine answers.
 pub fn book_of(
+    alloc: Global,
+    world: &World,
+    table: &ParamTable,
+    names: &TextNames,
+    protocols: &Protocols,
+    machine: &Machine,
+    f: FuncId,
+) -> Result<Book, AllocError>
+    requires text { IsTextOver table.now world.now }
+    requires short { IsShort world.now }
+    requires names { AreNamesOf (world_by table.now world.now) names.now }
+    requires rounds { AreRoundsFor table.now world.now f protocols.now machine.now }
+    ensures { IfOk result (IsBookFor (world_by table.now world.now) f) }
+{
+    let own = Own { f, machine };
+    let book = assemble(alloc, world, table, names, protocols, own)?;
+    Ok(book)
+}
+
+/// The book of the machine of one signature alone: the names of the text are listed for it.
+pub(crate) fn only_book(
     alloc: Global,
     world: &World,
     table: &ParamTable,
@@ -207,6 +230,7 @@ pub fn book_of(
     requires rounds { AreRoundsFor table.now world.now f protocols.now machine.now }
     ensures { IfOk result (IsBookFor (world_by table.now world.now) f) }
 {
-    let book = assemble(alloc, world, table, protocols, machine, f)?;
+    let names = names_of_text(alloc, world, table)?;
+    let book = book_of(alloc, world, table, &names, protocols, machine, f)?;
     Ok(book)
 }

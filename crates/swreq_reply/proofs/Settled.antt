@@ -1,6 +1,7 @@
 -- A text and what is asked of its machines, while its table grows.
 use Rattle.std.proofs.Common.{◌≡◌, ◌∙◌, sym, ap, subst, ℕ, ◌<◌, arith, List, Vec, Option, Some, Contains, get_or, length, slice_get, true}
 use Rattle.std.specs.declared.alloc.Global.{Global}
+use Rattle.std.proofs.lemmas.List.{get_or_default}
 use Rattle.std.proofs.lemmas.Option.{slice_get-get_or}
 use Rattle.swreq_param.specs.Tables.{Extends}
 use Rattle.swreq_param.specs.Terms.{Term}
@@ -22,6 +23,7 @@ use Rattle.swreq_world.specs.Worlds.{TextWorld, signature_at}
 use Rattle.swreq_reply.specs.declared.setting.Means.{Means}
 use Rattle.swreq_reply.specs.declared.setting.Setting.{Setting}
 use Rattle.swreq_explain.specs.Books.{IsBookFor}
+use Rattle.swreq_explain.specs.Grounded.{AreNamesOf}
 use Rattle.swreq_reply.specs.Made.{AreMade, IsPiece}
 use Rattle.swreq_reply.specs.Contents.{AreAnswers, backed_by, backing_of}
 use Rattle.swreq_reply.specs.Outputs.{IsLineOf, signature_of}
@@ -45,6 +47,7 @@ module _ (old new : List Term) (s : Setting) (more : Extends old new) (ready : I
     rounds = on (λ w. AreRounds s.limits (protocols_of w) s.protocols.now.rounds) ready.rounds;
     places = ready.places;
     limits = ready.limits;
+    names = λ e some. on (λ w. AreNamesOf w s.names.now) (ready.names e some);
   }
 
   pub machine_on : (f : FuncId) (m : MachineView) → IsMachineFor old s f m → IsMachineFor new s f m
@@ -90,6 +93,16 @@ place_for terms s f (shown, content) ready l d place has =
         asks = cc (ap machine_asked_at (slice_get-get_or s.world.now.queries place q below), asks, e);
       };
     }
+
+-- where a signature has places, the text has queries
+pub some_query : (terms : List Term) (s : Setting) (f : FuncId) → AreAnswers s.content → IsReady terms s
+    → f.place < length s.world.now.signatures → (d : Vec ℕ Global) → 0 < length (get_or s.places.now f.place d).items
+    → 0 < length s.world.now.queries
+some_query terms s f answers ready l d some =
+    let places = (get_or s.places.now f.place d).items in
+    let first = get_or places 0 0 in
+    let below = (place_for terms s f answers ready l d first (0, some, sym (get_or_default places 0 0 first some))).below in
+    omega (arith, below)
 
 -- all pieces that the machine of a signature makes have their places in its group
 pub all_placed : (terms : List Term) (s : Setting) (f : FuncId) (d : Vec ℕ Global) → IsReady terms s

@@ -17,6 +17,7 @@ use Rattle.swreq_valid.specs.Rounds.{AreRounds, last_rules}
 use Rattle.swreq_valid.specs.Sides.{HoldsOfEach, IsValidSide}
 use Rattle.swreq_reply.specs.declared.checking.Asked.{Asked}
 use Rattle.swreq_reply.specs.declared.content.Backing.TheVariants.{Derivation}
+use Rattle.swreq_reply.specs.declared.content.Content.{Content}
 use Rattle.swreq_reply.specs.declared.setting.Kept.{Kept}
 use Rattle.swreq_reply.specs.declared.setting.Means.{Means}
 use Rattle.swreq_reply.specs.declared.setting.Setting.{Setting}
@@ -26,6 +27,8 @@ use Rattle.swreq_lowering.specs.Queries.TermQuery.{AsksReduced}
 use Rattle.swreq_map.specs.Follows.{IsMapOf, MapView}
 use Rattle.swreq_print.specs.Names.{Text}
 use Rattle.swreq_explain.specs.Books.{IsBookFor}
+use Rattle.swreq_explain.specs.Grounded.{AreNamesOf}
+use Rattle.swreq_explain.specs.declared.grounds.TextNames.{TextNames}
 use Rattle.swreq_unfold.specs.declared.book.Book.{Book}
 use Rattle.swreq_reply.specs.Contents.{backing_of}
 use Rattle.swreq_reply.specs.Made.{AreMade, IsPiece}
@@ -35,8 +38,12 @@ use Rattle.swreq_reply.specs.Wanted.{ArePlaces, count_of, machine_asked, maker}
 abbrev pub world_in : List Term → Setting → TextWorld
 world_in terms s = world_by terms s.world.now
 
--- The ids are of the table, the rules are those of the protocols, whose requirements are over type parameters, and each machine is asked
--- for the pieces that it makes.
+-- Where derivations are printed for queries, the names are those of the text.
+abbrev pub AreNamesFor : List Term → IdWorld → Content → TextNames → Type 0
+AreNamesFor terms w content names = backing_of content ≡ Derivation → 0 < length w.queries → AreNamesOf (world_by terms w) names
+
+-- The ids are of the table, the rules are those of the protocols, whose requirements are over type parameters, each machine is asked for
+-- the pieces that it makes, and the names are there where they are read.
 pub record IsReady (terms : List Term) (s : Setting) : Type 0 where
   pub text : IsTextOver terms s.world.now
   pub short : IsShort s.world.now
@@ -45,6 +52,7 @@ pub record IsReady (terms : List Term) (s : Setting) : Type 0 where
   pub rounds : AreRounds s.limits (protocols_of (world_in terms s)) s.protocols.now.rounds
   pub places : ArePlaces (maker s.world.now s.content) (length s.world.now.signatures) (count_of s.world.now s.content) s.places.now
   pub limits : AreInRange s.limits
+  pub names : AreNamesFor terms s.world.now s.content s.names.now
 
 -- The signature is of the text, each side of its requirements is a type parameter, and this is its machine, over the rules of the
 -- protocols.
@@ -65,10 +73,11 @@ abbrev pub IsLast : List Term → Setting → Option Kept → Type 0
 IsLast terms s None = Unit {0}
 IsLast terms s (Some kept) = IsKeptFor terms s kept
 
--- Of each signature of the text the places are those of the pieces that its machine makes.
-pub record IsAskedOf (w : IdWorld) (a : Asked) : Type 0 where
+-- Of each signature of the text the places are those of the pieces that its machine makes, and the names are there where they are read.
+pub record IsAskedOf (terms : List Term) (w : IdWorld) (a : Asked) : Type 0 where
   pub places : ArePlaces (maker w a.content) (length w.signatures) (count_of w a.content) a.places.now
   pub limits : AreInRange a.limits
+  pub names : AreNamesFor terms w a.content a.names.now
 
 -- The query is one of the text, and asks this signature.
 pub record IsQueryFor (terms : List Term) (s : Setting) (f : FuncId) (q : Query) : Type 0 where

@@ -1,5 +1,5 @@
 //! The pieces that answer queries of requirements and types, by the machine of the signature that they ask.
-ghost use Rattle.std.specs.Prelude.{◌≡◌, ◌+◌, ◌++◌, ℕ, List, Some, Contains, length, set, IfOk, OnOk, true};
+ghost use Rattle.std.specs.Prelude.{◌≡◌, ◌<◌, ◌+◌, ◌++◌, ℕ, List, Some, Contains, length, set, IfOk, OnOk, true};
 ghost use Rattle.swreq_param.specs.Tables.{Extends, term_at};
 ghost use Rattle.swreq_derive.specs.Derivation.{Derivable};
 ghost use Rattle.swreq_derive.specs.Derivation.TermRequirement.{Conforms};
@@ -236,15 +236,24 @@ fn piece(
     }
 }
 
-/// The book of the machine of a signature, where derivations are printed.
+/// The book of the machine of a signature, where derivations are printed. The text has queries.
 fn book_for(s: &Setting<'_>, table: &ParamTable, own: &Own<'_>) -> Result<Option<Book>, AllocError>
     requires ready { IsReady table.now s.now }
     requires machine { IsMachineFor table.now s.now own.now.f own.now.machine.now }
+    requires some { 0 < length s.now.world.now.queries }
     ensures { IfOk result (HasBook table.now s.now own.now.f) }
 {
     match backing_of(s.content) {
         Backing::Derivation => {
-            let book = book_of(s.alloc, s.world, table, s.protocols, own.machine, own.f)?;
+            let book = book_of(
+                s.alloc,
+                s.world,
+                table,
+                s.names,
+                s.protocols,
+                own.machine,
+                own.f,
+            )?;
             Ok(Some(book))
         }
         Backing::Nothing | Backing::Path => Ok(None),

@@ -8,14 +8,15 @@ ghost use Rattle.swreq_world.specs.ByTable.{world_by};
 ghost use Rattle.swreq_world.specs.Short.{IsShort};
 ghost use Rattle.swreq_reply.specs.Checks.{Checks, ChecksAll, ChecksAt, IsCheckedFor, ending};
 ghost use Rattle.swreq_reply.specs.Made.{AreNone};
-ghost use Rattle.swreq_reply.specs.Settings.{AreMadeIn, IsAskedOf, IsKeptFor, IsLast, IsMachineFor, IsReady, world_in};
+ghost use Rattle.swreq_reply.specs.Settings.{AreMadeIn, AreNamesFor, IsAskedOf, IsKeptFor, IsLast, IsMachineFor, IsReady, world_in};
 
-use crate::content::Content;
+use crate::content::{Backing, Content, backing_of};
 use crate::making::make_pieces;
 use crate::places::count_of;
 use crate::setting::{Kept, Own, Setting};
 use std::alloc::{AllocError, Global};
 use swreq_complete::Limits;
+use swreq_explain::{TextNames, names_of_text, no_names};
 use swreq_lowering::FuncId;
 use swreq_param::ParamTable;
 use swreq_symbols::Text;
@@ -39,6 +40,8 @@ pub(crate) struct Asked<'a> {
     pub content: Content,
     /// Of each signature the places of the pieces that its machine makes.
     pub places: &'a [Vec<usize>],
+    /// The names of the text where derivations are printed for queries, and else none.
+    pub names: &'a TextNames,
     pub limits: Limits,
 }
 
@@ -235,6 +238,26 @@ fn no_pieces(alloc: Global, count: usize) -> Result<Vec<Option<Seq<u8>>>, AllocE
     Ok(pieces)
 }
 
+/// The names of a text where derivations are printed for queries, and else none.
+pub(crate) fn names_for(
+    alloc: Global,
+    world: &World,
+    table: &ParamTable,
+    content: Content,
+) -> Result<TextNames, AllocError>
+    requires text { IsTextOver table.now world.now }
+    requires short { IsShort world.now }
+    ensures { IfOk result (AreNamesFor table.now world.now content) }
+{
+    if world.queries().is_empty() {
+        return Ok(no_names(alloc));
+    }
+    match backing_of(content) {
+        Backing::Derivation => names_of_text(alloc, world, table),
+        Backing::Nothing | Backing::Path => Ok(no_names(alloc)),
+    }
+}
+
 /// Checks the protocols of a text, then its signatures in written order, and makes of their machines what is asked.
 ///
 /// It is the first refusal among these, or `Refused::Memory`. The watcher is told the events of the rounds up to it.
@@ -247,7 +270,7 @@ pub(crate) fn check<W: Watch>(
 ) -> Result<Checked, Refused>
     requires text { IsTextOver table.old world.now }
     requires short { IsShort world.now }
-    requires asked { IsAskedOf world.now asked.now }
+    requires asked { IsAskedOf table.old world.now asked.now }
     ensures check { Checks asked.now.limits (world_by table.old world.now) (W.told watch.old)
         (W.told watch.new) result }
     ensures checked { IfOk result
@@ -263,6 +286,7 @@ pub(crate) fn check<W: Watch>(
         limits: asked.limits,
         content: asked.content,
         places: asked.places,
+        names: asked.names,
     };
     check_all(&setting, table, watch, &mut pieces)?;
     Ok(Checked { protocols, pieces })

@@ -27,7 +27,7 @@ ghost use Rattle.swreq_reply.specs.Verdict.{ChecksMachines, IsRefused, IsStopOf,
 ghost use Rattle.swreq_reply.specs.Wanted.{HasCount, wants_list};
 
 use crate::calling::lines_of_calls;
-use crate::checking::{Asked, Checked, check};
+use crate::checking::{Asked, Checked, check, names_for};
 use crate::content::{Content, content_of};
 use crate::laws::one_verdict;
 use crate::minimising::{Minimising, minimised_lines};
@@ -247,9 +247,11 @@ fn checked<W: Watch>(
 {
     let content = content_of(r.line.command);
     let places = places(r.alloc, world, content)?;
+    let names = names_for(r.alloc, world, table, content)?;
     let asked = Asked {
         content,
         places: &places,
+        names: &names,
         limits: limits_of(r.line),
     };
     match check(r.alloc, world, table, &asked, watch) {

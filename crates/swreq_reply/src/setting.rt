@@ -2,6 +2,7 @@
 use crate::content::Content;
 use std::alloc::Global;
 use swreq_complete::Limits;
+use swreq_explain::TextNames;
 use swreq_lowering::FuncId;
 use swreq_map::PropertyMap;
 use swreq_unfold::Book;
@@ -20,6 +21,8 @@ pub(crate) struct Setting<'a> {
     pub content: Content,
     /// Of each signature the places of the pieces that its machine makes.
     pub places: &'a [Vec<usize>],
+    /// The names of the text where derivations are printed for queries, and else none.
+    pub names: &'a TextNames,
 }
 
 /// A signature with its machine.

@@ -1,5 +1,5 @@
 use Rattle.std.proofs.Common.{◌≡◌, ◌+◌, ◌<◌, ◌∙◌, arith, ap, get_or, length, List, ℕ, set, Some, subst, sym}
-use Rattle.std.proofs.lemmas.Bool.{eqb-true}
+use Rattle.std.proofs.lemmas.Bool.{eqb-false, eqb-true}
 use Rattle.std.proofs.lemmas.List.{get_or_default}
 use Rattle.swreq_map.specs.Follows.{IsMapOf}
 use Rattle.swreq_param.proofs.Growing.{onward, unchanged}
@@ -9,7 +9,7 @@ use Rattle.swreq_reply.specs.Made.{AreMadeTo, IsPiece}
 use Rattle.swreq_reply.specs.Settings.{HasBook, world_in}
 use Rattle.swreq_reply.specs.Wanted.{count_of, maker}
 use Rattle.swreq_reply.proofs.PiecesMade.{begin, go_on, go_through}
-use Rattle.swreq_reply.proofs.Settled.{all_placed, means_on, place_for, ready_on, world_on}
+use Rattle.swreq_reply.proofs.Settled.{all_placed, means_on, place_for, ready_on, some_query, world_on}
 use Rattle.swreq_reply.proofs.answering.answer_queries.Goals as goal
 
 pub returns-then-is_empty-clause-pieces : goal.returns-then-is_empty-clause-pieces
@@ -25,6 +25,15 @@ returns-then-is_empty-clause-pieces c =
     (sym none) (begin (IsPiece w s.content) (maker s.world.now s.content)
     (count_of s.world.now s.content) f.place c.args.pieces.now.items c.requires.pieces v.items))
     (all_placed c.args.table.now s f c.index-s-own.result c.requires.ready c.requires.machine.signature)
+
+pub book_for-requires-clause-some : goal.book_for-requires-clause-some
+book_for-requires-clause-some c =
+    let s = c.args.s.now in
+    let f = c.args.own.now.f in
+    let v = get_or s.places.now f.place c.index-s-own.result in
+    let not_none = eqb-false _ _ (sym c.is_empty.ensures ∙ c.if-is_empty.false) in
+    some_query c.args.table.now s f c.requires.answers c.requires.ready c.requires.machine.signature c.index-s-own.result
+    (omega (arith, not_none, v.ok))
 
 pub answer_at-requires-clause-place : goal.answer_at-requires-clause-place
 answer_at-requires-clause-place c =

@@ -28,6 +28,7 @@ check_all-requires-clause-ready g c = record {
   rounds = c.in_ok-protocols.ensures.rounds;
   places = c.requires.asked.places;
   limits = c.requires.asked.limits;
+  names = c.requires.asked.names;
 }
 
 pub check_all-requires-clause-pieces : goal.check_all-requires-clause-pieces

@@ -12,8 +12,11 @@ pub places-requires-clause-queries : goal.places-requires-clause-queries
 places-requires-clause-queries g c q member = asked_within c.args.world.now c.args.table.now c.requires.text.closed q member
 
 pub check-requires-clause-asked : goal.check-requires-clause-asked
-check-requires-clause-asked g c =
-    record { places = rw c.deref.ensures.value c.in_ok-places.ensures; limits = rw c.limits_of.ensures c.requires.request.limits }
+check-requires-clause-asked g c = record {
+  places = rw c.deref.ensures.value c.in_ok-places.ensures;
+  limits = rw c.limits_of.ensures c.requires.request.limits;
+  names = c.in_ok-names.ensures;
+}
 
 pub finish-requires-clause-world : goal.finish-requires-clause-world
 finish-requires-clause-world g c =
