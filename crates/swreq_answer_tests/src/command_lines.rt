@@ -13,10 +13,10 @@ fn words_of(alloc: Global, text: &str) -> Result<Vec<String>, AllocError> {
     Ok(words)
 }
 
-/// The command, what it reads, the two limits and whether there is a trace.
+/// The command, its number, what it reads, the two limits and whether there is a trace.
 fn put_line(out: &mut String, line: &CommandLine) -> Result<(), AllocError> {
     let command = line.command;
-    write!(out, "{command:?} {:?} ", command.input())?;
+    write!(out, "{command:?} {} {:?} ", line.count, command.input())?;
     write!(
         out,
         "{} {} {:?}",
@@ -35,52 +35,55 @@ fn put_said(alloc: Global, text: &str, out: &mut String) -> Result<(), AllocErro
 
 /// Words, each with what they say.
 const SAID: &[(&str, &str)] = &[
-    ("answer", "Answer OnePart 4000 64 false"),
+    ("answer", "Answer 1 OnePart 4000 64 false"),
     (
         "signatures --max-rules 70 --trace",
-        "Signatures OnePart 70 64 true",
+        "Signatures 1 OnePart 70 64 true",
     ),
     (
         "rules --max-length 255 --max-rules 1",
-        "Rules OnePart 1 255 false",
+        "Rules 1 OnePart 1 255 false",
     ),
     (
         "answer --max-rules=100000",
-        "Answer OnePart 100000 64 false",
+        "Answer 1 OnePart 100000 64 false",
     ),
     (
         "answer --max-rules=000001 --max-length=1",
-        "Answer OnePart 1 1 false",
+        "Answer 1 OnePart 1 1 false",
     ),
-    ("gen 100", "Gen { n: 100 } Nothing 4000 64 false"),
+    ("gen 100", "Gen 100 Nothing 4000 64 false"),
     (
         "gen 007 --trace --max-length 9",
-        "Gen { n: 7 } Nothing 4000 9 true",
+        "Gen 7 Nothing 4000 9 true",
     ),
     (
         "gen --max-rules 70 5 --max-length=9",
-        "Gen { n: 5 } Nothing 70 9 false",
+        "Gen 5 Nothing 70 9 false",
     ),
-    (
-        "gen --trace --max-length=9 1",
-        "Gen { n: 1 } Nothing 4000 9 true",
-    ),
-    ("answer --max-length=064", "Answer OnePart 4000 64 false"),
-    ("answer --max-rules 04000", "Answer OnePart 4000 64 false"),
+    ("gen --trace --max-length=9 1", "Gen 1 Nothing 4000 9 true"),
+    ("answer --max-length=064", "Answer 1 OnePart 4000 64 false"),
+    ("answer --max-rules 04000", "Answer 1 OnePart 4000 64 false"),
     (
         "answer --max-length 64 --max-rules=4000",
-        "Answer OnePart 4000 64 false",
+        "Answer 1 OnePart 4000 64 false",
     ),
-    ("explain --max-rules=7 --trace", "Explain OnePart 7 64 true"),
-    ("verify", "Verify TwoParts 4000 64 false"),
+    (
+        "explain --max-rules=7 --trace",
+        "Explain 1 OnePart 7 64 true",
+    ),
+    ("verify", "Verify 1 TwoParts 4000 64 false"),
     (
         "paths --max-length 9 --max-rules 70 --trace",
-        "Paths OnePart 70 9 true",
+        "Paths 1 OnePart 70 9 true",
     ),
-    ("calls --trace --max-length=9", "Calls TwoParts 4000 9 true"),
+    (
+        "calls --trace --max-length=9",
+        "Calls 1 TwoParts 4000 9 true",
+    ),
     (
         "requirements --max-length=255",
-        "Requirements OnePart 4000 255 false",
+        "Requirements 1 OnePart 4000 255 false",
     ),
     ("gen", "wrong words"),
 ];

@@ -24,7 +24,7 @@ no_memory words text =
     let r : Run = run_in_memory words text (Some text) (refusal_line refusals.OutOfMemory) 6 in record {
       rest = Some text;
       run = is_run r (printed (refusal_line refusals.OutOfMemory) (memory_ran_out (record {
-        part = λ line says. told_nothing line (known_text line.command (Some text)) None None refl;
+        part = λ line says. told_nothing line (known_text line (Some text)) None None refl;
         untold = λ wrong. refl;
       }) refl) refl refl);
       no_fault = (λ e. omega (arith, e), λ e. omega (arith, e));

@@ -47,7 +47,7 @@ abbrev pub UpTo : ℕ → Birth → Type 0
 UpTo greater (Given n) = Unit {0}
 UpTo greater (Pair i j at) = max i j < greater
 
--- those, and the pairs at the first n of the places
+-- all equations, all pairs whose greater number is less, and the pairs at the first n of the places
 abbrev pub Listed : ℕ → List Place → ℕ → Birth → Type 0
 Listed greater places count (Given n) = Unit {0}
 Listed greater places count (Pair i j at) =

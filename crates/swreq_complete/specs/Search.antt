@@ -25,7 +25,7 @@ abbrev pub IsKey : List Rule → Key → Type 0
 IsKey rules key =
     (rule : Rule) × (slice_get rules key.1 ≡ Some rule) × (rule.left ≡ key.0.now) × EachFactor rule.left (IsIrreducible (Step rules))
 
--- all such of the first `count` rules, and no others
+-- the keys of all of the first `count` rules that have one, and no others
 pub record AreKeysBelow (rules : List Rule) (count : ℕ) (keys : List Key) : Type 0 where
   pub each : (n : ℕ) (key : Key) → slice_get keys n ≡ Some key → IsKey rules key
   pub all : (j : ℕ) (rule : Rule) → j < count → slice_get rules j ≡ Some rule → EachFactor rule.left (IsIrreducible (Step rules))
@@ -40,11 +40,11 @@ abbrev pub IsReducedAt : List Rule → ℕ → Rule → Type 0
 IsReducedAt rules j r = (rule : Rule) × (slice_get rules j ≡ Some rule) × (rule.left ≡ r.left) × (rule.birth ≡ r.birth)
     × EachFactor r.left (IsIrreducible (Step rules)) × Reduces rules rule.right r.right
 
--- such a rule of some place
+-- a rule of some place, so reduced
 abbrev pub IsReducedRule : List Rule → Rule → Type 0
 IsReducedRule rules r = (j : ℕ) × IsReducedAt rules j r
 
--- such rules, sorted, one for each left side of the first `count` keys, the last of which is not below that of a rule
+-- rules so reduced, sorted, one for each left side of the first `count` keys, the last of which is not below that of a rule
 pub record FoundBelow (rules : List Rule) (keys : List Key) (count : ℕ) (found : List Rule) : Type 0 where
   pub each : (n : ℕ) (r : Rule) → slice_get found n ≡ Some r → IsReducedRule rules r
   pub all : (n : ℕ) (key : Key) → n < count → slice_get keys n ≡ Some key

@@ -65,12 +65,12 @@ impl<'b> CompleteRules<'b> {
         self.list.count()
     }
 
-    /// A rule by its place in the order of their births.
-    pub fn rule(&self, k: usize) -> &Rule
-        requires { k < length self.now }
-        ensures { slice_get self.now k ≡ Some result.now }
+    /// The rule at this place in the order of their births, counted from 0.
+    pub fn rule(&self, place: usize) -> &Rule
+        requires { place < length self.now }
+        ensures { slice_get self.now place ≡ Some result.now }
     {
-        self.list.rule(k)
+        self.list.rule(place)
     }
 
     /// A length that no left side passes.
@@ -87,25 +87,25 @@ impl<'b> CompleteRules<'b> {
     }
 
     /// Reduces the word, which leaves the least of all words congruent to it. The word never grows, and keeps its capacity.
-    pub fn reduce(&self, w: &mut Vec<Symbol>)
-        ensures congruent { Linked (Step self.now) w.old.items w.new.items }
-        ensures least { IsLeast (Linked (Step self.now)) w.new.items }
-        ensures no_longer { vec_len w.new ≤ vec_len w.old }
-        ensures room { vec_capacity w.new ≡ vec_capacity w.old }
+    pub fn reduce(&self, word: &mut Vec<Symbol>)
+        ensures congruent { Linked (Step self.now) word.old.items word.new.items }
+        ensures least { IsLeast (Linked (Step self.now)) word.new.items }
+        ensures no_longer { vec_len word.new ≤ vec_len word.old }
+        ensures room { vec_capacity word.new ≡ vec_capacity word.old }
     {
-        self.reduce_from(w, 0);
+        self.reduce_from(word, 0);
     }
 
     /// Reduces the word, where no left side of a rule begins before `from`, to the least of all words congruent to it. The word never
     /// grows, and keeps its capacity.
-    pub fn reduce_from(&self, w: &mut Vec<Symbol>, from: usize)
-        requires { NoneEarlier self.now w.old.items from }
-        ensures congruent { Linked (Step self.now) w.old.items w.new.items }
-        ensures least { IsLeast (Linked (Step self.now)) w.new.items }
-        ensures no_longer { vec_len w.new ≤ vec_len w.old }
-        ensures room { vec_capacity w.new ≡ vec_capacity w.old }
+    pub fn reduce_from(&self, word: &mut Vec<Symbol>, from: usize)
+        requires { NoneEarlier self.now word.old.items from }
+        ensures congruent { Linked (Step self.now) word.old.items word.new.items }
+        ensures least { IsLeast (Linked (Step self.now)) word.new.items }
+        ensures no_longer { vec_len word.new ≤ vec_len word.old }
+        ensures room { vec_capacity word.new ≡ vec_capacity word.old }
     {
-        self.list.reduce_from(w, from);
+        self.list.reduce_from(word, from);
     }
 
     /// Copies of the rules, in order.
@@ -134,11 +134,11 @@ impl<'b> CompleteRules<'b> {
 
     /// The rule of the reduced system with the left side and the birth of the rule at this place, or None where the left side of that rule
     /// is not minimal.
-    pub fn canonical_at(&self, alloc: Global, k: usize) -> Result<Option<Rule>, AllocError>
-        requires { k < length self.now }
-        ensures { IfOk result (IsReducedOf (Linked (Step self.now)) self.now k) }
+    pub fn canonical_at(&self, alloc: Global, place: usize) -> Result<Option<Rule>, AllocError>
+        requires { place < length self.now }
+        ensures { IfOk result (IsReducedOf (Linked (Step self.now)) self.now place) }
     {
-        reduced_at(alloc, &self.list, k)
+        reduced_at(alloc, &self.list, place)
     }
 }
 

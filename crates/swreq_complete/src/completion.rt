@@ -50,12 +50,12 @@ fn find_places(rules: &Indexed<'_>, greater: u32, found: &mut Found) -> Result<(
     Ok(())
 }
 
-// The place that stands there.
-fn place_at(places: &[Place], n: usize) -> Place
-    requires { n < length places.now }
-    ensures { slice_get places.now n ≡ Some result }
+// The place at this index, counted from 0.
+fn place_at(places: &[Place], index: usize) -> Place
+    requires { index < length places.now }
+    ensures { slice_get places.now index ≡ Some result }
 {
-    places[n]
+    places[index]
 }
 
 // Settles the pairs at these places, which are all with this greater number, in order.

@@ -9,7 +9,8 @@ ghost use Rattle.swreq_path.specs.Paths.{HasTarget};
 ghost use Rattle.swreq_path.specs.Reductions.{IsReductionPath};
 
 use crate::CompleteRules;
-use crate::indexed::{Indexed, first_redex};
+use crate::indexed::Indexed;
+use crate::reducing::first_redex;
 use std::alloc::{AllocError, Global};
 use swreq_path::{Path, take_redex_of};
 use swreq_text::Seq;
@@ -17,16 +18,16 @@ use swreq_word::{Symbol, Word};
 
 // The path of the reduction of the word. Each step has a copy of what stands on both sides of it, so the search for the next redex may
 // start at the first symbol again.
-fn reduction_path(alloc: Global, rules: &Indexed<'_>, w: &[Symbol]) -> Result<Path, AllocError>
+fn reduction_path(alloc: Global, rules: &Indexed<'_>, word: &[Symbol]) -> Result<Path, AllocError>
     requires few { length rules.now < 2 ^ 32 - 1 }
-    ensures { IfOk result (λ path. (v : List Symbol) × IsReductionPath rules.now path w.now v) }
+    ensures { IfOk result (λ path. (v : List Symbol) × IsReductionPath rules.now path word.now v) }
 {
-    let start = Word::new(Vec::from_slice(alloc, w)?);
-    let mut word = Vec::from_slice(alloc, w)?;
+    let start = Word::new(Vec::from_slice(alloc, word)?);
+    let mut reached = Vec::from_slice(alloc, word)?;
     let mut steps = Vec::new(alloc);
-    'steps: while let Some(redex) = first_redex(rules, &word, 0) {
+    'steps: while let Some(redex) = first_redex(rules, &reached, 0) {
         let rule = rules.rule(redex.number - 1);
-        take_redex_of(alloc, rule, &mut word, redex, &mut steps)?;
+        take_redex_of(alloc, rule, &mut reached, redex, &mut steps)?;
     }
     Ok(Path {
         start,
@@ -36,13 +37,13 @@ fn reduction_path(alloc: Global, rules: &Indexed<'_>, w: &[Symbol]) -> Result<Pa
 
 impl CompleteRules<'_> {
     /// The path of the reduction of the word, from the word to the least of all words congruent to it.
-    pub fn path(&self, alloc: Global, w: &[Symbol]) -> Result<Path, AllocError>
+    pub fn path(&self, alloc: Global, word: &[Symbol]) -> Result<Path, AllocError>
         ensures reduction { IfOk result
-            (λ path. (v : List Symbol) × IsReductionPath self.now path w.now v) }
+            (λ path. (v : List Symbol) × IsReductionPath self.now path word.now v) }
         ensures least { IfOk result (λ path.
             (v : List Symbol) × HasTarget self.now path v × IsLeast (Linked (Step self.now)) v) }
     {
         let _complete = self.count();
-        reduction_path(alloc, self.indexed(), w)
+        reduction_path(alloc, self.indexed(), word)
     }
 }

@@ -27,13 +27,13 @@ fn no_less(counts: &[usize], count: usize) -> usize
 // Adds the count of the next place.
 fn add(
     rules: &Indexed<'_>,
-    w: &[Symbol],
+    word: &[Symbol],
     counts: &mut Vec<usize>,
     count: usize,
 ) -> Result<(), AllocError>
-    requires tells { TellNone rules.now w.now (length counts.old.items) count }
-    requires so_far { AreRead rules.now w.now counts.old.items }
-    ensures read { OnOk result (AreRead rules.now w.now counts.new.items) }
+    requires tells { TellNone rules.now word.now (length counts.old.items) count }
+    requires so_far { AreRead rules.now word.now counts.old.items }
+    ensures read { OnOk result (AreRead rules.now word.now counts.new.items) }
     ensures one { OnOk result (length counts.new.items ≡ length counts.old.items + 1) }
 {
     let next = no_less(counts, count);
@@ -59,22 +59,22 @@ fn count_within(counts: &[usize], at: usize) -> usize
 // The first redex. The search begins at the first place that has no count, and adds those of the places where no left side begins.
 fn next_redex(
     rules: &Indexed<'_>,
-    w: &[Symbol],
+    word: &[Symbol],
     counts: &mut Vec<usize>,
 ) -> Result<Option<Redex>, AllocError>
-    requires { AreRead rules.now w.now counts.old.items }
+    requires { AreRead rules.now word.now counts.old.items }
     ensures redex { IfOk result (λ found. MatchOption found
-        (IsIrreducible (Step rules.now) w.now)
-        (λ redex. FirstRedex rules.now w.now redex.at redex.number)) }
-    ensures read { OnOk result (AreRead rules.now w.now counts.new.items) }
+        (IsIrreducible (Step rules.now) word.now)
+        (λ redex. FirstRedex rules.now word.now redex.at redex.number)) }
+    ensures read { OnOk result (AreRead rules.now word.now counts.new.items) }
 {
-    for at in counts.len()..w.len() {
-        match rules.find_at(w, at) {
+    for at in counts.len()..word.len() {
+        match rules.find_at(word, at) {
             Ok(number) => {
                 let number = number as usize;
                 return Ok(Some(Redex { at, number }));
             }
-            Err(count) => add(rules, w, counts, count)?,
+            Err(count) => add(rules, word, counts, count)?,
         }
     }
     Ok(None)
@@ -84,20 +84,20 @@ fn next_redex(
 // the place of the step are taken away.
 fn take_next_step(
     rules: &Indexed<'_>,
-    w: &mut Vec<Symbol>,
+    word: &mut Vec<Symbol>,
     counts: &mut Vec<usize>,
 ) -> Result<bool, AllocError>
-    requires { AreRead rules.now w.old.items counts.old.items }
+    requires { AreRead rules.now word.old.items counts.old.items }
     ensures step { IfOk result
-        (λ goes. OnTrue goes (ReductionStep rules.now w.old.items w.new.items)) }
-    ensures read { OnOk result (AreRead rules.now w.new.items counts.new.items) }
-    ensures end { IfOk result (λ goes.
-        OnFalse goes ((w.new.items ≡ w.old.items) × IsIrreducible (Step rules.now) w.new.items)) }
+        (λ goes. OnTrue goes (ReductionStep rules.now word.old.items word.new.items)) }
+    ensures read { OnOk result (AreRead rules.now word.new.items counts.new.items) }
+    ensures end { IfOk result (λ goes. OnFalse goes
+        ((word.new.items ≡ word.old.items) × IsIrreducible (Step rules.now) word.new.items)) }
 {
-    match next_redex(rules, w, counts)? {
+    match next_redex(rules, word, counts)? {
         None => Ok(false),
         Some(redex) => {
-            take_step_of(rules.rule(redex.number - 1), w, redex.at);
+            take_step_of(rules.rule(redex.number - 1), word, redex.at);
             counts.truncate(count_within(counts, redex.at));
             Ok(true)
         }
@@ -107,12 +107,12 @@ fn take_next_step(
 /// Reduces the word, with room for a count of each of its places.
 pub(crate) fn reduce(
     rules: &Indexed<'_>,
-    w: &mut Vec<Symbol>,
+    word: &mut Vec<Symbol>,
     counts: &mut Vec<usize>,
 ) -> Result<(), AllocError>
-    ensures { OnOk result (Reduces rules.now w.old.items w.new.items) }
+    ensures { OnOk result (Reduces rules.now word.old.items word.new.items) }
 {
     counts.clear();
-    'steps: while take_next_step(rules, w, counts)? {}
+    'steps: while take_next_step(rules, word, counts)? {}
     Ok(())
 }

@@ -18,14 +18,14 @@ use swreq_word::{Symbol, Word, are_same};
 type Key<'a> = (&'a Word, usize);
 
 // Whether no rule's left side stands in a proper factor of the word.
-fn is_minimal(rules: &Indexed<'_>, w: &[Symbol]) -> bool
-    requires { 0 < length w.now }
-    ensures { Decides result (EachFactor w.now (IsIrreducible (Step rules.now))) }
+fn is_minimal(rules: &Indexed<'_>, word: &[Symbol]) -> bool
+    requires { 0 < length word.now }
+    ensures { Decides result (EachFactor word.now (IsIrreducible (Step rules.now))) }
 {
-    if rules.is_reducible(&w[1..]) {
+    if rules.is_reducible(&word[1..]) {
         return false;
     }
-    !rules.is_reducible(&w[..w.len() - 1])
+    !rules.is_reducible(&word[..word.len() - 1])
 }
 
 // Puts the key last.
@@ -37,16 +37,20 @@ fn push<'a>(keys: &mut Vec<Key<'a>>, key: Key<'a>) -> Result<(), AllocError>
 }
 
 // Adds the left side of one rule more, if none of its proper factors can be reduced.
-fn add_key<'a>(rules: &'a Indexed<'_>, k: usize, keys: &mut Vec<Key<'a>>) -> Result<(), AllocError>
-    requires in_range { k < length rules.now }
-    requires so_far { AreKeysBelow rules.now k keys.old.items }
-    ensures { OnOk result (AreKeysBelow rules.now (k + 1) keys.new.items) }
+fn add_key<'a>(
+    rules: &'a Indexed<'_>,
+    place: usize,
+    keys: &mut Vec<Key<'a>>,
+) -> Result<(), AllocError>
+    requires in_range { place < length rules.now }
+    requires so_far { AreKeysBelow rules.now place keys.old.items }
+    ensures { OnOk result (AreKeysBelow rules.now (place + 1) keys.new.items) }
 {
-    let rule = rules.rule(k);
+    let rule = rules.rule(place);
     if !is_minimal(rules, rule.left.symbols()) {
         return Ok(());
     }
-    push(keys, (&rule.left, k))
+    push(keys, (&rule.left, place))
 }
 
 // The left sides whose proper factors can't be reduced.
@@ -60,33 +64,34 @@ fn keys_of<'a>(alloc: Global, rules: &'a Indexed) -> Result<Vec<Key<'a>>, AllocE
     Ok(keys)
 }
 
-// The key that stands there.
-fn key_at<'k, 'a>(keys: &'k [Key<'a>], n: usize) -> &'k Key<'a>
-    requires { n < length keys.now }
-    ensures { slice_get keys.now n ≡ Some result.now }
+// The key at this index, counted from 0.
+fn key_at<'k, 'a>(keys: &'k [Key<'a>], index: usize) -> &'k Key<'a>
+    requires { index < length keys.now }
+    ensures { slice_get keys.now index ≡ Some result.now }
 {
-    &keys[n]
+    &keys[index]
 }
 
-// Whether two keys have one left side.
-fn is_same(a: &Key, b: &Key) -> bool
-    ensures { Decides result (a.now.0.now ≡ b.now.0.now) }
+// Whether the two keys have the same left side.
+fn is_same(first: &Key, second: &Key) -> bool
+    ensures { Decides result (first.now.0.now ≡ second.now.0.now) }
 {
-    are_same(a.0.symbols(), b.0.symbols())
+    are_same(first.0.symbols(), second.0.symbols())
 }
 
 // Whether the left side differs from the one before it.
-fn is_new(keys: &[Key], n: usize) -> bool
-    requires { n < length keys.now }
-    ensures yes { OnTrue result ((m : ℕ) (a b : Key) → suc m ≡ n → slice_get keys.now m ≡ Some a
-        → slice_get keys.now n ≡ Some b → a.0.now ≡ b.0.now → ⊥) }
-    ensures no { OnFalse result ((m : ℕ) × (a : Key) × (b : Key) × (suc m ≡ n)
-        × (slice_get keys.now m ≡ Some a) × (slice_get keys.now n ≡ Some b) × (a.0.now ≡ b.0.now)) }
+fn is_new(keys: &[Key], index: usize) -> bool
+    requires { index < length keys.now }
+    ensures yes { OnTrue result ((m : ℕ) (a b : Key) → suc m ≡ index → slice_get keys.now m ≡ Some a
+        → slice_get keys.now index ≡ Some b → a.0.now ≡ b.0.now → ⊥) }
+    ensures no { OnFalse result ((m : ℕ) × (a : Key) × (b : Key) × (suc m ≡ index)
+        × (slice_get keys.now m ≡ Some a) × (slice_get keys.now index ≡ Some b)
+        × (a.0.now ≡ b.0.now)) }
 {
-    if n == 0 {
+    if index == 0 {
         return true;
     }
-    !is_same(key_at(keys, n - 1), key_at(keys, n))
+    !is_same(key_at(keys, index - 1), key_at(keys, index))
 }
 
 // The rule with its right side reduced.
@@ -114,19 +119,19 @@ fn add(
     alloc: Global,
     rules: &Indexed<'_>,
     keys: &[Key],
-    n: usize,
+    index: usize,
     found: &mut Vec<Rule>,
 ) -> Result<(), AllocError>
-    requires in_range { n < length keys.now }
+    requires in_range { index < length keys.now }
     requires keys { AreKeys rules.now keys.now }
     requires sorted { IsSorted key_cmp keys.now }
-    requires so_far { FoundBelow rules.now keys.now n found.old.items }
-    ensures { OnOk result (FoundBelow rules.now keys.now (n + 1) found.new.items) }
+    requires so_far { FoundBelow rules.now keys.now index found.old.items }
+    ensures { OnOk result (FoundBelow rules.now keys.now (index + 1) found.new.items) }
 {
-    if !is_new(keys, n) {
+    if !is_new(keys, index) {
         return Ok(());
     }
-    let key = key_at(keys, n);
+    let key = key_at(keys, index);
     let rule = rules.rule(key.1);
     let new = reduced(alloc, rules, rule)?;
     put(found, new)
@@ -149,15 +154,15 @@ fn rules_of(alloc: Global, rules: &Indexed<'_>, keys: &[Key]) -> Result<Vec<Rule
 pub(crate) fn reduced_at(
     alloc: Global,
     rules: &Indexed<'_>,
-    k: usize,
+    place: usize,
 ) -> Result<Option<Rule>, AllocError>
-    requires { k < length rules.now }
+    requires { place < length rules.now }
     ensures { IfOk result (λ o. MatchOption o
-        ((rule : Rule) → slice_get rules.now k ≡ Some rule
+        ((rule : Rule) → slice_get rules.now place ≡ Some rule
         → EachFactor rule.left (IsIrreducible (Step rules.now)) → ⊥)
-        (IsReducedAt rules.now k)) }
+        (IsReducedAt rules.now place)) }
 {
-    let rule = rules.rule(k);
+    let rule = rules.rule(place);
     if !is_minimal(rules, rule.left.symbols()) {
         return Ok(None);
     }

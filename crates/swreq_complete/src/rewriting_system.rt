@@ -45,12 +45,12 @@ impl<'b> RewritingSystem<'b> {
     }
 
     /// Reduces the word by the rules. The word never grows, and keeps its capacity.
-    pub fn reduce(&self, w: &mut Vec<Symbol>)
-        ensures reduced { Reduces self.now w.old.items w.new.items }
-        ensures no_longer { vec_len w.new ≤ vec_len w.old }
-        ensures room { vec_capacity w.new ≡ vec_capacity w.old }
+    pub fn reduce(&self, word: &mut Vec<Symbol>)
+        ensures reduced { Reduces self.now word.old.items word.new.items }
+        ensures no_longer { vec_len word.new ≤ vec_len word.old }
+        ensures room { vec_capacity word.new ≡ vec_capacity word.old }
     {
-        self.list.reduce(w);
+        self.list.reduce(word);
     }
 
     /// Copies of the rules, in order.

@@ -23,11 +23,11 @@ pub(crate) struct Sides {
 }
 
 // Puts the word into the buffer, in place of what was there.
-fn write(buffer: &mut Vec<Symbol>, w: &[Symbol]) -> Result<(), AllocError>
-    ensures { OnOk result (buffer.new.items ≡ w.now) }
+fn write(buffer: &mut Vec<Symbol>, word: &[Symbol]) -> Result<(), AllocError>
+    ensures { OnOk result (buffer.new.items ≡ word.now) }
 {
     buffer.clear();
-    buffer.extend_from_slice(w)?;
+    buffer.extend_from_slice(word)?;
     Ok(())
 }
 

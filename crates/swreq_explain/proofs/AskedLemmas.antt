@@ -1,4 +1,4 @@
--- Reduction by the rules of a signature's book shows what is derivable from its list.
+-- Reduction by the rules of a signature's history shows what is derivable from its list.
 use Rattle.std.proofs.Common.{List, []}
 use Rattle.swreq_rule.specs.declared.rules.Rule.{Rule}
 use Rattle.swreq_complete.specs.Alike.{ReduceAlike}
@@ -14,7 +14,7 @@ use Rattle.swreq_correspondence.specs.Symbols.{AreOfText, AreSymbolsOf, IsInText
 use Rattle.swreq_correspondence.proofs.Chained.{chained_usable}
 use Rattle.swreq_correspondence.proofs.Shown.{shown_by_more}
 use Rattle.swreq_rounds.specs.Presents.{AreListRules}
-use Rattle.swreq_unfold.proofs.Ends.{alike_back}
+use Rattle.swreq_births.proofs.Ends.{alike_back}
 use Rattle.swreq_complete.proofs.Alike.{linked_are_alike}
 
 module _ (m : Symbols) (f : TermFacts) (fit : AreSymbolsOf m f) (ranges : AreOfText m f) (rules : List Rule) (gs : List ParamId)

@@ -9,10 +9,10 @@ use Rattle.swreq_derive.specs.Facts.{IdFacts, generic_params, requirement_of, st
 use Rattle.swreq_derive.specs.Instances.{Follows, HasNumber, TermLine, statements_of}
 use Rattle.swreq_derive.specs.Lines.{AreDerived, line_of, stated_by}
 use Rattle.swreq_derive.proofs.LineLemmas.{get_take}
-use Rattle.swreq_sheet.specs.declared.sheet.Sheet.{Sheet}
-use Rattle.swreq_sheet.specs.Sheets.{AreIdsIn, IsSheet, said}
-use Rattle.swreq_sheet.proofs.SheetLemmas.{same_ids}
-use Rattle.swreq_needed.specs.Needed.{AreSomeOf, EndIn}
+use Rattle.swreq_derivation.specs.declared.derivation.Derivation.{Derivation}
+use Rattle.swreq_derivation.specs.UnderWay.{AreIdsIn, IsUnderWay, statements_in}
+use Rattle.swreq_derivation.proofs.DerivationLemmas.{same_ids}
+use Rattle.swreq_derivation.specs.Needed.{AreSomeOf, EndIn}
 
 map_front : {A B : Type 0} (f : A → B) (n : ℕ) (xs : List A) → map f (take n xs) ≡ take n (map f xs)
 map_front f zero xs = refl
@@ -47,10 +47,10 @@ pub some_of_front : (some ls : List Line) (n : ℕ) → AreSomeOf some (take n l
 some_of_front some ls n h k l e = let (j, a, at, rule, statement) = h k l e in (j, a, in_whole ls n j a at, rule, statement)
 
 -- the line whose statement has this number
-pub line_said : (s : Sheet) (st : Statement) (n : ℕ) → IsSheet s → AreDistinct s.table → AreIdsIn s.table st
-    → HasNumber n (said s) (statement_of s.table st) → (l : Line) × HasNumber n s.lines.items l × (l.statement ≡ st)
-line_said s st n sheet distinct ids (above, at) =
+pub line_said : (s : Derivation) (st : Statement) (n : ℕ) → IsUnderWay s → AreDistinct s.table → AreIdsIn s.table st
+    → HasNumber n (statements_in s) (statement_of s.table st) → (l : Line) × HasNumber n s.lines.items l × (l.statement ≡ st)
+line_said s st n derivation distinct ids (above, at) =
     let (x, at_x, same_x) = get_of_map (statement_of s.table) (stated_by s.lines.items) (n - 1) (statement_of s.table st) at in
     let (l, at_l, same_l) = get_of_map (λ (z : Line). z.statement) s.lines.items (n - 1) x at_x in
-    let of_l = sheet.ids (n - 1) l at_l in
+    let of_l = derivation.ids (n - 1) l at_l in
     (l, (above, at_l), same_ids s.table distinct l.statement st of_l ids (ap (statement_of s.table) same_l ∙ same_x))

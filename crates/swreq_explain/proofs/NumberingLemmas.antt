@@ -19,8 +19,8 @@ use Rattle.swreq_rounds.specs.Plan.{equation_of}
 use Rattle.swreq_symbols.specs.Overs.{source_by}
 use Rattle.swreq_symbols.specs.Known.{IsRequirementIn, IsTextOver}
 use Rattle.swreq_symbols.proofs.OfText.{own_requirements, protocol_written, signature_written}
-use Rattle.swreq_read.specs.declared.ground.Named.{Named}
-use Rattle.swreq_unfold.specs.declared.book.Equation.{Equation}
+use Rattle.swreq_readings.specs.declared.alphabet.Named.{Named}
+use Rattle.swreq_births.specs.declared.history.Equation.{Equation}
 use Rattle.swreq_valid.specs.Flags.{chosen}
 use Rattle.swreq_valid.specs.Plans.{bare, listed}
 use Rattle.swreq_world.specs.ByTable.{world_by}

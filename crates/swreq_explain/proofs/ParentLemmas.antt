@@ -16,12 +16,12 @@ use Rattle.swreq_derive.specs.Instances.{HasNumber}
 use Rattle.swreq_lowering.specs.declared.ids.Written.{Written}
 use Rattle.swreq_lowering.specs.ByTable.{AreOf, HasIdsOf, placed, placed_by}
 use Rattle.swreq_lowering.specs.Heads.{IsOverSelf}
-use Rattle.swreq_read.specs.declared.ground.Parent.{Parent}
+use Rattle.swreq_readings.specs.declared.alphabet.WrittenInheritance.{WrittenInheritance}
 use Rattle.swreq_symbols.specs.Known.{IsTextOver}
 use Rattle.swreq_symbols.proofs.OfText.{requirements_by}
 use Rattle.swreq_world.specs.Closed.{IsOfProtocol}
 use Rattle.swreq_world.specs.Worlds.{IdWorld, requirements_of}
-use Rattle.swreq_explain.specs.Grounded.{AreParentsUpTo, parent}
+use Rattle.swreq_explain.specs.TextAlphabet.{AreParentsUpTo, parent}
 
 -- A requirement of a protocol is over `Self`, and its ids are of the table.
 pub own_requirement : (w : IdWorld) (terms : List Term) → IsTextOver terms w → (p : ProtoId) (r : Written)
@@ -64,7 +64,7 @@ module _ (f : TermFacts) (p : ProtoId) (terms : List Term) (list : List Requirem
       let here = required_at k r e in
       cc
 
-  pub parents_none : (k : ℕ) (r : Requirement) (parents : List Parent) → slice_get list k ≡ Some r
+  pub parents_none : (k : ℕ) (r : Requirement) (parents : List WrittenInheritance) → slice_get list k ≡ Some r
       → ((q : ProtoId) → requirement_of terms r ≡ Conforms self q → ⊥) → AreParentsUpTo f p.rank k parents
       → AreParentsUpTo f p.rank (k + 1) parents
   parents_none k r parents e none h = record {
@@ -78,14 +78,14 @@ module _ (f : TermFacts) (p : ProtoId) (terms : List Term) (list : List Requirem
     ];
   }
 
-  pub parents_more : (k : ℕ) (r : Requirement) (q : ProtoId) (parents : List Parent) → slice_get list k ≡ Some r
+  pub parents_more : (k : ℕ) (r : Requirement) (q : ProtoId) (parents : List WrittenInheritance) → slice_get list k ≡ Some r
       → requirement_of terms r ≡ Conforms self q
       → AreParentsUpTo f p.rank k parents → AreParentsUpTo f p.rank (k + 1) (parents ++ parent p (k + 1) q ∷ [])
   parents_more k r q parents e is h = record {
     written = λ x c. elim (Contains-append_cases parents (parent p (k + 1) q ∷ []) x c) [
       | inl i ↦ h.written x i
       | inr i ↦ (let same : x ≡ parent p (k + 1) q = only_member (parent p (k + 1) q) x i in
-          subst (λ (z : Parent). HasNumber z.number (f.of_protocol z.heir) (Conforms self z.proto)) (sym same)
+          subst (λ (z : WrittenInheritance). HasNumber z.number (f.of_protocol z.heir) (Conforms self z.proto)) (sym same)
           (let place : k + 1 - 1 ≡ k = omega arith in
           (omega arith, ap (slice_get (f.of_protocol p)) place ∙ required_at k r e ∙ ap Some is)))
     ];
@@ -104,7 +104,8 @@ module _ (f : TermFacts) (p : ProtoId) (terms : List Term) (list : List Requirem
     ];
   }
 
-  pub parents_next : (parents : List Parent) → AreParentsUpTo f p.rank (length list) parents → AreParentsUpTo f (p.rank + 1) 0 parents
+  pub parents_next : (parents : List WrittenInheritance) → AreParentsUpTo f p.rank (length list) parents → AreParentsUpTo f (p.rank + 1) 0
+      parents
   parents_next parents h = record {
     written = h.written;
     all = λ q o n w number. elim (cases_lt q.rank p.rank) [

@@ -1,4 +1,4 @@
--- Type parameters that are read on a sheet.
+-- Type parameters that are read in a derivation.
 use Rattle.std.proofs.Common.{◌≡◌, ◌∙◌, ◌-◌, List, [], ◌∷◌, ◌++◌, Option, None, Contains, ap, arith, length, length-append, refl, subst, sym, take}
 use Rattle.std.proofs.Math.Seq.{take-append_seam}
 use Rattle.swreq_param.specs.declared.ids.ParamId.{ParamId}
@@ -13,49 +13,49 @@ use Rattle.swreq_derive.specs.Derivation.{Source}
 use Rattle.swreq_derive.specs.Facts.{generic_params}
 use Rattle.swreq_correspondence.specs.Shown.{ShowsConformance, ShowsValid}
 use Rattle.swreq_correspondence.specs.Symbols.{symbol, word_of}
-use Rattle.swreq_read.specs.declared.ground.Ground.{Ground}
-use Rattle.swreq_unfold.specs.Systems.{IsShown, source_of}
-use Rattle.swreq_unfold.specs.Types.{IsStepShown}
-use Rattle.swreq_unfold.proofs.Ends.{alike_back}
+use Rattle.swreq_readings.specs.declared.alphabet.Alphabet.{Alphabet}
+use Rattle.swreq_births.specs.Systems.{IsShown, source_of}
+use Rattle.swreq_births.specs.Types.{IsStepShown}
+use Rattle.swreq_births.proofs.Ends.{alike_back}
 use Rattle.swreq_explain.proofs.NumberingLemmas.{spell_append}
 use Rattle.swreq_param.specs.Tables.{term_at}
 use Rattle.swreq_param.specs.Terms.{Term}
 use Rattle.swreq_word.specs.declared.symbols.Symbol.{Symbol}
-use Rattle.swreq_sheet.specs.declared.sheet.Sheet.{Sheet}
-use Rattle.swreq_sheet.specs.Sheets.{AreEqualIds, AreSaidEqual, Grows}
-use Rattle.swreq_read.specs.Readable.{SaysSymbol, SaysWord}
-use Rattle.swreq_read.proofs.ReadLemmas.{equal_as, equal_still, is_still, term_still, word_right, word_still}
-use Rattle.swreq_explain.specs.declared.sides.Desk.{Desk}
+use Rattle.swreq_derivation.specs.declared.derivation.Derivation.{Derivation}
+use Rattle.swreq_derivation.specs.UnderWay.{AddsLines, AreEqualIds, AreStatedEqual}
+use Rattle.swreq_readings.specs.Readable.{AllowsSymbol, AllowsWord}
+use Rattle.swreq_readings.proofs.ReadingLemmas.{equal_as, equal_still, is_still, term_still, word_right, word_still}
+use Rattle.swreq_explain.specs.declared.sides.RoundReader.{RoundReader}
 use Rattle.swreq_explain.specs.declared.sides.ReadAs.{ReadAs}
-use Rattle.swreq_explain.specs.declared.sides.Side.{Side}
-use Rattle.swreq_explain.specs.Stating.{IsReadAt, IsReady, ground_at}
+use Rattle.swreq_explain.specs.declared.sides.WordOfType.{WordOfType}
+use Rattle.swreq_explain.specs.Stating.{IsReadAt, IsReady, alphabet_at}
 
-pub ready_still : (d : Desk) (s u : Sheet) → Grows s u → IsReady d s → IsReady d u
-ready_still d s u g h = record { system = h.system; sheet = g.sheet; t = is_still s u g d.t h.t }
+pub ready_still : (d : RoundReader) (s u : Derivation) → AddsLines s u → IsReady d s → IsReady d u
+ready_still d s u g h = record { system = h.system; derivation = g.derivation; t = is_still s u g d.t h.t }
 
-module _ (d : Desk) (x : Side) (t : Term) where
-  pub read_still : (s u : Sheet) → Grows s u → (r : ReadAs) → IsReadAt d x t s r → IsReadAt d x t u r
+module _ (d : RoundReader) (x : WordOfType) (t : Term) where
+  pub read_still : (s u : Derivation) → AddsLines s u → (r : ReadAs) → IsReadAt d x t s r → IsReadAt d x t u r
   read_still s u g r h = record {
     itself_of = is_still s u g r.itself h.itself_of;
     word_of = is_still s u g r.word h.word_of;
     itself = term_still s u g r.itself h.itself_of ∙ h.itself;
     word = term_still s u g r.word h.word_of ∙ h.word;
-    says = word_still (ground_at d) s u g t x.word.now h.says;
-    equal = equal_still (ground_at d) s u g _ _ h.equal;
+    says = word_still (alphabet_at d) s u g t x.word.now h.says;
+    equal = equal_still (alphabet_at d) s u g _ _ h.equal;
   }
 
-  pub read_equal : (s : Sheet) (r : ReadAs) → IsReadAt d x t s r → AreSaidEqual s (term_at s.table r.itself) (term_at s.table r.word)
+  pub read_equal : (s : Derivation) (r : ReadAs) → IsReadAt d x t s r → AreStatedEqual s (term_at s.table r.itself) (term_at s.table r.word)
   read_equal s r h = equal_as s _ _ _ _ h.itself h.word h.equal
 
-  pub read_ids : (s : Sheet) (r : ReadAs) → IsReadAt d x t s r → AreEqualIds s r.itself r.word
+  pub read_ids : (s : Derivation) (r : ReadAs) → IsReadAt d x t s r → AreEqualIds s r.itself r.word
   read_ids s r h = (h.itself_of, h.word_of, read_equal s r h)
 
   -- if lines allow the word with one symbol more, they allow the symbol after the type parameter that the word is read as
-  pub vanished : (s : Sheet) (r : ReadAs) (y : Symbol) (longer : List Symbol) → IsReadAt d x t s r → longer ≡ x.word.now ++ y ∷ []
-      → SaysWord (ground_at d) s t longer → SaysSymbol (ground_at d) s (term_at s.table r.word) y
+  pub vanished : (s : Derivation) (r : ReadAs) (y : Symbol) (longer : List Symbol) → IsReadAt d x t s r → longer ≡ x.word.now ++ y ∷ []
+      → AllowsWord (alphabet_at d) s t longer → AllowsSymbol (alphabet_at d) s (term_at s.table r.word) y
   vanished s r y longer h e w =
-      let split = subst (SaysWord (ground_at d) s t) e w in
-      subst (λ z. SaysSymbol (ground_at d) s z y) (sym h.word) (word_right (ground_at d) s t x.word.now (y ∷ []) split).0
+      let split = subst (AllowsWord (alphabet_at d) s t) e w in
+      subst (λ z. AllowsSymbol (alphabet_at d) s z y) (sym h.word) (word_right (alphabet_at d) s t x.word.now (y ∷ []) split).0
 
 -- ---- the base of a member
 
@@ -64,7 +64,7 @@ front_of u y =
     let count : length (u ++ y ∷ []) - 1 ≡ length u = (let e = length-append u (y ∷ []) in omega (arith, e)) in
     ap (λ n. take n (u ++ y ∷ [])) count ∙ take-append_seam u (y ∷ [])
 
-module _ (g : Ground) (owner : Option ProtoId) (rules : List Rule) (t b : Term) (x : Step) (w : List Symbol) (is : t ≡ Member b x)
+module _ (g : Alphabet) (owner : Option ProtoId) (rules : List Rule) (t b : Term) (x : Step) (w : List Symbol) (is : t ≡ Member b x)
     (h : IsShown g owner rules t w) where
   abbrev s : Source
   s = source_of g h.list owner
@@ -99,6 +99,6 @@ module _ (g : Ground) (owner : Option ProtoId) (rules : List Rule) (t b : Term) 
       of (Bound d) v = (let (p, a, c, k) = v.1 in (d.rank, record { proto = p; name = a }, (h.are.associated p a d c, refl, on p k)))
 
 -- a generic parameter that the rules show valid is one of the list
-pub shown_generic : (g : Ground) (rules : List Rule) (t : Term) (p : ParamId) (w : List Symbol) → t ≡ Generic p → IsShown g None rules t w
+pub shown_generic : (g : Alphabet) (rules : List Rule) (t : Term) (p : ParamId) (w : List Symbol) → t ≡ Generic p → IsShown g None rules t w
     → Contains (generic_params g.params) p
 shown_generic g rules t p w is h = subst (ShowsValid h.symbols h.facts (source_of g h.list None) (ReduceAlike rules)) is h.shown

@@ -1,6 +1,7 @@
 -- What lines are derived from, over a table that has grown.
-use Rattle.std.proofs.Common.{◌≡◌, ◌∙◌, ℕ, ◌<◌, List, [], Contains, Some, ap, length, map, refl, slice_get, subst, sym}
-use Rattle.swreq_orders.proofs.Members.{contains_of_map}
+use Rattle.std.proofs.Common.{◌≡◌, ◌∙◌, ℕ, ◌<◌, List, [], ◌∷◌, Contains, Some, ap, length, map, refl, slice_get, subst, sym}
+use Rattle.swreq_orders.proofs.Elements.{contains_get, get_contains}
+use Rattle.swreq_orders.proofs.Members.{contains_of_map, first_member, later_member}
 use Rattle.swreq_param.specs.declared.ids.ProtoId.{ProtoId}
 use Rattle.swreq_param.specs.Tables.{Extends}
 use Rattle.swreq_param.specs.Terms.{Term}
@@ -17,20 +18,37 @@ use Rattle.swreq_lowering.specs.declared.ids.FuncId.{FuncId}
 use Rattle.swreq_lowering.specs.declared.ids.Query.{Query}
 use Rattle.swreq_lowering.specs.declared.ids.Query.TheVariants as queries
 use Rattle.swreq_lowering.specs.Requirements.{PlacedRequirement}
-use Rattle.swreq_sheet.specs.Sheets.{AreIdsIn, Basis, Grows, IsDerivedFrom, Keeps}
-use Rattle.swreq_sheet.specs.declared.sheet.Sheet.{Sheet}
-use Rattle.swreq_needed.specs.Needed.{AreSomeOf}
-use Rattle.swreq_unfold.specs.declared.book.Book.{Book}
-use Rattle.swreq_unfold.specs.Systems.{FitsBook}
-use Rattle.swreq_symbols.specs.Known.{IsTextOver}
+use Rattle.swreq_derivation.specs.UnderWay.{AddsLines, AreIdsIn, Assumptions, IsDerivedFrom, StaysDerived}
+use Rattle.swreq_derivation.specs.declared.derivation.Derivation.{Derivation}
+use Rattle.swreq_derivation.specs.Needed.{AreSomeOf}
+use Rattle.swreq_births.specs.declared.history.History.{History}
+use Rattle.swreq_births.specs.declared.history.Equation.{Equation}
+use Rattle.swreq_births.specs.declared.history.System.{System}
+use Rattle.swreq_births.specs.Systems.{FitsHistory}
+use Rattle.swreq_correspondence.specs.Symbols.{Symbols, left_side, right_side}
+use Rattle.swreq_lexicon.specs.Views.{LexiconView}
+use Rattle.swreq_lowering.specs.ByTable.{HasIdsOf}
+use Rattle.swreq_symbols.specs.Known.{IsRequirementIn, IsTextOver}
+use Rattle.swreq_symbols.specs.Meaning.{symbols_of}
+use Rattle.swreq_symbols.specs.Overs.{source_by}
+use Rattle.swreq_valid.specs.Flags.{chosen}
+use Rattle.swreq_valid.specs.Machines.{ProtocolsView}
 use Rattle.swreq_symbols.proofs.Growing.{world_stays}
 use Rattle.swreq_symbols.proofs.OfText.{are_facts, facts_are, requirements_placed, signature_is}
 use Rattle.swreq_world.specs.ByTable.{IsOverTable, world_by}
 use Rattle.swreq_world.specs.FactsAt.{facts_at, facts_of, written_list}
 use Rattle.swreq_world.specs.Worlds.{IdWorld, SignatureOver, TextWorld, signature_at}
 use Rattle.swreq_explain.specs.Asked.{Asks}
-use Rattle.swreq_explain.specs.Books.{IsBookFor, basis_of}
-use Rattle.swreq_explain.specs.Written.{AreWritten, IsBasisOver}
+use Rattle.swreq_explain.specs.declared.numbered.Numbered.{Numbered}
+use Rattle.swreq_explain.specs.declared.text_history.TextHistory.{TextHistory}
+use Rattle.swreq_explain.specs.Histories.{IsHistoryFor, IsTextHistory, assumptions_of, protocols_origin}
+use Rattle.swreq_explain.specs.TextAlphabet.{AreNamesOf}
+use Rattle.swreq_explain.specs.Numbering.{AreEquationsOf, AreNumberedIn, IsEquationOf}
+use Rattle.swreq_explain.specs.Rounds.{IsSystemOf, Origin}
+use Rattle.swreq_explain.specs.Uses.{Course}
+use Rattle.swreq_explain.specs.Written.{AreWritten, IsAssumptionsOver}
+use Rattle.swreq_explain.proofs.NumberingLemmas.{protocols_in_text}
+use Rattle.swreq_explain.proofs.RoundLemmas.{chosen_of}
 use Rattle.swreq_explain.proofs.TextLines.{lines_are_of}
 
 -- A query asks of one signature only.
@@ -45,8 +63,8 @@ module _ (old new : List Term) (w : IdWorld) (f : FuncId) where
   list_over : (terms : List Term) → written_list (signature_at (world_by terms w) f) ≡ map (requirement_of terms) (facts_at w f).written
   list_over terms = ap written_list (signature_is w terms f) ∙ sym (requirements_placed terms (signature_at w f).requirements)
 
-  pub basis_over : Extends old new → IsOverTable old w → IsBasisOver new (facts_at w f) (basis_of (world_by old w) f)
-  basis_over more over =
+  pub assumptions_over : Extends old new → IsOverTable old w → IsAssumptionsOver new (facts_at w f) (assumptions_of (world_by old w) f)
+  assumptions_over more over =
       let same : world_by new w ≡ world_by old w = world_stays old new more w over in
       record {
         facts = sym (facts_are w new f ∙ ap facts_of same);
@@ -77,26 +95,98 @@ module _ (terms : List Term) (w : IdWorld) (f : FuncId) (text : IsTextOver terms
       (subst (λ (z : TermFacts). IsDerivation z (generic_params m.params) (map (requirement_of terms) m.written) (map (line_of terms) ls))
       (facts_are w terms f) d) ids
 
--- The book still answers for the signature over a table that has grown.
-pub book_stays : (old new : List Term) (w : IdWorld) (f : FuncId) (b : Book) → Extends old new → IsOverTable old w
-    → IsBookFor (world_by old w) f b
-    → IsBookFor (world_by new w) f b
-book_stays old new w f b more over h = subst (λ (z : TextWorld). IsBookFor z f b) (sym (world_stays old new more w over)) h
+-- The history still answers for the signature over a table that has grown.
+pub history_stays : (old new : List Term) (w : IdWorld) (f : FuncId) (b : History) → Extends old new → IsOverTable old w
+    → IsHistoryFor (world_by old w) f b
+    → IsHistoryFor (world_by new w) f b
+history_stays old new w f b more over h = subst (λ (z : TextWorld). IsHistoryFor z f b) (sym (world_stays old new more w over)) h
 
--- What is written on a sheet without lines is written over its table.
-pub written_over : (old : List Term) (s0 s : Sheet) (book : Book) (ls : List Line) → s0.table ≡ old → s0.lines.items ≡ [] → Grows s0 s
-    → ((b : Basis) → FitsBook book b → Keeps b s0 s) → ((m : IdFacts) → AreDerived s.table m s.lines.items → AreDerived s.table m ls)
-    → AreSomeOf ls s.lines.items → AreWritten old s.table book ls
-written_over old s0 s book ls same none grows keeps part some = record {
+-- ---- the history of a text
+
+module _ (old new : List Term) (more : Extends old new) where
+  requirement_stays : (r : Requirement) → HasIdsOf old r → requirement_of new r ≡ requirement_of old r
+  requirement_stays (Conf t p) h = let e = more.stands t h in cc
+  requirement_stays (Layout t) h = let e = more.stands t h in cc
+  requirement_stays (Same t u) h = let e = more.stands t h.0 in let f = more.stands u h.1 in cc
+
+  module _ (m : Symbols) (x : LexiconView) where
+    equation_stays : (n : Numbered) (shown : ℕ) (e : Equation) → IsRequirementIn old x n.requirement → IsEquationOf m old n shown e
+        → IsEquationOf m new n shown e
+    equation_stays n shown e known is =
+        let same : requirement_of old n.requirement ≡ requirement_of new n.requirement = sym (requirement_stays n.requirement known.0) in
+        record {
+          left = is.left ∙ ap (left_side m (source_by n.owner)) same;
+          right = is.right ∙ ap (right_side m (source_by n.owner)) same;
+          reason = record { requirement = is.reason.requirement; stands = is.reason.stands ∙ same; is = is.reason.is };
+        }
+
+    equations_stay : (c : Course) (k : ℕ) (xs : List Numbered) (es : List Equation) → AreNumberedIn old x xs
+        → AreEquationsOf m old c k xs es → AreEquationsOf m new c k xs es
+    equations_stay c k [] [] known h = h
+    equations_stay c k [] (e ∷ es) known h = absurd h
+    equations_stay c k (n ∷ xs) [] known h = absurd h
+    equations_stay c k (n ∷ xs) (e ∷ es) known ((shown, by, is), rest) = (
+      (shown, by, equation_stays n shown e (known n (first_member n xs)) is),
+      equations_stay c k xs es (λ q i. known q (later_member n q xs i)) rest,
+    )
+
+    system_stays : (o : Origin) (k : ℕ) (v : System) → AreNumberedIn old x o.course.all → IsSystemOf m old o k v → IsSystemOf m new o k v
+    system_stays o k v known is = record {
+      round = is.round;
+      there = is.there;
+      base = is.base;
+      below = is.below;
+      rules = is.rules;
+      few = is.few;
+      given = record {
+        basic = is.given.basic;
+        more = is.given.more;
+        given_are = is.given.given_are;
+        sides = is.given.sides;
+        are_basic = is.given.are_basic;
+        are_of = equations_stay o.course k used is.given.more known_used is.given.are_of;
+      };
+    }
+      where
+        used : List Numbered
+        used = chosen o.course.all is.round.used
+
+        known_used : AreNumberedIn old x used
+        known_used n i =
+            let (j, at) = contains_get used n i in
+            let (place, there) = chosen_of o.course.all is.round.used j n at in
+            known n (get_contains o.course.all place n there)
+
+  -- What all histories of a text have in common stays so over a table that has grown.
+  pub text_history_stays : (w : IdWorld) (p : ProtocolsView) (b : TextHistory) → IsTextOver old w → IsTextHistory old w p b → IsTextHistory
+      new w p b
+  text_history_stays w p b text h =
+      let o : Origin = protocols_origin w p.rounds in
+      let known : AreNumberedIn old w.lexicon o.course.all = protocols_in_text old w text w.lexicon.written_order in
+      record {
+        names = subst (λ (z : TextWorld). AreNamesOf z b.names) (sym (world_stays old new more w text.table)) h.names;
+        systems = record {
+          count_is = h.systems.count_is;
+          each = λ k v e. system_stays (symbols_of w.lexicon) w.lexicon o k v known (h.systems.each k v e);
+        };
+      }
+
+-- What is written in a derivation without lines is written over its table.
+pub written_over : (old : List Term) (s0 s : Derivation) (history : History) (ls : List Line) → s0.table ≡ old → s0.lines.items ≡ []
+    → AddsLines s0 s
+    → ((b : Assumptions) → FitsHistory history b → StaysDerived b s0 s)
+    → ((m : IdFacts) → AreDerived s.table m s.lines.items → AreDerived s.table m ls)
+    → AreSomeOf ls s.lines.items → AreWritten old s.table history ls
+written_over old s0 s history ls same none grows keeps part some = record {
   extends = subst (λ z. Extends z s.table) same grows.extends;
   derived = λ b m fits over. part m (of b m over (keeps b fits (first b)));
-  ids = λ k l e. (let (j, a, at, rule, statement) = some k l e in subst (AreIdsIn s.table) (sym statement) (grows.sheet.ids j a at));
+  ids = λ k l e. (let (j, a, at, rule, statement) = some k l e in subst (AreIdsIn s.table) (sym statement) (grows.derivation.ids j a at));
 }
   where
-    first : (b : Basis) → IsDerivedFrom b s0
+    first : (b : Assumptions) → IsDerivedFrom b s0
     first b = subst (λ (z : List Line). IsDerivation b.facts b.params b.written (map (line_of s0.table) z)) (sym none) (λ k l e. cc)
 
-    of : (b : Basis) (m : IdFacts) → IsBasisOver s.table m b → IsDerivedFrom b s → AreDerived s.table m s.lines.items
+    of : (b : Assumptions) (m : IdFacts) → IsAssumptionsOver s.table m b → IsDerivedFrom b s → AreDerived s.table m s.lines.items
     of b m over d =
         subst (λ (z : TermFacts).
         IsDerivation z (generic_params m.params) (map (requirement_of s.table) m.written) (map (line_of s.table) s.lines.items)) over.facts

@@ -22,7 +22,7 @@ use Rattle.swreq_derive.proofs.LineLemmas.{get_take}
 use Rattle.swreq_correspondence.specs.Symbols.{AreOfText}
 use Rattle.swreq_lexicon.specs.Views.{IsName, IsProtocol, LexiconView}
 use Rattle.swreq_lines.specs.LineTexts.{HasLineIds, HasRuleIds, HasStatementIds, fields_of}
-use Rattle.swreq_sheet.specs.Sheets.{AreIdsIn}
+use Rattle.swreq_derivation.specs.UnderWay.{AreIdsIn}
 use Rattle.swreq_symbols.specs.Meaning.{symbols_of}
 use Rattle.swreq_symbols.proofs.Declared.{of_text}
 use Rattle.swreq_symbols.proofs.Symbols.{text_law}

@@ -1,8 +1,8 @@
 pub mod Asked
-pub mod Grounded
-pub mod Uses
+pub mod Histories
 pub mod Numbering
 pub mod Rounds
-pub mod Books
 pub mod Stating
+pub mod TextAlphabet
+pub mod Uses
 pub mod Written

@@ -9,16 +9,16 @@ use Rattle.swreq_derive.specs.Facts.{requirement_of}
 use Rattle.swreq_param.specs.declared.ids.ParamId.{ParamId}
 use Rattle.swreq_correspondence.specs.Symbols.{Symbols, Word, left_side, right_side}
 use Rattle.swreq_word.specs.declared.symbols.Symbol.TheVariants.{Member, Name, Proto}
-use Rattle.swreq_read.specs.declared.ground.Named.{Named}
+use Rattle.swreq_readings.specs.declared.alphabet.Named.{Named}
 use Rattle.swreq_lexicon.specs.Views.{LexiconView}
 use Rattle.swreq_rounds.specs.Plan.{Item}
 use Rattle.swreq_symbols.specs.Known.{IsRequirementIn}
 use Rattle.swreq_symbols.specs.Overs.{source_by}
-use Rattle.swreq_unfold.specs.declared.book.Equation.{Equation}
-use Rattle.swreq_unfold.specs.declared.book.Owned.{Owned}
-use Rattle.swreq_unfold.specs.declared.book.Reason.{Reason}
-use Rattle.swreq_unfold.specs.declared.book.Reason.TheVariants.{Doubled, Named as NamedBy, Required}
-use Rattle.swreq_unfold.specs.Systems.{requirement_by}
+use Rattle.swreq_births.specs.declared.history.Equation.{Equation}
+use Rattle.swreq_births.specs.declared.history.OwnedRequirement.{OwnedRequirement}
+use Rattle.swreq_births.specs.declared.history.Reason.{Reason}
+use Rattle.swreq_births.specs.declared.history.Reason.TheVariants.{Doubled, Named as NamedBy, Required}
+use Rattle.swreq_births.specs.Systems.{requirement_by}
 use Rattle.swreq_valid.specs.Plans.{bare}
 use Rattle.swreq_world.specs.Worlds.{IdWorld, requirements_of}
 use Rattle.swreq_explain.specs.declared.numbered.Numbered.{Numbered}
@@ -67,7 +67,7 @@ AreBasic members given = (k : ℕ) (e : Equation) → slice_get given k ≡ Some
 
 -- The reason is that the requirement is written, with this number, and that the rules of the system show its type parameters valid.
 pub record IsReasonOf (terms : List Term) (x : Numbered) (shown : ℕ) (why : Reason) : Type 0 where
-  pub requirement : Owned
+  pub requirement : OwnedRequirement
   pub stands : requirement_by requirement ≡ requirement_of terms x.requirement
   pub is : why ≡ Required x.owner x.number requirement shown
 

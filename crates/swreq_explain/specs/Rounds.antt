@@ -2,9 +2,9 @@
 use Rattle.std.specs.Prelude.{◌≡◌, ℕ, ◌<◌, ◌-◌, ◌^◌, List, ◌++◌, Some, length, map, slice_get}
 use Rattle.swreq_param.specs.Terms.{Term}
 use Rattle.swreq_correspondence.specs.Symbols.{Symbols, Word}
-use Rattle.swreq_read.specs.declared.ground.Named.{Named}
-use Rattle.swreq_unfold.specs.declared.book.Equation.{Equation}
-use Rattle.swreq_unfold.specs.declared.book.System.{System}
+use Rattle.swreq_readings.specs.declared.alphabet.Named.{Named}
+use Rattle.swreq_births.specs.declared.history.Equation.{Equation}
+use Rattle.swreq_births.specs.declared.history.System.{System}
 use Rattle.swreq_valid.specs.Flags.{chosen}
 use Rattle.swreq_valid.specs.Rounds.{RoundView}
 use Rattle.swreq_explain.specs.declared.numbered.Numbered.{Numbered}

@@ -3,27 +3,28 @@ ghost use Rattle.std.specs.Prelude.{◌≡◌, ◌+◌, ◌<◌, ◌^◌, ◌++�
 ghost use Rattle.std.specs.Bool.{if◌then◌else◌, nat_eq};
 ghost use Rattle.swreq_derive.specs.Facts.{requirement_of};
 ghost use Rattle.swreq_rounds.specs.Given as basics;
-ghost use Rattle.swreq_lexicon.specs.declared.pair.ProtocolName.{ProtocolName};
 ghost use Rattle.swreq_lowering.specs.ByTable.{HasIdsOf};
 ghost use Rattle.swreq_symbols.specs.Known.{IsRequirementIn, IsTextOver};
-ghost use Rattle.swreq_symbols.specs.Meaning.{member_name, symbols_of};
-ghost use Rattle.swreq_unfold.specs.declared.book.Equation.{Equation as EquationView};
-ghost use Rattle.swreq_unfold.specs.declared.book.Reason.TheVariants as reasons;
-ghost use Rattle.swreq_unfold.specs.Systems.{requirement_by};
+ghost use Rattle.swreq_readings.specs.declared.alphabet.Named.{Named as NamedView};
+ghost use Rattle.swreq_symbols.specs.Meaning.{symbols_of};
+ghost use Rattle.swreq_births.specs.declared.history.Equation.{Equation as EquationView};
+ghost use Rattle.swreq_births.specs.declared.history.Reason.TheVariants as reasons;
+ghost use Rattle.swreq_births.specs.Systems.{requirement_by};
 ghost use Rattle.swreq_valid.specs.Flags.{chosen};
 ghost use Rattle.swreq_valid.specs.Rounds.{RoundView};
 ghost use Rattle.swreq_world.specs.Closed.{AreIds};
-ghost use Rattle.swreq_explain.specs.Books.{members_in};
+ghost use Rattle.swreq_explain.specs.Histories.{members_in};
 ghost use Rattle.swreq_explain.specs.Numbering.{AreBasic, AreEquationsOf, AreNumberedIn, IsEquationOf, sides_of};
 ghost use Rattle.swreq_explain.specs.Uses.{HaveFlags, course_of};
 
 use crate::first_use::{Makings, shown_by};
 use crate::numbered::Numbered;
 use std::alloc::{AllocError, Global};
+use swreq_births::{Equation, OwnedRequirement, Reason};
 use swreq_derive::Requirement;
 use swreq_param::{NameId, ParamTable, ProtoId};
+use swreq_readings::Named;
 use swreq_symbols::equation;
-use swreq_unfold::{Equation, Owned, Reason};
 use swreq_word::{Symbol, Word};
 use swreq_world::World;
 
@@ -67,27 +68,36 @@ fn named(alloc: Global, p: ProtoId, a: NameId, rank: u64) -> Result<Equation, Al
     })
 }
 
+fn named_at(members: &[Named], rank: usize) -> Named
+    requires { rank < length members.now }
+    ensures { slice_get members.now rank ≡ Some result }
+{
+    members[rank]
+}
+
 /// Puts the equation of the member symbol last, if the symbol is one of the protocol.
 fn add_member(
     alloc: Global,
     world: &World,
+    members: &[Named],
     p: ProtoId,
-    rank: u64,
+    rank: usize,
     given: &mut Vec<Equation>,
 ) -> Result<(), AllocError>
-    requires rank { rank < length world.now.lexicon.symbols }
+    requires members { members.now ≡ members_in world.now }
+    requires rank { rank < length members.now }
     requires basic { AreBasic (members_in world.now) given.old.items }
-    ensures sides { OnOk result ((d : ProtocolName)
-        → slice_get world.now.lexicon.symbols rank ≡ Some d → map sides_of given.new.items
-        ≡ map sides_of given.old.items
-        ++ (if nat_eq d.proto.rank p.rank then basics.named p (member_name d) rank ∷ [] else [])) }
+    ensures sides { OnOk result ((n : NamedView) → slice_get members.now rank ≡ Some n
+        → map sides_of given.new.items ≡ map sides_of given.old.items
+        ++ (if nat_eq n.proto.rank p.rank
+        then basics.named p (record { proto = n.proto; name = n.name }) rank ∷ [] else [])) }
     ensures basic { OnOk result (AreBasic (members_in world.now) given.new.items) }
 {
-    let pair = world.member_at(rank);
-    if pair.proto.rank != p.rank {
+    let member = named_at(members, rank);
+    if member.proto.rank != p.rank {
         return Ok(());
     }
-    let e = named(alloc, p, pair.name, rank)?;
+    let e = named(alloc, p, member.name, rank as u64)?;
     given.push(e)?;
     Ok(())
 }
@@ -96,10 +106,12 @@ fn add_member(
 fn add_protocol(
     alloc: Global,
     world: &World,
+    members: &[Named],
     p: ProtoId,
     given: &mut Vec<Equation>,
 ) -> Result<(), AllocError>
-    requires { AreBasic (members_in world.now) given.old.items }
+    requires members { members.now ≡ members_in world.now }
+    requires basic { AreBasic (members_in world.now) given.old.items }
     ensures sides { OnOk result (map sides_of given.new.items
         ≡ map sides_of given.old.items
         ++ (basics.doubled p ∷ basics.named_from p 0 (symbols_of world.now.lexicon).members)) }
@@ -107,15 +119,20 @@ fn add_protocol(
 {
     let e = doubled(alloc, p)?;
     given.push(e)?;
-    for rank in 0..world.members() {
-        add_member(alloc, world, p, rank, given)?;
+    for rank in 0..members.len() {
+        add_member(alloc, world, members, p, rank, given)?;
     }
     Ok(())
 }
 
 /// The basic equations: for each protocol, in written order, the equation of its symbol and then those of its member names.
-pub(crate) fn basic(alloc: Global, world: &World) -> Result<Vec<Equation>, AllocError>
-    requires { AreIds world.now.lexicon }
+pub(crate) fn basic(
+    alloc: Global,
+    world: &World,
+    members: &[Named],
+) -> Result<Vec<Equation>, AllocError>
+    requires ids { AreIds world.now.lexicon }
+    requires members { members.now ≡ members_in world.now }
     ensures sides { IfOk result
         (λ v. map sides_of v.items ≡ basics.basic_equations (symbols_of world.now.lexicon)) }
     ensures basic { IfOk result (λ v. AreBasic (members_in world.now) v.items) }
@@ -123,29 +140,33 @@ pub(crate) fn basic(alloc: Global, world: &World) -> Result<Vec<Equation>, Alloc
     let mut given = Vec::new(alloc);
     for k in 0..world.protocols() {
         let p = world.proto_at(k);
-        add_protocol(alloc, world, p, &mut given)?;
+        add_protocol(alloc, world, members, p, &mut given)?;
     }
     Ok(given)
 }
 
 /// The requirement, with its type parameters in full and not by ids.
-pub(crate) fn owned(alloc: Global, table: &ParamTable, r: Requirement) -> Result<Owned, AllocError>
+pub(crate) fn owned(
+    alloc: Global,
+    table: &ParamTable,
+    r: Requirement,
+) -> Result<OwnedRequirement, AllocError>
     requires { HasIdsOf table.now r }
     ensures { IfOk result (λ q. requirement_by q ≡ requirement_of table.now r) }
 {
     match r {
         Requirement::Conf { subject, proto } => {
             let subject = table.owned(alloc, subject)?;
-            Ok(Owned::Conf { subject, proto })
+            Ok(OwnedRequirement::Conf { subject, proto })
         }
         Requirement::Layout { subject } => {
             let subject = table.owned(alloc, subject)?;
-            Ok(Owned::Layout { subject })
+            Ok(OwnedRequirement::Layout { subject })
         }
         Requirement::Same { left, right } => {
             let left = table.owned(alloc, left)?;
             let right = table.owned(alloc, right)?;
-            Ok(Owned::Same { left, right })
+            Ok(OwnedRequirement::Same { left, right })
         }
     }
 }

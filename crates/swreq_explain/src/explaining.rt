@@ -9,25 +9,26 @@ ghost use Rattle.swreq_derive.specs.Derivation.TermStatement.{Requires};
 ghost use Rattle.swreq_derive.specs.Facts.{requirement_of};
 ghost use Rattle.swreq_derive.specs.Lines.{AreDerived, AreLinesOf};
 ghost use Rattle.swreq_lines.specs.LineTexts.{HasLineIds};
-ghost use Rattle.swreq_needed.specs.Needed.{EndIn};
+ghost use Rattle.swreq_derivation.specs.Needed.{EndIn};
 ghost use Rattle.swreq_symbols.specs.Known.{IsRequirementIn, IsTextOver};
 ghost use Rattle.swreq_world.specs.ByTable.{world_by};
 ghost use Rattle.swreq_world.specs.FactsAt.{facts_at, facts_of, source_of};
 ghost use Rattle.swreq_world.specs.Short.{IsShort};
 ghost use Rattle.swreq_world.specs.Worlds.{signature_at};
 ghost use Rattle.swreq_explain.specs.Asked.{AreRoundsFor, Asks, IsYes};
-ghost use Rattle.swreq_explain.specs.Books.{IsBookFor};
+ghost use Rattle.swreq_explain.specs.Histories.{IsHistoryFor};
 ghost use Rattle.swreq_explain.specs.Written.{AreWritten};
 
 use crate::equations::owned;
-use crate::systems::only_book;
+use crate::systems::history_of;
+use crate::text_history::text_history_of;
 use crate::writing::lines_over;
 use std::alloc::{AllocError, Global};
+use swreq_births::History;
 use swreq_derive::{Line, Requirement};
 use swreq_lowering::{FuncId, Query};
 use swreq_param::ParamTable;
-use swreq_symbols::equation;
-use swreq_unfold::Book;
+use swreq_symbols::{Text, equation};
 use swreq_valid::{Machine, Protocols};
 use swreq_world::World;
 
@@ -47,21 +48,21 @@ fn asked(query: &Query) -> Option<Requirement>
     }
 }
 
-/// Lines that state a requirement that is derivable from the list that the book answers for.
+/// Lines that state a requirement that is derivable from the list that the history answers for.
 fn derive(
     alloc: Global,
     world: &World,
     table: &mut ParamTable,
-    book: &Book,
+    history: &History,
     r: Requirement,
 ) -> Result<Vec<Line>, AllocError>
     requires text { IsTextOver table.old world.now }
     requires ids { IsRequirementIn table.old world.now.lexicon r }
-    requires derivable { (f : FuncId) × IsBookFor (world_by table.old world.now) f book.now
+    requires derivable { (f : FuncId) × IsHistoryFor (world_by table.old world.now) f history.now
         × Derivable (facts_of (world_by table.old world.now))
         (source_of (signature_at (world_by table.old world.now) f))
         (Requires (requirement_of table.old r)) }
-    ensures written { IfOk result (λ v. AreWritten table.old table.new book.now v.items) }
+    ensures written { IfOk result (λ v. AreWritten table.old table.new history.now v.items) }
     ensures last { IfOk result (λ v. EndIn v.items (Holds r)) }
     ensures extends { Extends table.old table.new }
 {
@@ -69,7 +70,7 @@ fn derive(
     let by_itself = owned(alloc, table, r)?;
     let lines = lines_over(
         alloc,
-        book,
+        history,
         table,
         r,
         &by_itself,
@@ -78,17 +79,17 @@ fn derive(
     Ok(lines)
 }
 
-/// The same as `explain`, by the book of the signature that the query asks of. One book serves for all queries of a signature.
+/// The same as `explain`, by the history of the signature that the query asks of. One history serves for all queries of a signature.
 pub fn explain_by(
     alloc: Global,
     world: &World,
     table: &mut ParamTable,
-    book: &Book,
+    history: &History,
     query: &Query,
 ) -> Result<Vec<Line>, AllocError>
     requires text { IsTextOver table.old world.now }
     requires yes { (f : FuncId) × (f.place < length world.now.signatures)
-        × IsBookFor (world_by table.old world.now) f book.now
+        × IsHistoryFor (world_by table.old world.now) f history.now
         × IsYes table.old world.now f query.now }
     ensures derived { IfOk result (λ v. (f : FuncId) (r : RequirementView) → Asks query.now f r
         → AreDerived table.new (facts_at world.now f) v.items) }
@@ -103,7 +104,7 @@ pub fn explain_by(
     match asked(query) {
         None => unreachable!(),
         Some(r) => {
-            let lines = derive(alloc, world, table, book, r)?;
+            let lines = derive(alloc, world, table, history, r)?;
             Ok(lines)
         }
     }
@@ -135,7 +136,9 @@ pub fn explain(
         (λ v. (l : LineView) → Contains v.items l → HasLineIds world.now.lexicon table.new l) }
     ensures extends { Extends table.old table.new }
 {
-    let book = only_book(alloc, world, table, protocols, machine, f)?;
-    let lines = explain_by(alloc, world, table, &book, query)?;
+    let text = Text { world, table };
+    let base = text_history_of(alloc, &text, protocols)?;
+    let history = history_of(alloc, &text, &base, protocols, machine, f)?;
+    let lines = explain_by(alloc, world, table, &history, query)?;
     Ok(lines)
 }

@@ -2,17 +2,19 @@
 //! of derivation, and the checker of derivations accepts them by themselves.
 #![tactic(auto)]
 
+mod alphabets;
 mod equations;
 mod explaining;
 mod first_use;
-mod grounds;
 mod numbered;
 mod sides;
 mod stating;
 mod systems;
+mod text_history;
 mod validity;
 mod writing;
 
+pub use alphabets::TextNames;
 pub use explaining::{explain, explain_by};
-pub use grounds::{TextNames, names_of_text, no_names};
-pub use systems::book_of;
+pub use systems::history_of;
+pub use text_history::{TextHistory, text_history_of};

@@ -1,30 +1,30 @@
-//! The type parameters of a requirement, read on a sheet.
+//! The type parameters of a requirement, read in a derivation.
 ghost use Rattle.std.specs.Prelude.{IfOk, OnOk};
 ghost use Rattle.swreq_param.specs.Tables.{term_at};
-ghost use Rattle.swreq_sheet.specs.Sheets.{Basis, Grows, Keeps};
-ghost use Rattle.swreq_unfold.specs.Systems.{FitsBook};
-ghost use Rattle.swreq_explain.specs.Stating.{IsReadAt, IsReady, IsSide};
+ghost use Rattle.swreq_derivation.specs.UnderWay.{AddsLines};
+ghost use Rattle.swreq_births.specs.Systems.{IsStillDerivedBy};
+ghost use Rattle.swreq_explain.specs.Stating.{IsReadAt, IsReady, IsWordOf};
 
 use std::alloc::{AllocError, Global};
+use swreq_births::{History, ReadingPlace, read_type};
+use swreq_derivation::Derivation;
 use swreq_param::{TermId, TypeParam};
-use swreq_read::read;
-use swreq_sheet::Sheet;
-use swreq_unfold::{Book, Scope, read_type};
+use swreq_readings::read_word;
 use swreq_word::Symbol;
 
-/// What requirements of a list are stated by: the rules of a system of the book. Words are read after `t`. Words of a list begin with
+/// What requirements of a list are stated by: the rules of a system of the history. Words are read after `t`. Words of a list begin with
 /// generic parameters, so any type parameter will do for `t`.
 #[derive(Clone, Copy)]
-pub(crate) struct Desk<'a> {
+pub(crate) struct RoundReader<'a> {
     pub alloc: Global,
-    pub book: &'a Book,
+    pub history: &'a History<'a>,
     pub system: usize,
     pub t: TermId,
 }
 
 /// A type parameter of a requirement, with its word.
 #[derive(Clone, Copy)]
-pub(crate) struct Side<'a> {
+pub(crate) struct WordOfType<'a> {
     pub param: &'a TypeParam,
     pub word: &'a [Symbol],
 }
@@ -38,24 +38,25 @@ pub(crate) struct ReadAs {
 
 /// States that the type parameter equals the one that its word is read as. Answers the ids of the two.
 pub(crate) fn read_side(
-    desk: Desk<'_>,
-    sheet: &mut Sheet,
-    side: Side<'_>,
+    reader: RoundReader<'_>,
+    derivation: &mut Derivation,
+    side: WordOfType<'_>,
 ) -> Result<ReadAs, AllocError>
-    requires ready { IsReady desk sheet.old }
-    requires side { IsSide desk side }
+    requires ready { IsReady reader derivation.old }
+    requires side { IsWordOf reader side }
     ensures read { IfOk result
-        (IsReadAt desk.entry side.entry (term_at sheet.old.table desk.entry.t) sheet.new) }
-    ensures grows { Grows sheet.old sheet.new }
+        (IsReadAt reader.entry side.entry
+        (term_at derivation.old.table reader.entry.t) derivation.new) }
+    ensures grows { AddsLines derivation.old derivation.new }
     ensures derives { OnOk result
-        ((b : Basis) → FitsBook desk.entry.book.now b → Keeps b sheet.old sheet.new) }
+        (IsStillDerivedBy reader.entry.history.now derivation.old derivation.new) }
 {
-    let scope = Scope {
-        system: desk.system,
+    let scope = ReadingPlace {
+        system: reader.system,
         owner: None,
-        t: desk.t,
+        for_self: reader.t,
     };
-    let itself = read_type(desk.book, sheet, scope, side.param, side.word)?;
-    let word = read(&desk.book.ground, sheet, desk.t, side.word)?;
+    let itself = read_type(reader.history, derivation, scope, side.param, side.word)?;
+    let word = read_word(&reader.history.alphabet, derivation, reader.t, side.word)?;
     Ok(ReadAs { itself, word })
 }

@@ -6,157 +6,185 @@ ghost use Rattle.swreq_derive.specs.Derivation.TermRequirement.{Conforms, Equals
 ghost use Rattle.swreq_derive.specs.Derivation.TermStatement.{Requires};
 ghost use Rattle.swreq_word.specs.declared.symbols.Symbol.TheVariants.{Layout, Proto};
 ghost use Rattle.swreq_complete.specs.Alike.{ReduceAlike};
-ghost use Rattle.swreq_sheet.specs.Sheets.{AreSaidEqual, Basis, Grows, Keeps, Says};
-ghost use Rattle.swreq_unfold.specs.Systems.{FitsBook, HasShownSides, requirement_by};
-ghost use Rattle.swreq_explain.specs.Stating.{IsReady, IsSide, Vanishes, ground_at, rules_of};
+ghost use Rattle.swreq_derivation.specs.UnderWay.{AddsLines, AreStatedEqual, States};
+ghost use Rattle.swreq_births.specs.Systems.{HasShownSides, IsStillDerivedBy, requirement_by};
+ghost use Rattle.swreq_explain.specs.Stating.{IsReady, IsWordOf, Vanishes, alphabet_at, rules_of};
 
-use crate::sides::{Desk, Side, read_side};
+use crate::sides::{RoundReader, WordOfType, read_side};
 use crate::validity::reflect;
 use std::alloc::AllocError;
+use swreq_births::{OwnedRequirement, conform_by_member, link};
+use swreq_derivation::{Derivation, add_same_conf, add_same_layout, add_symm, add_trans, are_one};
 use swreq_param::{ProtoId, TermId};
-use swreq_sheet::{Sheet, are_one, same_conf, same_layout, symm, trans};
-use swreq_unfold::{Owned, link};
 use swreq_word::Symbol;
 
 /// States that the type parameter conforms to the protocol. The protocol's symbol vanishes after the word of the type parameter.
-pub(crate) fn conform(
-    desk: Desk<'_>,
-    sheet: &mut Sheet,
-    side: Side<'_>,
+pub(crate) fn state_conformance(
+    reader: RoundReader<'_>,
+    derivation: &mut Derivation,
+    side: WordOfType<'_>,
     p: ProtoId,
     longer: &[Symbol],
 ) -> Result<(), AllocError>
-    requires ready { IsReady desk sheet.old }
-    requires side { IsSide desk side }
-    requires vanishes { Vanishes desk side (Proto p.rank) longer.now }
+    requires ready { IsReady reader derivation.old }
+    requires side { IsWordOf reader side }
+    requires vanishes { Vanishes reader side (Proto p.rank) longer.now }
     ensures says { OnOk result
-        (Says sheet.new (Requires (Conforms (as_term side.entry.param.now) p))) }
-    ensures grows { Grows sheet.old sheet.new }
+        (States derivation.new (Requires (Conforms (as_term side.entry.param.now) p))) }
+    ensures grows { AddsLines derivation.old derivation.new }
     ensures derives { OnOk result
-        ((b : Basis) → FitsBook desk.entry.book.now b → Keeps b sheet.old sheet.new) }
+        (IsStillDerivedBy reader.entry.history.now derivation.old derivation.new) }
 {
-    let ids = read_side(desk, sheet, side)?;
-    link(desk.book, sheet, desk.system, desk.t, side.word, longer)?;
-    same_conf(sheet, ids.itself, ids.word, p)?;
+    let ids = read_side(reader, derivation, side)?;
+    if conform_by_member(reader.history, derivation, ids.itself, p)? {
+        return Ok(());
+    }
+    link(
+        reader.history,
+        derivation,
+        reader.system,
+        reader.t,
+        side.word,
+        longer,
+    )?;
+    add_same_conf(derivation, ids.itself, ids.word, p)?;
     Ok(())
 }
 
 /// States that the type parameter conforms to `AnyObject`. The symbol of `AnyObject` vanishes after the word of the type parameter.
-pub(crate) fn be_object(
-    desk: Desk<'_>,
-    sheet: &mut Sheet,
-    side: Side<'_>,
+pub(crate) fn state_layout(
+    reader: RoundReader<'_>,
+    derivation: &mut Derivation,
+    side: WordOfType<'_>,
     longer: &[Symbol],
 ) -> Result<(), AllocError>
-    requires ready { IsReady desk sheet.old }
-    requires side { IsSide desk side }
-    requires vanishes { Vanishes desk side Layout longer.now }
+    requires ready { IsReady reader derivation.old }
+    requires side { IsWordOf reader side }
+    requires vanishes { Vanishes reader side Layout longer.now }
     ensures says { OnOk result
-        (Says sheet.new (Requires (IsAnyObject (as_term side.entry.param.now)))) }
-    ensures grows { Grows sheet.old sheet.new }
+        (States derivation.new (Requires (IsAnyObject (as_term side.entry.param.now)))) }
+    ensures grows { AddsLines derivation.old derivation.new }
     ensures derives { OnOk result
-        ((b : Basis) → FitsBook desk.entry.book.now b → Keeps b sheet.old sheet.new) }
+        (IsStillDerivedBy reader.entry.history.now derivation.old derivation.new) }
 {
-    let ids = read_side(desk, sheet, side)?;
-    link(desk.book, sheet, desk.system, desk.t, side.word, longer)?;
-    same_layout(sheet, ids.itself, ids.word)?;
+    let ids = read_side(reader, derivation, side)?;
+    link(
+        reader.history,
+        derivation,
+        reader.system,
+        reader.t,
+        side.word,
+        longer,
+    )?;
+    add_same_layout(derivation, ids.itself, ids.word)?;
     Ok(())
 }
 
 /// States that two type parameters are equal, unless they are identical. The rules reduce their words to one word. Answers their ids.
 pub(crate) fn equate(
-    desk: Desk<'_>,
-    sheet: &mut Sheet,
-    left: Side<'_>,
-    right: Side<'_>,
+    reader: RoundReader<'_>,
+    derivation: &mut Derivation,
+    left: WordOfType<'_>,
+    right: WordOfType<'_>,
 ) -> Result<(TermId, TermId), AllocError>
-    requires ready { IsReady desk sheet.old }
-    requires left { IsSide desk left }
-    requires right { IsSide desk right }
-    requires alike { ReduceAlike (rules_of desk) right.word.now left.word.now }
-    ensures ids { IfOk result (λ r. IsOf sheet.new.table r.0 × IsOf sheet.new.table r.1) }
-    ensures first { IfOk result (λ r. term_at sheet.new.table r.0 ≡ as_term left.entry.param.now) }
-    ensures last { IfOk result (λ r. term_at sheet.new.table r.1 ≡ as_term right.entry.param.now) }
+    requires ready { IsReady reader derivation.old }
+    requires left { IsWordOf reader left }
+    requires right { IsWordOf reader right }
+    requires alike { ReduceAlike (rules_of reader) right.word.now left.word.now }
+    ensures ids { IfOk result (λ r. IsOf derivation.new.table r.0 × IsOf derivation.new.table r.1) }
+    ensures first { IfOk result
+        (λ r. term_at derivation.new.table r.0 ≡ as_term left.entry.param.now) }
+    ensures last { IfOk result (λ r. term_at derivation.new.table r.1
+        ≡ as_term right.entry.param.now) }
     ensures equal { OnOk result
-        (AreSaidEqual sheet.new (as_term left.entry.param.now) (as_term right.entry.param.now)) }
-    ensures grows { Grows sheet.old sheet.new }
+        (AreStatedEqual derivation.new (as_term left.entry.param.now)
+        (as_term right.entry.param.now)) }
+    ensures grows { AddsLines derivation.old derivation.new }
     ensures derives { OnOk result
-        ((b : Basis) → FitsBook desk.entry.book.now b → Keeps b sheet.old sheet.new) }
+        (IsStillDerivedBy reader.entry.history.now derivation.old derivation.new) }
 {
-    let first = read_side(desk, sheet, left)?;
-    let last = read_side(desk, sheet, right)?;
-    link(desk.book, sheet, desk.system, desk.t, right.word, left.word)?;
-    trans(sheet, last.itself, last.word, first.word)?;
-    symm(sheet, last.itself, first.word)?;
-    trans(sheet, first.itself, first.word, last.itself)?;
+    let first = read_side(reader, derivation, left)?;
+    let last = read_side(reader, derivation, right)?;
+    link(
+        reader.history,
+        derivation,
+        reader.system,
+        reader.t,
+        right.word,
+        left.word,
+    )?;
+    add_trans(derivation, last.itself, last.word, first.word)?;
+    add_symm(derivation, last.itself, first.word)?;
+    add_trans(derivation, first.itself, first.word, last.itself)?;
     Ok((first.itself, last.itself))
 }
 
 /// States that two type parameters are equal. The rules reduce their words to one word.
-fn be_equal(
-    desk: Desk<'_>,
-    sheet: &mut Sheet,
-    left: Side<'_>,
-    right: Side<'_>,
+fn state_equality(
+    reader: RoundReader<'_>,
+    derivation: &mut Derivation,
+    left: WordOfType<'_>,
+    right: WordOfType<'_>,
 ) -> Result<(), AllocError>
-    requires ready { IsReady desk sheet.old }
-    requires left { IsSide desk left }
-    requires right { IsSide desk right }
-    requires alike { ReduceAlike (rules_of desk) right.word.now left.word.now }
-    ensures says { OnOk result (Says sheet.new
+    requires ready { IsReady reader derivation.old }
+    requires left { IsWordOf reader left }
+    requires right { IsWordOf reader right }
+    requires alike { ReduceAlike (rules_of reader) right.word.now left.word.now }
+    ensures says { OnOk result (States derivation.new
         (Requires (Equals (as_term left.entry.param.now) (as_term right.entry.param.now)))) }
-    ensures grows { Grows sheet.old sheet.new }
+    ensures grows { AddsLines derivation.old derivation.new }
     ensures derives { OnOk result
-        ((b : Basis) → FitsBook desk.entry.book.now b → Keeps b sheet.old sheet.new) }
+        (IsStillDerivedBy reader.entry.history.now derivation.old derivation.new) }
 {
-    let (t, u) = equate(desk, sheet, left, right)?;
-    if are_one(sheet, t, u) {
-        reflect(desk, sheet, left)?;
+    let (t, u) = equate(reader, derivation, left, right)?;
+    if are_one(derivation, t, u) {
+        reflect(reader, derivation, left)?;
     }
     Ok(())
 }
 
 /// States the requirement with these two sides. The rules reduce the sides to one word.
-pub(crate) fn state(
-    desk: Desk<'_>,
-    sheet: &mut Sheet,
-    r: &Owned,
+pub(crate) fn state_requirement(
+    reader: RoundReader<'_>,
+    derivation: &mut Derivation,
+    r: &OwnedRequirement,
     left: &[Symbol],
     right: &[Symbol],
 ) -> Result<(), AllocError>
-    requires ready { IsReady desk sheet.old }
-    requires sides { HasShownSides (ground_at desk) None (rules_of desk) r.now left.now right.now }
-    requires alike { ReduceAlike (rules_of desk) right.now left.now }
-    ensures says { OnOk result (Says sheet.new (Requires (requirement_by r.now))) }
-    ensures grows { Grows sheet.old sheet.new }
+    requires ready { IsReady reader derivation.old }
+    requires sides { HasShownSides (alphabet_at reader) None
+        (rules_of reader) r.now left.now right.now }
+    requires alike { ReduceAlike (rules_of reader) right.now left.now }
+    ensures says { OnOk result (States derivation.new (Requires (requirement_by r.now))) }
+    ensures grows { AddsLines derivation.old derivation.new }
     ensures derives { OnOk result
-        ((b : Basis) → FitsBook desk.entry.book.now b → Keeps b sheet.old sheet.new) }
+        (IsStillDerivedBy reader.entry.history.now derivation.old derivation.new) }
 {
     match r {
-        Owned::Conf { subject, proto } => {
-            let side = Side {
+        OwnedRequirement::Conf { subject, proto } => {
+            let side = WordOfType {
                 param: subject,
                 word: right,
             };
-            conform(desk, sheet, side, *proto, left)
+            state_conformance(reader, derivation, side, *proto, left)
         }
-        Owned::Layout { subject } => {
-            let side = Side {
+        OwnedRequirement::Layout { subject } => {
+            let side = WordOfType {
                 param: subject,
                 word: right,
             };
-            be_object(desk, sheet, side, left)
+            state_layout(reader, derivation, side, left)
         }
-        Owned::Same { left: t, right: u } => {
-            let first = Side {
+        OwnedRequirement::Same { left: t, right: u } => {
+            let first = WordOfType {
                 param: t,
                 word: left,
             };
-            let last = Side {
+            let last = WordOfType {
                 param: u,
                 word: right,
             };
-            be_equal(desk, sheet, first, last)
+            state_equality(reader, derivation, first, last)
         }
     }
 }

@@ -1,31 +1,29 @@
-//! The systems of rounds, and the book of a machine.
-ghost use Rattle.std.specs.Prelude.{◌≡◌, ◌+◌, ◌<◌, ◌^◌, ◌++◌, [], IfOk, List, OnOk, length};
+//! The systems of rounds, and the history of a machine.
+ghost use Rattle.std.specs.Prelude.{◌≡◌, ◌+◌, ◌<◌, ◌^◌, [], IfOk, OnOk, length};
 ghost use Rattle.swreq_symbols.specs.Known.{IsTextOver};
 ghost use Rattle.swreq_symbols.specs.Meaning.{symbols_of};
-ghost use Rattle.swreq_unfold.specs.declared.book.System.{System as SystemView};
 ghost use Rattle.swreq_world.specs.ByTable.{world_by};
 ghost use Rattle.swreq_world.specs.Short.{IsShort};
 ghost use Rattle.swreq_explain.specs.Asked.{AreRoundsFor};
-ghost use Rattle.swreq_explain.specs.Books.{IsBookFor, IsBookOf, list_origin, protocols_origin};
-ghost use Rattle.swreq_explain.specs.Grounded.{AreNamesOf};
-ghost use Rattle.swreq_explain.specs.Numbering.{AreNumberedIn, numbered_in};
+ghost use Rattle.swreq_explain.specs.Histories.{IsHistoryFor, IsHistoryOf, IsTextHistory, list_origin};
+ghost use Rattle.swreq_explain.specs.Numbering.{AreNumberedIn};
 ghost use Rattle.swreq_explain.specs.Rounds.{AreSystemsOf, IsBegun, IsSystemOf, Origin};
 ghost use Rattle.swreq_explain.specs.Uses.{HaveFlags, course_of};
 
-use crate::equations::{add_used, basic};
+use crate::alphabets::alphabet_of;
+use crate::equations::add_used;
 use crate::first_use::Makings;
-use crate::grounds::{TextNames, ground_of, names_of_text};
-use crate::numbered::{add_numbered, protocols_numbered};
+use crate::numbered::add_numbered;
+use crate::text_history::TextHistory;
 use std::alloc::{AllocError, Global};
+use swreq_births::{Equation, History, System};
 use swreq_lowering::FuncId;
-use swreq_param::ParamTable;
+use swreq_symbols::Text;
 use swreq_text::Seq;
-use swreq_unfold::{Book, Equation, System};
 use swreq_valid::{Machine, Protocols};
-use swreq_world::World;
 
 /// The system of a round, with these basic equations. Its first `base` rules are those of the system at `below`.
-fn system_of(
+pub(crate) fn system_of(
     makings: Makings<'_>,
     basic: Vec<Equation>,
     base: usize,
@@ -53,77 +51,24 @@ fn system_of(
     })
 }
 
-/// The systems of the rounds of the protocols.
-fn protocols_systems(makings: Makings<'_>) -> Result<Vec<System>, AllocError>
+/// The systems of the rounds of a list. The first `base` rules of each are those of the system at `below`.
+fn list_systems(makings: Makings<'_>, base: usize, below: usize) -> Result<Vec<System>, AllocError>
     requires text { IsTextOver makings.table.now makings.world.now }
-    requires all { makings.all.now
-        ≡ numbered_in makings.world.now makings.world.now.lexicon.written_order }
     requires in_text { AreNumberedIn makings.table.now makings.world.now.lexicon makings.all.now }
     requires flags { HaveFlags (length makings.all.now) makings.rounds.now }
-    requires first { makings.first ≡ 0 }
+    requires room { makings.first + length makings.rounds.now < 2 ^ 64 }
     ensures { IfOk result
-        (λ v. AreSystemsOf (symbols_of makings.entry.world.now.lexicon) makings.entry.table.now
-        (protocols_origin makings.entry.world.now makings.entry.rounds.now) v.items) }
+        (λ v. (o : Origin) → IsBegun o base below (course_of makings.entry) []
+        → AreSystemsOf (symbols_of makings.entry.world.now.lexicon) makings.entry.table.now
+        o v.items) }
 {
     let mut systems = Vec::new(makings.alloc);
     for k in 0..makings.rounds.count() {
-        let given = basic(makings.alloc, makings.world)?;
-        let system = system_of(makings, given, 0, 0, k)?;
-        systems.push(system)?;
-    }
-    Ok(systems)
-}
-
-/// Puts the systems of the rounds of a list last. The first `base` rules of each are those of the system at `below`.
-fn add_list_systems(
-    makings: Makings<'_>,
-    base: usize,
-    below: usize,
-    systems: &mut Vec<System>,
-) -> Result<(), AllocError>
-    requires text { IsTextOver makings.table.now makings.world.now }
-    requires in_text { AreNumberedIn makings.table.now makings.world.now.lexicon makings.all.now }
-    requires flags { HaveFlags (length makings.all.now) makings.rounds.now }
-    requires first { makings.first ≡ length systems.old.items }
-    ensures { OnOk result
-        ((o : Origin) → IsBegun o base below (course_of makings.entry) [] → (own : List SystemView)
-        × (systems.new.items ≡ systems.old.items ++ own)
-        × AreSystemsOf (symbols_of makings.entry.world.now.lexicon) makings.entry.table.now o own) }
-{
-    for k in 0..makings.rounds.count() {
-        // The place of the next system is a number of 64 bits.
-        let _place = systems.len();
         let given = Vec::new(makings.alloc);
         let system = system_of(makings, given, base, below, k)?;
         systems.push(system)?;
     }
-    Ok(())
-}
-
-/// The systems of the rounds of the protocols of the world.
-fn world_systems(
-    alloc: Global,
-    world: &World,
-    table: &ParamTable,
-    protocols: &Protocols,
-) -> Result<Vec<System>, AllocError>
-    requires text { IsTextOver table.now world.now }
-    requires short { IsShort world.now }
-    requires flags { HaveFlags (length (protocols_origin world.now protocols.now.rounds).course.all)
-        protocols.now.rounds }
-    ensures { IfOk result (λ v. AreSystemsOf (symbols_of world.now.lexicon) table.now
-        (protocols_origin world.now protocols.now.rounds) v.items) }
-{
-    let all = protocols_numbered(alloc, world)?;
-    let makings = Makings {
-        alloc,
-        world,
-        table,
-        all: &all,
-        rounds: protocols.rounds(),
-        first: 0,
-    };
-    protocols_systems(makings)
+    Ok(systems)
 }
 
 /// A signature with its machine.
@@ -133,104 +78,98 @@ struct Own<'a> {
     machine: &'a Machine<'a>,
 }
 
-/// Puts the systems of the rounds of the machine of a signature last.
-fn add_machine(
+/// The systems of the rounds of the machine of a signature, where this many systems stand before them.
+fn own_systems(
     alloc: Global,
-    world: &World,
-    table: &ParamTable,
+    text: &Text<'_>,
     protocols: &Protocols,
     own: Own<'_>,
-    systems: &mut Vec<System>,
-) -> Result<(), AllocError>
-    requires text { IsTextOver table.now world.now }
-    requires short { IsShort world.now }
-    requires signature { own.f.place < length world.now.signatures }
-    requires flags { HaveFlags (length (list_origin world.now own.f protocols.now
+    first: usize,
+) -> Result<Vec<System>, AllocError>
+    requires text { IsTextOver text.now.table.now text.now.world.now }
+    requires short { IsShort text.now.world.now }
+    requires signature { own.f.place < length text.now.world.now.signatures }
+    requires flags { HaveFlags (length (list_origin text.now.world.now own.f protocols.now
         own.machine.now).course.all) own.machine.now.rounds }
-    requires first { length systems.old.items ≡ length protocols.now.rounds }
-    ensures { OnOk result
-        ((more : List SystemView) × (systems.new.items ≡ systems.old.items ++ more)
-        × AreSystemsOf (symbols_of world.now.lexicon) table.now
-        (list_origin world.now own.entry.f protocols.now own.entry.machine.now) more) }
+    requires first { first ≡ length protocols.now.rounds }
+    requires room { first + length own.machine.now.rounds < 2 ^ 64 }
+    ensures { IfOk result
+        (λ v. AreSystemsOf (symbols_of text.now.world.now.lexicon) text.now.table.now
+        (list_origin text.now.world.now own.entry.f protocols.now own.entry.machine.now)
+        v.items) }
 {
-    let list = world.bare_signature(alloc, own.f)?;
+    let list = text.world.bare_signature(alloc, own.f)?;
     let mut all = Vec::new(alloc);
     add_numbered(None, &list, &mut all)?;
     let makings = Makings {
         alloc,
-        world,
-        table,
+        world: text.world,
+        table: text.table,
         all: &all,
         rounds: own.machine.rounds(),
-        first: systems.len(),
+        first,
     };
     let base = protocols.rules().count();
-    let below = systems.len().saturating_sub(1);
-    add_list_systems(makings, base, below, systems)?;
-    Ok(())
+    let systems = list_systems(makings, base, first.saturating_sub(1))?;
+    Ok(systems)
 }
 
-/// The ground of the world, and the systems of the rounds of the protocols and of the machine.
-fn assemble(
+/// Whether each system after these has a place of 64 bits. Past these there is no room, which is answered as if memory ran out.
+fn check_places(first: usize, count: usize) -> Result<(), AllocError>
+    ensures { OnOk result (first + count < 2 ^ 64) }
+{
+    match first.checked_add(count) {
+        Some(_) => Ok(()),
+        None => Err(AllocError),
+    }
+}
+
+/// The alphabet of the world, and the systems of the rounds of the protocols and of the machine.
+fn assemble<'b>(
     alloc: Global,
-    world: &World,
-    table: &ParamTable,
-    names: &TextNames,
+    text: &Text<'_>,
+    base: &'b TextHistory,
     protocols: &Protocols,
     own: Own<'_>,
-) -> Result<Book, AllocError>
-    requires text { IsTextOver table.now world.now }
-    requires short { IsShort world.now }
-    requires names { AreNamesOf (world_by table.now world.now) names.now }
-    requires rounds { AreRoundsFor table.now world.now own.f protocols.now own.machine.now }
-    ensures { IfOk result
-        (IsBookOf table.now world.now own.entry.f protocols.now own.entry.machine.now) }
+) -> Result<History<'b>, AllocError>
+    requires text { IsTextOver text.now.table.now text.now.world.now }
+    requires short { IsShort text.now.world.now }
+    requires base { IsTextHistory text.now.table.now text.now.world.now protocols.now base.now }
+    requires rounds { AreRoundsFor text.now.table.now text.now.world.now own.f protocols.now
+        own.machine.now }
+    ensures { IfOk result (IsHistoryOf text.now.table.now text.now.world.now own.entry.f
+        protocols.now own.entry.machine.now) }
 {
-    let ground = ground_of(alloc, world, names, own.machine.params())?;
-    let mut systems = world_systems(alloc, world, table, protocols)?;
-    add_machine(alloc, world, table, protocols, own, &mut systems)?;
-    Ok(Book {
-        ground,
-        systems: Seq::new(systems),
+    let below = base.systems.items();
+    check_places(below.len(), own.machine.rounds().count())?;
+    let alphabet = alphabet_of(alloc, text.world, &base.names, own.machine.params())?;
+    let systems = own_systems(alloc, text, protocols, own, below.len())?;
+    Ok(History {
+        alphabet,
+        below,
+        own: Seq::new(systems),
     })
 }
 
-/// The book of the machine of a signature, by the names of its text. Lines are written from it for all that the machine answers.
-pub fn book_of(
+/// The history of the machine of a signature, over what is the same for all signatures of its text. Lines are written from it for all that
+/// the
+/// machine answers.
+pub fn history_of<'b>(
     alloc: Global,
-    world: &World,
-    table: &ParamTable,
-    names: &TextNames,
+    text: &Text<'_>,
+    base: &'b TextHistory,
     protocols: &Protocols,
-    machine: &Machine,
+    machine: &Machine<'_>,
     f: FuncId,
-) -> Result<Book, AllocError>
-    requires text { IsTextOver table.now world.now }
-    requires short { IsShort world.now }
-    requires names { AreNamesOf (world_by table.now world.now) names.now }
-    requires rounds { AreRoundsFor table.now world.now f protocols.now machine.now }
-    ensures { IfOk result (IsBookFor (world_by table.now world.now) f) }
+) -> Result<History<'b>, AllocError>
+    requires text { IsTextOver text.now.table.now text.now.world.now }
+    requires short { IsShort text.now.world.now }
+    requires base { IsTextHistory text.now.table.now text.now.world.now protocols.now base.now }
+    requires rounds { AreRoundsFor text.now.table.now text.now.world.now f protocols.now
+        machine.now }
+    ensures { IfOk result (IsHistoryFor (world_by text.now.table.now text.now.world.now) f) }
 {
     let own = Own { f, machine };
-    let book = assemble(alloc, world, table, names, protocols, own)?;
-    Ok(book)
-}
-
-/// The book of the machine of one signature alone: the names of the text are listed for it.
-pub(crate) fn only_book(
-    alloc: Global,
-    world: &World,
-    table: &ParamTable,
-    protocols: &Protocols,
-    machine: &Machine,
-    f: FuncId,
-) -> Result<Book, AllocError>
-    requires text { IsTextOver table.now world.now }
-    requires short { IsShort world.now }
-    requires rounds { AreRoundsFor table.now world.now f protocols.now machine.now }
-    ensures { IfOk result (IsBookFor (world_by table.now world.now) f) }
-{
-    let names = names_of_text(alloc, world, table)?;
-    let book = book_of(alloc, world, table, &names, protocols, machine, f)?;
-    Ok(book)
+    let history = assemble(alloc, text, base, protocols, own)?;
+    Ok(history)
 }

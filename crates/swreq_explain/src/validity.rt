@@ -5,18 +5,21 @@ ghost use Rattle.swreq_param.specs.Owned.{as_term};
 ghost use Rattle.swreq_param.specs.Terms.Term.{Generic, Member};
 ghost use Rattle.swreq_derive.specs.Derivation.TermRequirement.{Equals};
 ghost use Rattle.swreq_derive.specs.Derivation.TermStatement.{IsValid, Requires};
-ghost use Rattle.swreq_sheet.specs.Sheets.{AreSaidEqual, Basis, Grows, Keeps, Says};
-ghost use Rattle.swreq_read.specs.Readable.{IsGiven};
-ghost use Rattle.swreq_unfold.specs.Systems.{FitsBook};
-ghost use Rattle.swreq_explain.specs.Stating.{IsReady, IsSide, ground_at};
+ghost use Rattle.swreq_derivation.specs.UnderWay.{AddsLines, AreStatedEqual, States};
+ghost use Rattle.swreq_readings.specs.Readable.{IsGiven};
+ghost use Rattle.swreq_births.specs.Systems.{IsStillDerivedBy};
+ghost use Rattle.swreq_explain.specs.Stating.{IsReady, IsWordOf, alphabet_at};
 
-use crate::sides::{Desk, ReadAs, Side, read_side};
+use crate::sides::{ReadAs, RoundReader, WordOfType, read_side};
 use std::alloc::{AllocError, Global};
+use swreq_births::{ReadingPlace, declare};
+use swreq_derivation::{
+    Derivation, add_assoc_decl, add_assoc_name, add_generic, add_reflex, add_same_conf, member,
+    param,
+};
 use swreq_param::{Step, TermId, TypeParam};
-use swreq_read::Named;
-use swreq_sheet::{Sheet, assoc_decl, assoc_name, generic, member, param, reflex, same_conf};
+use swreq_readings::Named;
 use swreq_text::Seq;
-use swreq_unfold::{Scope, declare};
 
 /// The type parameter without its last step, and that step, or None for a generic parameter.
 fn split(alloc: Global, t: &TypeParam) -> Result<Option<(TypeParam, Step)>, AllocError>
@@ -39,84 +42,94 @@ fn split(alloc: Global, t: &TypeParam) -> Result<Option<(TypeParam, Step)>, Allo
 /// States that a member is valid. Its step names an associated type, its base equals a type parameter, and a line states that this type
 /// parameter conforms to the protocol of the associated type. Answers the id of the member.
 fn validate_member(
-    desk: Desk<'_>,
-    sheet: &mut Sheet,
+    reader: RoundReader<'_>,
+    derivation: &mut Derivation,
     base: ReadAs,
     step: Step,
     named: Named,
 ) -> Result<TermId, AllocError>
-    requires ready { IsReady desk sheet.old }
-    requires ids { IsOf sheet.old.table base.itself × IsOf sheet.old.table base.word }
-    requires given { IsGiven (ground_at desk) sheet.old
-        (term_at sheet.old.table base.word) step named }
-    requires equal { AreSaidEqual sheet.old (term_at sheet.old.table base.itself)
-        (term_at sheet.old.table base.word) }
-    ensures is_of { IfOk result (IsOf sheet.new.table) }
+    requires ready { IsReady reader derivation.old }
+    requires ids { IsOf derivation.old.table base.itself × IsOf derivation.old.table base.word }
+    requires given { IsGiven (alphabet_at reader) derivation.old
+        (term_at derivation.old.table base.word) step named }
+    requires equal { AreStatedEqual derivation.old (term_at derivation.old.table base.itself)
+        (term_at derivation.old.table base.word) }
+    ensures is_of { IfOk result (IsOf derivation.new.table) }
     ensures stands { IfOk result
-        (λ v. term_at sheet.new.table v ≡ Member (term_at sheet.old.table base.itself) step) }
+        (λ v. term_at derivation.new.table v ≡ Member
+        (term_at derivation.old.table base.itself) step) }
     ensures says { OnOk result
-        (Says sheet.new (IsValid (Member (term_at sheet.old.table base.itself) step))) }
-    ensures grows { Grows sheet.old sheet.new }
+        (States derivation.new (IsValid (Member (term_at derivation.old.table base.itself) step))) }
+    ensures grows { AddsLines derivation.old derivation.new }
     ensures derives { OnOk result
-        ((b : Basis) → FitsBook desk.entry.book.now b → Keeps b sheet.old sheet.new) }
+        (IsStillDerivedBy reader.entry.history.now derivation.old derivation.new) }
 {
-    let v = member(sheet, base.itself, step)?;
-    same_conf(sheet, base.itself, base.word, named.proto)?;
+    let v = member(derivation, base.itself, step)?;
+    add_same_conf(derivation, base.itself, base.word, named.proto)?;
     let of = (named.proto, named.name);
     match step {
-        Step::Name(_) => assoc_name(sheet, base.itself, of, v)?,
-        Step::Bound(_) => assoc_decl(sheet, base.itself, of, v)?,
+        Step::Name(_) => add_assoc_name(derivation, base.itself, of, v)?,
+        Step::Bound(_) => add_assoc_decl(derivation, base.itself, of, v)?,
     }
     Ok(v)
 }
 
 /// States that a type parameter of the list is valid. Answers its id.
-fn validate(desk: Desk<'_>, sheet: &mut Sheet, side: Side<'_>) -> Result<TermId, AllocError>
-    requires ready { IsReady desk sheet.old }
-    requires side { IsSide desk side }
-    ensures is_of { IfOk result (IsOf sheet.new.table) }
-    ensures stands { IfOk result (λ v. term_at sheet.new.table v ≡ as_term side.entry.param.now) }
-    ensures says { OnOk result (Says sheet.new (IsValid (as_term side.entry.param.now))) }
-    ensures grows { Grows sheet.old sheet.new }
+fn validate(
+    reader: RoundReader<'_>,
+    derivation: &mut Derivation,
+    side: WordOfType<'_>,
+) -> Result<TermId, AllocError>
+    requires ready { IsReady reader derivation.old }
+    requires side { IsWordOf reader side }
+    ensures is_of { IfOk result (IsOf derivation.new.table) }
+    ensures stands { IfOk result
+        (λ v. term_at derivation.new.table v ≡ as_term side.entry.param.now) }
+    ensures says { OnOk result (States derivation.new (IsValid (as_term side.entry.param.now))) }
+    ensures grows { AddsLines derivation.old derivation.new }
     ensures derives { OnOk result
-        ((b : Basis) → FitsBook desk.entry.book.now b → Keeps b sheet.old sheet.new) }
+        (IsStillDerivedBy reader.entry.history.now derivation.old derivation.new) }
 {
-    match split(desk.alloc, side.param)? {
+    match split(reader.alloc, side.param)? {
         None => {
-            let t = param(sheet, side.param.head)?;
-            generic(sheet, t)?;
+            let t = param(derivation, side.param.head)?;
+            add_generic(derivation, t)?;
             Ok(t)
         }
         Some((base, step)) => {
             let front = &side.word[..side.word.len() - 1];
-            let part = Side {
+            let part = WordOfType {
                 param: &base,
                 word: front,
             };
-            let ids = read_side(desk, sheet, part)?;
-            let scope = Scope {
-                system: desk.system,
+            let ids = read_side(reader, derivation, part)?;
+            let scope = ReadingPlace {
+                system: reader.system,
                 owner: None,
-                t: desk.t,
+                for_self: reader.t,
             };
-            let named = declare(desk.book, sheet, scope, front, step)?;
-            let v = validate_member(desk, sheet, ids, step, named)?;
+            let named = declare(reader.history, derivation, scope, front, step)?;
+            let v = validate_member(reader, derivation, ids, step, named)?;
             Ok(v)
         }
     }
 }
 
 /// States that a type parameter of the list equals itself.
-pub(crate) fn reflect(desk: Desk<'_>, sheet: &mut Sheet, side: Side<'_>) -> Result<(), AllocError>
-    requires ready { IsReady desk sheet.old }
-    requires side { IsSide desk side }
-    ensures says { OnOk result (Says sheet.new
+pub(crate) fn reflect(
+    reader: RoundReader<'_>,
+    derivation: &mut Derivation,
+    side: WordOfType<'_>,
+) -> Result<(), AllocError>
+    requires ready { IsReady reader derivation.old }
+    requires side { IsWordOf reader side }
+    ensures says { OnOk result (States derivation.new
         (Requires (Equals (as_term side.entry.param.now) (as_term side.entry.param.now)))) }
-    ensures grows { Grows sheet.old sheet.new }
+    ensures grows { AddsLines derivation.old derivation.new }
     ensures derives { OnOk result
-        ((b : Basis) → FitsBook desk.entry.book.now b → Keeps b sheet.old sheet.new) }
+        (IsStillDerivedBy reader.entry.history.now derivation.old derivation.new) }
 {
-    let t = validate(desk, sheet, side)?;
-    reflex(sheet, t)?;
+    let t = validate(reader, derivation, side)?;
+    add_reflex(derivation, t)?;
     Ok(())
 }

@@ -6,71 +6,69 @@ ghost use Rattle.swreq_derive.specs.Derivation.TermStatement.{Requires};
 ghost use Rattle.swreq_derive.specs.Facts.{IdFacts, requirement_of};
 ghost use Rattle.swreq_derive.specs.Lines.{AreDerived};
 ghost use Rattle.swreq_complete.specs.Alike.{ReduceAlike};
-ghost use Rattle.swreq_sheet.specs.Sheets.{AreIdsIn, Basis, Grows, IsSheet, Keeps, Says};
-ghost use Rattle.swreq_needed.specs.Needed.{AreSomeOf, EndIn};
-ghost use Rattle.swreq_unfold.specs.Systems.{FitsBook, HasShownSides, IsBook, requirement_by, rules_at};
+ghost use Rattle.swreq_derivation.specs.UnderWay.{AddsLines, AreIdsIn, IsUnderWay, States};
+ghost use Rattle.swreq_derivation.specs.Needed.{AreSomeOf, EndIn};
+ghost use Rattle.swreq_births.specs.Systems.{HasShownSides, IsHistory, IsStillDerivedBy, requirement_by, rules_at, systems_of};
 ghost use Rattle.swreq_explain.specs.Written.{AreWritten};
 
-use crate::sides::Desk;
-use crate::stating::state;
+use crate::sides::RoundReader;
+use crate::stating::state_requirement;
 use std::alloc::{AllocError, Global};
 use std::mem;
+use swreq_births::{History, OwnedRequirement, system_count};
+use swreq_derivation::{Derivation, needed, number_of, param};
 use swreq_derive::{Line, Requirement, Statement};
-use swreq_needed::needed;
 use swreq_param::{ParamId, ParamTable};
-use swreq_sheet::{Sheet, number_of, param};
-use swreq_unfold::{Book, Owned};
 use swreq_word::Symbol;
 
 /// States the requirement of a list with these two sides. The rules of the last system reduce the sides to one word.
 fn write(
     alloc: Global,
-    book: &Book,
-    sheet: &mut Sheet,
-    r: &Owned,
+    history: &History,
+    derivation: &mut Derivation,
+    r: &OwnedRequirement,
     left: &[Symbol],
     right: &[Symbol],
 ) -> Result<(), AllocError>
-    requires book { IsBook book.now × (0 < length book.now.systems) }
-    requires sheet { IsSheet sheet.old }
-    requires sides { HasShownSides book.now.ground None
-        (rules_at book.now (length book.now.systems - 1)) r.now left.now right.now }
-    requires alike { ReduceAlike (rules_at book.now
-        (length book.now.systems - 1)) right.now left.now }
-    ensures says { OnOk result (Says sheet.new (Requires (requirement_by r.now))) }
-    ensures grows { Grows sheet.old sheet.new }
-    ensures derives { OnOk result
-        ((b : Basis) → FitsBook book.now b → Keeps b sheet.old sheet.new) }
+    requires history { IsHistory history.now × (0 < length (systems_of history.now)) }
+    requires derivation { IsUnderWay derivation.old }
+    requires sides { HasShownSides history.now.alphabet None
+        (rules_at history.now (length (systems_of history.now) - 1)) r.now left.now right.now }
+    requires alike { ReduceAlike (rules_at history.now
+        (length (systems_of history.now) - 1)) right.now left.now }
+    ensures says { OnOk result (States derivation.new (Requires (requirement_by r.now))) }
+    ensures grows { AddsLines derivation.old derivation.new }
+    ensures derives { OnOk result (IsStillDerivedBy history.now derivation.old derivation.new) }
 {
-    let system = book.systems.items().len() - 1;
-    let t = param(sheet, ParamId { depth: 0, index: 0 })?;
-    let desk = Desk {
+    let system = system_count(history) - 1;
+    let t = param(derivation, ParamId { depth: 0, index: 0 })?;
+    let reader = RoundReader {
         alloc,
-        book,
+        history,
         system,
         t,
     };
-    state(desk, sheet, r, left, right)?;
+    state_requirement(reader, derivation, r, left, right)?;
     Ok(())
 }
 
 /// The lines that the line that states the requirement needs, and this line last.
-fn finish(alloc: Global, sheet: &Sheet, r: Requirement) -> Result<Vec<Line>, AllocError>
-    requires sheet { IsSheet sheet.now }
-    requires ids { AreIdsIn sheet.now.table (Holds r) }
-    requires says { Says sheet.now (Requires (requirement_of sheet.now.table r)) }
+fn finish(alloc: Global, derivation: &Derivation, r: Requirement) -> Result<Vec<Line>, AllocError>
+    requires derivation { IsUnderWay derivation.now }
+    requires ids { AreIdsIn derivation.now.table (Holds r) }
+    requires says { States derivation.now (Requires (requirement_of derivation.now.table r)) }
     ensures derived { IfOk result
-        (λ v. (m : IdFacts) → AreDerived sheet.now.table m sheet.now.lines.items
-        → AreDerived sheet.now.table m v.items) }
+        (λ v. (m : IdFacts) → AreDerived derivation.now.table m derivation.now.lines.items
+        → AreDerived derivation.now.table m v.items) }
     ensures last { IfOk result (λ v. EndIn v.items (Holds r)) }
-    ensures some { IfOk result (λ v. AreSomeOf v.items sheet.now.lines.items) }
+    ensures some { IfOk result (λ v. AreSomeOf v.items derivation.now.lines.items) }
 {
     // If two ids stand for the same type parameter, they are equal.
-    let _count = sheet.table.len();
-    match number_of(sheet, Statement::Holds { r }) {
+    let _count = derivation.table.len();
+    match number_of(derivation, Statement::Holds { r }) {
         None => unreachable!(),
         Some(n) => {
-            let lines = needed(alloc, &sheet.lines[..n])?;
+            let lines = needed(alloc, &derivation.lines[..n])?;
             Ok(lines)
         }
     }
@@ -80,59 +78,58 @@ fn finish(alloc: Global, sheet: &Sheet, r: Requirement) -> Result<Vec<Line>, All
 /// last system reduce the sides to one word.
 fn lines_on(
     alloc: Global,
-    book: &Book,
-    sheet: &mut Sheet,
+    history: &History,
+    derivation: &mut Derivation,
     r: Requirement,
-    by_itself: &Owned,
+    by_itself: &OwnedRequirement,
     sides: (&[Symbol], &[Symbol]),
 ) -> Result<Vec<Line>, AllocError>
-    requires book { IsBook book.now × (0 < length book.now.systems) }
-    requires sheet { IsSheet sheet.old × AreIdsIn sheet.old.table (Holds r) }
-    requires by_itself { requirement_by by_itself.now ≡ requirement_of sheet.old.table r }
-    requires sides { HasShownSides book.now.ground None
-        (rules_at book.now (length book.now.systems - 1)) by_itself.now
+    requires history { IsHistory history.now × (0 < length (systems_of history.now)) }
+    requires derivation { IsUnderWay derivation.old × AreIdsIn derivation.old.table (Holds r) }
+    requires by_itself { requirement_by by_itself.now ≡ requirement_of derivation.old.table r }
+    requires sides { HasShownSides history.now.alphabet None
+        (rules_at history.now (length (systems_of history.now) - 1)) by_itself.now
         sides.0.now sides.1.now }
-    requires alike { ReduceAlike (rules_at book.now (length book.now.systems - 1))
+    requires alike { ReduceAlike (rules_at history.now (length (systems_of history.now) - 1))
         sides.1.now sides.0.now }
     ensures derived { IfOk result
-        (λ v. (m : IdFacts) → AreDerived sheet.new.table m sheet.new.lines.items
-        → AreDerived sheet.new.table m v.items) }
+        (λ v. (m : IdFacts) → AreDerived derivation.new.table m derivation.new.lines.items
+        → AreDerived derivation.new.table m v.items) }
     ensures last { IfOk result (λ v. EndIn v.items (Holds r)) }
-    ensures some { IfOk result (λ v. AreSomeOf v.items sheet.new.lines.items) }
-    ensures grows { Grows sheet.old sheet.new }
-    ensures derives { OnOk result
-        ((b : Basis) → FitsBook book.now b → Keeps b sheet.old sheet.new) }
+    ensures some { IfOk result (λ v. AreSomeOf v.items derivation.new.lines.items) }
+    ensures grows { AddsLines derivation.old derivation.new }
+    ensures derives { OnOk result (IsStillDerivedBy history.now derivation.old derivation.new) }
 {
-    write(alloc, book, sheet, by_itself, sides.0, sides.1)?;
-    let lines = finish(alloc, sheet, r)?;
+    write(alloc, history, derivation, by_itself, sides.0, sides.1)?;
+    let lines = finish(alloc, derivation, r)?;
     Ok(lines)
 }
 
-/// The same, on a new sheet over the table.
+/// The same, in a new derivation over the table.
 pub(crate) fn lines_over(
     alloc: Global,
-    book: &Book,
+    history: &History,
     table: &mut ParamTable,
     r: Requirement,
-    by_itself: &Owned,
+    by_itself: &OwnedRequirement,
     sides: (&[Symbol], &[Symbol]),
 ) -> Result<Vec<Line>, AllocError>
-    requires book { IsBook book.now × (0 < length book.now.systems) }
+    requires history { IsHistory history.now × (0 < length (systems_of history.now)) }
     requires ids { AreIdsIn table.old (Holds r) }
     requires by_itself { requirement_by by_itself.now ≡ requirement_of table.old r }
-    requires sides { HasShownSides book.now.ground None
-        (rules_at book.now (length book.now.systems - 1)) by_itself.now
+    requires sides { HasShownSides history.now.alphabet None
+        (rules_at history.now (length (systems_of history.now) - 1)) by_itself.now
         sides.0.now sides.1.now }
-    requires alike { ReduceAlike (rules_at book.now (length book.now.systems - 1))
+    requires alike { ReduceAlike (rules_at history.now (length (systems_of history.now) - 1))
         sides.1.now sides.0.now }
-    ensures written { IfOk result (λ v. AreWritten table.old table.new book.now v.items) }
+    ensures written { IfOk result (λ v. AreWritten table.old table.new history.now v.items) }
     ensures last { IfOk result (λ v. EndIn v.items (Holds r)) }
     ensures extends { Extends table.old table.new }
 {
     let taken = mem::replace(table, ParamTable::new(alloc));
-    let mut sheet = Sheet::new(alloc, taken);
-    let written = lines_on(alloc, book, &mut sheet, r, by_itself, sides);
-    let Sheet { table: grown, .. } = sheet;
+    let mut derivation = Derivation::new(alloc, taken);
+    let written = lines_on(alloc, history, &mut derivation, r, by_itself, sides);
+    let Derivation { table: grown, .. } = derivation;
     *table = grown;
     let lines = written?;
     Ok(lines)

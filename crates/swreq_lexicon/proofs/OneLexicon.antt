@@ -12,13 +12,13 @@ use Rattle.swreq_names.specs.Mentioned.{mentioned}
 use Rattle.swreq_names.specs.Names.{HasDeclared, NamesView}
 use Rattle.swreq_names.specs.Spaces.{word}
 use Rattle.swreq_param.specs.declared.ids.ProtoId.{ProtoId}
-use Rattle.swreq_rank.specs.Ranks.{Bytes, IsRanking, bytes_cmp}
+use Rattle.swreq_rank.specs.Ranks.{Bytes, IsRanking}
 use Rattle.swreq_rank.proofs.Tests.{same_members}
 use Rattle.swreq_lexicon.specs.Associated as over
 use Rattle.swreq_lexicon.specs.declared.pair.ProtocolName.{ProtocolName}
 use Rattle.swreq_lexicon.specs.Lexicons.{proto_by}
 use Rattle.swreq_lexicon.specs.Texts.{IsLexiconOf, declared_in, protocol_names}
-use Rattle.swreq_lexicon.specs.Views.{HasMember, IsProtocol, LexiconView, assoc_cmp, inherits, place_of, symbol_cmp}
+use Rattle.swreq_lexicon.specs.Views.{HasMember, IsProtocol, LexiconView, inherits, place_of, symbol_cmp}
 use Rattle.swreq_lexicon.proofs.RankLaws.{assoc_total}
 use Rattle.swreq_lexicon.proofs.Rankings.{one_ranking}
 

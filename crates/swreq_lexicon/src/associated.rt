@@ -25,13 +25,13 @@ pub struct AssocKey {
 }
 
 impl AssocKey {
-    fn of(d: ProtocolName, inherited: bool) -> Self
-        ensures { result ≡ record { name = d.name; inherited = inherited; proto = d.proto } }
+    fn of(pair: ProtocolName, inherited: bool) -> Self
+        ensures { result ≡ record { name = pair.name; inherited = inherited; proto = pair.proto } }
     {
         AssocKey {
-            name: d.name,
+            name: pair.name,
             inherited,
-            proto: d.proto,
+            proto: pair.proto,
         }
     }
 }
@@ -54,7 +54,8 @@ impl Model for Associated {
 
     ghost view = { λ a. map pair_of a.ranked };
 
-    ghost invariant = { λ a. AreDeclarers (map pair_of a.ranked) a.declarers × (length a.ranked ≤ 1048576)
+    ghost invariant = { λ a. AreDeclarers (map pair_of a.ranked) a.declarers
+        × (length a.ranked ≤ 1048576)
         × ((d : ProtocolName) → Contains a.written.items d ↔ Contains (map pair_of a.ranked) d) };
 }
 
@@ -93,26 +94,27 @@ impl Associated {
     }
 
     /// The associated type of a protocol and a name that it declares.
-    pub fn find(&self, p: ProtoId, a: NameId) -> Option<AssocId>
-        ensures { result ≡ option_map assoc_at (position (is_pair p a) self.now) }
+    pub fn find(&self, protocol: ProtoId, name: NameId) -> Option<AssocId>
+        ensures { result ≡ option_map assoc_at (position (is_pair protocol name) self.now) }
     {
         let _keys = self.ranked.items();
-        let d = ProtocolName { proto: p, name: a };
-        match self.ranked.find(&AssocKey::of(d, false)) {
+        let proto = protocol;
+        let pair = ProtocolName { proto, name };
+        match self.ranked.find(&AssocKey::of(pair, false)) {
             Some(rank) => Some(AssocId { rank: rank as u32 }),
-            None => match self.ranked.find(&AssocKey::of(d, true)) {
-                Some(rank) => Some(AssocId { rank: rank as u32 }),
-                None => None,
-            },
+            None => {
+                let rank = self.ranked.find(&AssocKey::of(pair, true))?;
+                Some(AssocId { rank: rank as u32 })
+            }
         }
     }
 
     /// The protocol and the name of an associated type.
-    pub fn pair(&self, a: AssocId) -> ProtocolName
-        requires { a.rank < length self.now }
-        ensures { slice_get self.now a.rank ≡ Some result }
+    pub fn pair(&self, associated: AssocId) -> ProtocolName
+        requires { associated.rank < length self.now }
+        ensures { slice_get self.now associated.rank ≡ Some result }
     {
-        let key = self.ranked.items()[a.rank as usize];
+        let key = self.ranked.items()[associated.rank as usize];
         ProtocolName {
             proto: key.proto,
             name: key.name,
@@ -127,11 +129,11 @@ impl Associated {
     }
 
     /// Whether the protocol, or one that it inherits, declares the name.
-    pub fn has_member(&self, protocols: &Protocols, p: ProtoId, a: NameId) -> bool
+    pub fn has_member(&self, protocols: &Protocols, protocol: ProtoId, name: NameId) -> bool
         ensures { result ≡ has_member (inherits_by protocols.now.places
-            protocols.now.resolved.inherits) self.now p a }
+            protocols.now.resolved.inherits) self.now protocol name }
     {
-        has_name(protocols, &self.declarers, p, a)
+        has_name(protocols, &self.declarers, protocol, name)
     }
 }
 
@@ -152,26 +154,33 @@ fn declarers_of(
 }
 
 /// Whether some protocol that the protocol inherits declares the name.
-fn inherits_name(protocols: &Protocols, lists: &Lists<ProtoId>, p: ProtoId, a: NameId) -> bool
-    ensures { result ≡ list_any (inherits_by protocols.now.places protocols.now.resolved.inherits p)
-        (slice_index_or lists.now a.rank []) }
+fn inherits_name(
+    protocols: &Protocols,
+    lists: &Lists<ProtoId>,
+    protocol: ProtoId,
+    name: NameId,
+) -> bool
+    ensures { result ≡ list_any
+        (inherits_by protocols.now.places protocols.now.resolved.inherits protocol)
+        (slice_index_or lists.now name.rank []) }
 {
-    protocols.may_inherit(p)
+    protocols.may_inherit(protocol)
         && lists
-            .at(a.rank as usize)
+            .at(name.rank as usize)
             .iter()
-            .any(|q| protocols.inherits(p, *q))
+            .any(|q| protocols.inherits(protocol, *q))
 }
 
 /// Whether the protocol, or one that it inherits, is among those that declare the name.
-fn has_name(protocols: &Protocols, lists: &Lists<ProtoId>, p: ProtoId, a: NameId) -> bool
-    ensures { result ≡ list_any (λ q. nat_eq p.rank q.rank || inherits_by protocols.now.places
-        protocols.now.resolved.inherits p q) (slice_index_or lists.now a.rank []) }
+fn has_name(protocols: &Protocols, lists: &Lists<ProtoId>, protocol: ProtoId, name: NameId) -> bool
+    ensures { result ≡ list_any (λ q. nat_eq protocol.rank q.rank
+        || inherits_by protocols.now.places protocols.now.resolved.inherits protocol q)
+        (slice_index_or lists.now name.rank []) }
 {
     lists
-        .at(a.rank as usize)
+        .at(name.rank as usize)
         .iter()
-        .any(|q| p == *q || protocols.inherits(p, *q))
+        .any(|q| protocol == *q || protocols.inherits(protocol, *q))
 }
 
 /// The keys by which the associated types of these pairs are ranked.

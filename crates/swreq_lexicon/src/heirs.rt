@@ -90,10 +90,7 @@ fn positions(
 fn position_at(positions: &[Option<usize>], place: usize) -> Option<usize>
     ensures { result ≡ position_at positions.now place }
 {
-    match positions.get(place) {
-        Some(position) => *position,
-        None => None,
-    }
+    *positions.get(place)?
 }
 
 /// Adds a protocol to the heirs of each of these bases, which it inherits directly.

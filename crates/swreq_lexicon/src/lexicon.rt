@@ -46,13 +46,19 @@ impl Model for Lexicon {
       written_order = x.protocols.written_order;
       names = x.names;
       associated = x.associated;
-      symbols = symbols_below x.symbols.order (has_member (inherits_by x.protocols.places x.protocols.resolved.inherits) x.associated) (length x.names);
+      symbols = symbols_below x.symbols.order (has_member
+          (inherits_by x.protocols.places x.protocols.resolved.inherits) x.associated)
+          (length x.names);
       resolved = x.protocols.resolved;
     } };
 
     ghost invariant = { λ x. (length x.names ≤ 1048576) × (length x.symbols.order ≤ 1048576)
-        × AreStarts x.symbols.order (has_member (inherits_by x.protocols.places x.protocols.resolved.inherits) x.associated) (length x.names) x.symbols.starts
-        × AreRows x.symbols.order (has_member (inherits_by x.protocols.places x.protocols.resolved.inherits) x.associated) x.symbols.rows };
+        × AreStarts x.symbols.order (has_member
+        (inherits_by x.protocols.places x.protocols.resolved.inherits) x.associated)
+        (length x.names) x.symbols.starts
+        × AreRows x.symbols.order (has_member
+        (inherits_by x.protocols.places x.protocols.resolved.inherits) x.associated)
+        x.symbols.rows };
 }
 
 impl Lexicon {
@@ -60,17 +66,16 @@ impl Lexicon {
     pub fn of(
         alloc: Global,
         text: &[u8],
-        s: &Skeleton,
+        skeleton: &Skeleton,
         resolved: Names,
     ) -> Result<Lexicon, AllocError>
-        requires declared { HasDeclared text.now s.now resolved }
-        requires small { IsSmall text.now s.now }
-        ensures { IfOk result (IsLexiconOf text.now s.now) }
+        requires declared { HasDeclared text.now skeleton.now resolved }
+        requires small { IsSmall text.now skeleton.now }
+        ensures { IfOk result (IsLexiconOf text.now skeleton.now) }
     {
-        let ps = s.protocols.items();
-        let names = names_of(alloc, text, s)?;
-        let protocols = Protocols::of(alloc, text, ps, resolved)?;
-        let pairs = pairs_of(alloc, text, s, &protocols, &names)?;
+        let names = names_of(alloc, text, skeleton)?;
+        let protocols = Protocols::of(alloc, text, skeleton.protocols.items(), resolved)?;
+        let pairs = pairs_of(alloc, text, skeleton, &protocols, &names)?;
         let associated = Associated::of(alloc, &protocols, names.len(), pairs)?;
         let symbols = Symbols::of(alloc, &protocols, &associated, names.len())?;
         Ok(Lexicon {
@@ -117,35 +122,35 @@ impl Lexicon {
     }
 
     /// The name of a protocol.
-    pub fn proto_name(&self, p: ProtoId) -> &[u8]
-        requires { p.rank < length self.now.protocols }
-        ensures { slice_get self.now.protocols p.rank ≡ Some result.now }
+    pub fn proto_name(&self, protocol: ProtoId) -> &[u8]
+        requires { protocol.rank < length self.now.protocols }
+        ensures { slice_get self.now.protocols protocol.rank ≡ Some result.now }
     {
-        self.protocols.name(p)
+        self.protocols.name(protocol)
     }
 
     /// The bytes of a name.
-    pub fn name(&self, a: NameId) -> &[u8]
-        requires { a.rank < length self.now.names }
-        ensures { slice_get self.now.names a.rank ≡ Some result.now }
+    pub fn name(&self, name: NameId) -> &[u8]
+        requires { name.rank < length self.now.names }
+        ensures { slice_get self.now.names name.rank ≡ Some result.now }
     {
-        self.names.name(a.rank as usize)
+        self.names.name(name.rank as usize)
     }
 
-    /// The k-th protocol in written order, from 0.
-    pub fn proto_at(&self, k: u32) -> ProtoId
-        requires { k < length self.now.protocols }
-        ensures { slice_get self.now.written_order k ≡ Some result }
+    /// The protocol at a place in written order, from 0.
+    pub fn proto_at(&self, place: u32) -> ProtoId
+        requires { place < length self.now.protocols }
+        ensures { slice_get self.now.written_order place ≡ Some result }
     {
-        self.protocols.at(k)
+        self.protocols.at(place)
     }
 
     /// The protocol and the name of an associated type.
-    pub fn assoc(&self, d: AssocId) -> ProtocolName
-        requires { d.rank < length self.now.associated }
-        ensures { slice_get self.now.associated d.rank ≡ Some result }
+    pub fn assoc(&self, associated: AssocId) -> ProtocolName
+        requires { associated.rank < length self.now.associated }
+        ensures { slice_get self.now.associated associated.rank ≡ Some result }
     {
-        self.associated.pair(d)
+        self.associated.pair(associated)
     }
 
     /// The protocol with this name, or None if and only if there is none.
@@ -161,10 +166,8 @@ impl Lexicon {
         ensures { MatchOption result (Contains self.now.names name.now → ⊥)
             (λ a. slice_get self.now.names a.rank ≡ Some name.now) }
     {
-        match self.names.find(name) {
-            Some(rank) => Some(NameId { rank: rank as u32 }),
-            None => None,
-        }
+        let rank = self.names.find(name)?;
+        Some(NameId { rank: rank as u32 })
     }
 
     /// The protocol with this name, or the one of rank 0 if there is none.
@@ -184,69 +187,74 @@ impl Lexicon {
     }
 
     /// The associated type of a name that a protocol declares, or the one of rank 0 if it does not declare the name.
-    pub fn assoc_id(&self, p: ProtoId, a: NameId) -> AssocId
-        ensures { result ≡ assoc_by self.now.associated p a }
+    pub fn assoc_id(&self, protocol: ProtoId, name: NameId) -> AssocId
+        ensures { result ≡ assoc_by self.now.associated protocol name }
     {
-        match self.associated.find(p, a) {
+        match self.associated.find(protocol, name) {
             Some(d) => d,
             None => AssocId { rank: 0 },
         }
     }
 
-    /// Whether the one protocol inherits the other.
-    pub fn inherits(&self, p: ProtoId, q: ProtoId) -> bool
-        ensures { result ≡ inherits self.now p q }
+    /// Whether `protocol` inherits `inherited`, directly or by others.
+    pub fn inherits(&self, protocol: ProtoId, inherited: ProtoId) -> bool
+        ensures { result ≡ inherits self.now protocol inherited }
     {
-        self.protocols.inherits(p, q)
+        self.protocols.inherits(protocol, inherited)
     }
 
     /// How many protocols the protocol inherits.
-    pub fn depth(&self, p: ProtoId) -> u32
-        ensures { result ≡ depth self.now p }
+    pub fn depth(&self, protocol: ProtoId) -> u32
+        ensures { result ≡ depth self.now protocol }
     {
-        self.protocols.depth(p)
+        self.protocols.depth(protocol)
     }
 
     /// The associated type of a name that a protocol declares, or None if and only if it does not declare the name.
-    pub fn declares(&self, p: ProtoId, a: NameId) -> Option<AssocId>
-        ensures { MatchOption result (Contains self.now.associated (pair p a) → ⊥)
-            (λ d. slice_get self.now.associated d.rank ≡ Some (pair p a)) }
+    pub fn declares(&self, protocol: ProtoId, name: NameId) -> Option<AssocId>
+        ensures { MatchOption result (Contains self.now.associated (pair protocol name) → ⊥)
+            (λ d. slice_get self.now.associated d.rank ≡ Some (pair protocol name)) }
     {
-        self.associated.find(p, a)
+        self.associated.find(protocol, name)
     }
 
     /// Whether a protocol has the member name.
-    pub fn has_member(&self, p: ProtoId, a: NameId) -> bool
-        ensures { IsTrue result ↔ HasMember self.now p a }
+    pub fn has_member(&self, protocol: ProtoId, name: NameId) -> bool
+        ensures { IsTrue result ↔ HasMember self.now protocol name }
     {
         self.symbols
-            .has_member(&self.protocols, &self.associated, p, a)
+            .has_member(&self.protocols, &self.associated, protocol, name)
     }
 
     /// The rank of the member symbol `[P:A]`, or None if and only if there is none.
-    pub fn member_rank(&self, p: ProtoId, a: NameId) -> Option<u64>
-        ensures { MatchOption result (Contains self.now.symbols (pair p a) → ⊥)
-            (λ m. slice_get self.now.symbols m ≡ Some (pair p a)) }
+    pub fn member_rank(&self, protocol: ProtoId, name: NameId) -> Option<u64>
+        ensures { MatchOption result (Contains self.now.symbols (pair protocol name) → ⊥)
+            (λ m. slice_get self.now.symbols m ≡ Some (pair protocol name)) }
     {
-        self.symbols
-            .find(&self.protocols, &self.associated, self.names.len(), p, a)
+        self.symbols.find(
+            &self.protocols,
+            &self.associated,
+            self.names.len(),
+            protocol,
+            name,
+        )
     }
 
-    /// The protocol and the name of a member symbol.
-    pub fn member_at(&self, m: u64) -> ProtocolName
-        requires { m < length self.now.symbols }
-        ensures { slice_get self.now.symbols m ≡ Some result }
+    /// The protocol and the name of the member symbol of a rank.
+    pub fn member_at(&self, rank: u64) -> ProtocolName
+        requires { rank < length self.now.symbols }
+        ensures { slice_get self.now.symbols rank ≡ Some result }
     {
         self.symbols
-            .pair(&self.protocols, &self.associated, self.names.len(), m)
+            .pair(&self.protocols, &self.associated, self.names.len(), rank)
     }
 }
 
 /// The names of associated types and of members, by rank.
-pub fn names_of(alloc: Global, text: &[u8], s: &Skeleton) -> Result<Ranks, AllocError>
-    ensures { IfOk result (IsRanking bytes_cmp (Contains (mentioned text.now s.now))) }
+pub fn names_of(alloc: Global, text: &[u8], skeleton: &Skeleton) -> Result<Ranks, AllocError>
+    ensures { IfOk result (IsRanking bytes_cmp (Contains (mentioned text.now skeleton.now))) }
 {
-    let names = member_names(alloc, text, s)?;
+    let names = member_names(alloc, text, skeleton)?;
     let _count = names.len();
     Ok(names)
 }
@@ -271,20 +279,21 @@ fn add_declared(
     Ok(())
 }
 
-/// The names that the protocols declare.
+/// The names that these protocols declare, each with its protocol, in written order.
 fn declared_in(
     alloc: Global,
     text: &[u8],
     protocols: &Protocols,
     names: &Ranks,
-    ps: &[ProtocolDecl],
+    written: &[ProtocolDecl],
 ) -> Result<Vec<ProtocolName>, AllocError>
     requires { length names.now ≤ 1048576 }
     ensures { IfOk result
-        (λ pairs. pairs.items ≡ declared_in text.now protocols.now.protocols names.now ps.now) }
+        (λ pairs. pairs.items
+        ≡ declared_in text.now protocols.now.protocols names.now written.now) }
 {
     let mut pairs = Vec::new(alloc);
-    for p in ps {
+    for p in written {
         let proto = protocols.id(word(text, p.name));
         add_declared(text, names, proto, p.members.items(), &mut pairs)?;
     }
@@ -295,19 +304,20 @@ fn declared_in(
 fn pairs_of(
     alloc: Global,
     text: &[u8],
-    s: &Skeleton,
+    skeleton: &Skeleton,
     protocols: &Protocols,
     names: &Ranks,
 ) -> Result<Vec<ProtocolName>, AllocError>
-    requires small { IsSmall text.now s.now }
-    requires names { IsRanking bytes_cmp (Contains (mentioned text.now s.now)) names.now }
+    requires small { IsSmall text.now skeleton.now }
+    requires names { IsRanking bytes_cmp (Contains (mentioned text.now skeleton.now)) names.now }
     requires few { length names.now ≤ 1048576 }
     ensures is { IfOk result (λ pairs.
-        pairs.items ≡ declared_in text.now protocols.now.protocols names.now s.now.protocols) }
+        pairs.items
+        ≡ declared_in text.now protocols.now.protocols names.now skeleton.now.protocols) }
     ensures few { IfOk result (λ pairs. length pairs.items ≤ 1048576) }
     ensures within { IfOk result
         (λ pairs. (d : ProtocolName) → Contains pairs.items d → d.name.rank < length names.now) }
 {
-    let pairs = declared_in(alloc, text, protocols, names, s.protocols.items())?;
+    let pairs = declared_in(alloc, text, protocols, names, skeleton.protocols.items())?;
     Ok(pairs)
 }

@@ -50,10 +50,10 @@ impl Members {
     }
 
     /// Whether the protocol at the place has the name.
-    pub fn at(&self, place: usize, a: NameId) -> bool
-        ensures { result ≡ has (row_of self.now a) place }
+    pub fn at(&self, place: usize, name: NameId) -> bool
+        ensures { result ≡ has (row_of self.now name) place }
     {
-        match row_at(&self.rows, a) {
+        match row_at(&self.rows, name) {
             Some(row) => row.contains(place),
             None => false,
         }
@@ -65,25 +65,25 @@ impl Members {
         protocols: &Protocols,
         ordered: &Ordered,
         associated: &Associated,
-        p: ProtoId,
-        a: NameId,
+        protocol: ProtoId,
+        name: NameId,
     ) -> bool
         requires { AreRows ordered.now (has_member (inherits_by protocols.now.places
             protocols.now.resolved.inherits) associated.now) self.now }
         ensures { result ≡ has_member (inherits_by protocols.now.places
-            protocols.now.resolved.inherits) associated.now p a }
+            protocols.now.resolved.inherits) associated.now protocol name }
     {
-        match ordered.place_of(p) {
-            Some(place) => self.at(place, a),
-            None => associated.has_member(protocols, p, a),
+        match ordered.place_of(protocol) {
+            Some(place) => self.at(place, name),
+            None => associated.has_member(protocols, protocol, name),
         }
     }
 
     /// At how many places before this one a protocol has the name.
-    pub fn count_before(&self, place: usize, a: NameId) -> usize
-        ensures { result ≡ count_below (has (row_of self.now a)) place }
+    pub fn count_before(&self, place: usize, name: NameId) -> usize
+        ensures { result ≡ count_below (has (row_of self.now name)) place }
     {
-        match row_at(&self.rows, a) {
+        match row_at(&self.rows, name) {
             Some(row) => row.count_to(place),
             None => 0,
         }
@@ -91,18 +91,19 @@ impl Members {
 }
 
 /// The row of a name, or None if it has no row.
-fn row_at(rows: &[Bits], a: NameId) -> Option<&Bits>
-    ensures { MatchOption result (row_of rows.now a ≡ []) (λ row. row.now ≡ row_of rows.now a) }
+fn row_at(rows: &[Bits], name: NameId) -> Option<&Bits>
+    ensures { MatchOption result (row_of rows.now name ≡ [])
+        (λ row. row.now ≡ row_of rows.now name) }
 {
-    rows.get(a.rank as usize)
+    rows.get(name.rank as usize)
 }
 
 /// The set with only the place of this protocol.
-fn itself(alloc: Global, ordered: &Ordered, q: ProtoId) -> Result<Bits, AllocError>
-    ensures { IfOk result (λ s.
-        (k : ℕ) (p : ProtoId) → slice_get ordered.now k ≡ Some p → has s k ≡ nat_eq p.rank q.rank) }
+fn itself(alloc: Global, ordered: &Ordered, protocol: ProtoId) -> Result<Bits, AllocError>
+    ensures { IfOk result (λ set. (k : ℕ) (p : ProtoId) → slice_get ordered.now k ≡ Some p
+        → has set k ≡ nat_eq p.rank protocol.rank) }
 {
-    match ordered.place_of(q) {
+    match ordered.place_of(protocol) {
         Some(place) => {
             let mut set = Bits::with_room(alloc, place)?;
             set.insert(place);
@@ -118,15 +119,15 @@ fn places_of(
     protocols: &Protocols,
     ordered: &Ordered,
     heirs: &Heirs,
-    q: ProtoId,
+    protocol: ProtoId,
 ) -> Result<Bits, AllocError>
     requires { AreAllHeirs ordered.now protocols.now.places
         protocols.now.resolved.inherits heirs.now }
     ensures { IfOk result (AreHeirs (inherits_by protocols.now.places
-        protocols.now.resolved.inherits) ordered.now q) }
+        protocols.now.resolved.inherits) ordered.now protocol) }
 {
-    let set = itself(alloc, ordered, q)?;
-    match heirs.at(protocols.place(q)) {
+    let set = itself(alloc, ordered, protocol)?;
+    match heirs.at(protocols.place(protocol)) {
         Some(places) => set.union(alloc, places),
         None => Ok(set),
     }
@@ -146,15 +147,15 @@ fn no_rows(alloc: Global, names: usize) -> Result<Vec<Bits>, AllocError>
 }
 
 /// Adds places to the row of a name.
-fn add(alloc: Global, heirs: &Bits, a: NameId, rows: &mut Vec<Bits>) -> Result<(), AllocError>
-    requires within { a.rank < length rows.old.items }
+fn add(alloc: Global, heirs: &Bits, name: NameId, rows: &mut Vec<Bits>) -> Result<(), AllocError>
+    requires within { name.rank < length rows.old.items }
     ensures len { OnOk result (length rows.new.items ≡ length rows.old.items) }
     ensures rows { OnOk result ((b : NameId) (k : ℕ)
         → has (row_of rows.new.items b) k
-        ≡ (has (row_of rows.old.items b) k || (nat_eq b.rank a.rank && has heirs.now k))) }
+        ≡ (has (row_of rows.old.items b) k || (nat_eq b.rank name.rank && has heirs.now k))) }
 {
-    let row = rows[a.rank as usize].union(alloc, heirs)?;
-    rows[a.rank as usize] = row;
+    let row = rows[name.rank as usize].union(alloc, heirs)?;
+    rows[name.rank as usize] = row;
     Ok(())
 }
 

@@ -44,34 +44,31 @@ impl Ordered {
     }
 
     /// The place of a protocol, or None if and only if it is not among these.
-    pub fn place_of(&self, p: ProtoId) -> Option<usize>
-        ensures { MatchOption result (Contains self.now p → ⊥) (StandsAt self.now p) }
+    pub fn place_of(&self, protocol: ProtoId) -> Option<usize>
+        ensures { MatchOption result (Contains self.now protocol → ⊥) (StandsAt self.now protocol) }
     {
-        match kept(&self.places, p) {
-            Some(place) => here(&self.protos, p, place),
-            None => None,
-        }
+        let place = kept(&self.places, protocol)?;
+        here(&self.protos, protocol, place)
     }
 }
 
 /// The place that is kept for a protocol, or None if none is.
-fn kept(places: &[usize], p: ProtoId) -> Option<usize>
-    ensures { result ≡ slice_get places.now p.rank }
+fn kept(places: &[usize], protocol: ProtoId) -> Option<usize>
+    ensures { result ≡ slice_get places.now protocol.rank }
 {
-    match places.get(p.rank as usize) {
-        Some(place) => Some(*place),
-        None => None,
-    }
+    places.get(protocol.rank as usize).copied()
 }
 
-/// The place, if the protocol stands there.
-fn here(protos: &[ProtoId], p: ProtoId, place: usize) -> Option<usize>
-    ensures { MatchOption result (slice_get protos.now place ≡ Some p → ⊥)
-        (λ k. (k ≡ place) × (slice_get protos.now place ≡ Some p)) }
+/// This place if the protocol stands there, or None if it does not.
+fn here(protos: &[ProtoId], protocol: ProtoId, place: usize) -> Option<usize>
+    ensures { MatchOption result (slice_get protos.now place ≡ Some protocol → ⊥)
+        (λ k. (k ≡ place) × (slice_get protos.now place ≡ Some protocol)) }
 {
-    match protos.get(place) {
-        Some(q) => { if p == *q { Some(place) } else { None } }
-        None => None,
+    let there = protos.get(place)?;
+    if protocol == *there {
+        Some(place)
+    } else {
+        None
     }
 }
 

@@ -51,8 +51,10 @@ impl Model for Protocols {
       resolved = p.resolved;
     } };
 
-    ghost invariant = { λ p. (length p.ranks ≤ 1048576) × (length p.ranks ≤ length p.written_order.items)
-        × (length p.places.items ≡ length p.ranks) × (room p.firsts ≤ 18446744073709551615) × IsSetOf p.places.items p.firsts
+    ghost invariant = { λ p. (length p.ranks ≤ 1048576)
+        × (length p.ranks ≤ length p.written_order.items)
+        × (length p.places.items ≡ length p.ranks)
+        × (room p.firsts ≤ 18446744073709551615) × IsSetOf p.places.items p.firsts
         × HaveProtocols p.resolved.declared.protocols p.places.items (length p.ranks) };
 }
 
@@ -100,11 +102,11 @@ impl Protocols {
     }
 
     /// The name of a protocol.
-    pub fn name(&self, p: ProtoId) -> &[u8]
-        requires { p.rank < length self.now.protocols }
-        ensures { slice_get self.now.protocols p.rank ≡ Some result.now }
+    pub fn name(&self, protocol: ProtoId) -> &[u8]
+        requires { protocol.rank < length self.now.protocols }
+        ensures { slice_get self.now.protocols protocol.rank ≡ Some result.now }
     {
-        self.ranks.name(p.rank as usize)
+        self.ranks.name(protocol.rank as usize)
     }
 
     /// The protocol with this name.
@@ -112,10 +114,8 @@ impl Protocols {
         ensures { MatchOption result (Contains self.now.protocols name.now → ⊥)
             (λ p. slice_get self.now.protocols p.rank ≡ Some name.now) }
     {
-        match self.ranks.find(name) {
-            Some(rank) => Some(ProtoId { rank: rank as u32 }),
-            None => None,
-        }
+        let rank = self.ranks.find(name)?;
+        Some(ProtoId { rank: rank as u32 })
     }
 
     /// The protocol with this name, or the first one if there is none.
@@ -127,29 +127,31 @@ impl Protocols {
         }
     }
 
-    /// A protocol by its place in written order.
-    pub fn at(&self, k: u32) -> ProtoId
-        requires { k < length self.now.protocols }
-        ensures { slice_get self.now.written_order k ≡ Some result }
+    /// The protocol at a place in written order, from 0.
+    pub fn at(&self, place: u32) -> ProtoId
+        requires { place < length self.now.protocols }
+        ensures { slice_get self.now.written_order place ≡ Some result }
     {
-        self.written_order[k as usize]
+        self.written_order[place as usize]
     }
 
     /// The first place of the name of a protocol in written order.
-    pub fn place(&self, p: ProtoId) -> usize
-        ensures { result ≡ place_by self.now.places p }
+    pub fn place(&self, protocol: ProtoId) -> usize
+        ensures { result ≡ place_by self.now.places protocol }
     {
-        match self.places.get(p.rank as usize) {
+        match self.places.get(protocol.rank as usize) {
             Some(place) => *place,
             None => 0,
         }
     }
 
-    /// Whether the one protocol inherits the other.
-    pub fn inherits(&self, p: ProtoId, q: ProtoId) -> bool
-        ensures { result ≡ inherits_by self.now.places self.now.resolved.inherits p q }
+    /// Whether `protocol` inherits `inherited`, directly or by others.
+    pub fn inherits(&self, protocol: ProtoId, inherited: ProtoId) -> bool
+        ensures { result
+            ≡ inherits_by self.now.places self.now.resolved.inherits protocol inherited }
     {
-        self.resolved.inherits(self.place(p), self.place(q))
+        self.resolved
+            .inherits(self.place(protocol), self.place(inherited))
     }
 
     /// The protocols that each one inherits directly, by places in written order.
@@ -162,21 +164,21 @@ impl Protocols {
         self.resolved.direct()
     }
 
-    /// Whether the protocol may inherit a protocol. It is false only if it inherits none.
-    pub fn may_inherit(&self, p: ProtoId) -> bool
+    /// False only if the protocol inherits none.
+    pub fn may_inherit(&self, protocol: ProtoId) -> bool
         ensures { result ≡ false → (q : ProtoId)
-            → inherits_by self.now.places self.now.resolved.inherits p q ≡ false }
+            → inherits_by self.now.places self.now.resolved.inherits protocol q ≡ false }
     {
-        self.resolved.inheritance().may_lead(self.place(p))
+        self.resolved.inheritance().may_lead(self.place(protocol))
     }
 
     /// How many protocols the protocol inherits.
-    pub fn depth(&self, p: ProtoId) -> u32
+    pub fn depth(&self, protocol: ProtoId) -> u32
         ensures { result ≡ depth (inherits_by self.now.places self.now.resolved.inherits)
-            (length self.now.protocols) p }
+            (length self.now.protocols) protocol }
     {
         let inheritance = self.resolved.inheritance();
-        inheritance.count(self.place(p), &self.firsts) as u32
+        inheritance.count(self.place(protocol), &self.firsts) as u32
     }
 
     /// What the names of the text refer to.

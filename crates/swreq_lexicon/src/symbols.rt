@@ -90,15 +90,16 @@ impl Symbols {
         &self,
         protocols: &Protocols,
         associated: &Associated,
-        p: ProtoId,
-        a: NameId,
+        protocol: ProtoId,
+        name: NameId,
     ) -> bool
         requires { AreRows self.now.order (has_member (inherits_by protocols.now.places
             protocols.now.resolved.inherits) associated.now) self.now.rows }
         ensures { result ≡ has_member (inherits_by protocols.now.places
-            protocols.now.resolved.inherits) associated.now p a }
+            protocols.now.resolved.inherits) associated.now protocol name }
     {
-        self.members.has(protocols, &self.ordered, associated, p, a)
+        self.members
+            .has(protocols, &self.ordered, associated, protocol, name)
     }
 
     /// The rank of the member symbol of a protocol and a name.
@@ -107,8 +108,8 @@ impl Symbols {
         protocols: &Protocols,
         associated: &Associated,
         names: usize,
-        p: ProtoId,
-        a: NameId,
+        protocol: ProtoId,
+        name: NameId,
     ) -> Option<u64>
         requires names { names ≤ 1048576 }
         requires few { length self.now.order ≤ 1048576 }
@@ -118,54 +119,52 @@ impl Symbols {
             protocols.now.resolved.inherits) associated.now) self.now.rows }
         ensures { MatchOption result
             (Contains (symbols_below self.now.order (has_member (inherits_by protocols.now.places
-            protocols.now.resolved.inherits) associated.now) names) (pair p a) → ⊥)
+            protocols.now.resolved.inherits) associated.now) names) (pair protocol name) → ⊥)
             (λ m.
             slice_get (symbols_below self.now.order (has_member (inherits_by protocols.now.places
-            protocols.now.resolved.inherits) associated.now) names) m ≡ Some (pair p a)) }
+            protocols.now.resolved.inherits) associated.now) names) m ≡ Some (pair protocol name)) }
     {
-        if (a.rank as usize) < names
-            && self.members.has(protocols, &self.ordered, associated, p, a)
+        if (name.rank as usize) < names
+            && self
+                .members
+                .has(protocols, &self.ordered, associated, protocol, name)
         {
-            match self.ordered.place_of(p) {
-                Some(place) => {
-                    let before = self.members.count_before(place, a);
-                    Some(self.starts[a.rank as usize] + before as u64)
-                }
-                None => None,
-            }
+            let place = self.ordered.place_of(protocol)?;
+            let before = self.members.count_before(place, name);
+            Some(self.starts[name.rank as usize] + before as u64)
         } else {
             None
         }
     }
 
-    /// The protocol and the name of a member symbol.
+    /// The protocol and the name of the member symbol of a rank.
     pub fn pair(
         &self,
         protocols: &Protocols,
         associated: &Associated,
         names: usize,
-        m: u64,
+        rank: u64,
     ) -> ProtocolName
         requires names { names ≤ 1048576 }
         requires starts { AreStarts self.now.order (has_member (inherits_by protocols.now.places
             protocols.now.resolved.inherits) associated.now) names self.now.starts }
         requires rows { AreRows self.now.order (has_member (inherits_by protocols.now.places
             protocols.now.resolved.inherits) associated.now) self.now.rows }
-        requires within { m < length (symbols_below self.now.order (has_member (inherits_by
+        requires within { rank < length (symbols_below self.now.order (has_member (inherits_by
             protocols.now.places protocols.now.resolved.inherits) associated.now) names) }
         ensures { slice_get (symbols_below self.now.order
             (has_member (inherits_by protocols.now.places protocols.now.resolved.inherits)
-            associated.now) names) m ≡ Some result }
+            associated.now) names) rank ≡ Some result }
     {
-        let rank = last_from(&self.starts, names, m);
-        let name = NameId { rank: rank as u32 };
+        let place = last_from(&self.starts, names, rank);
+        let name = NameId { rank: place as u32 };
         let proto = nth(
             protocols,
             associated,
             &self.members,
             &self.ordered,
             name,
-            m - self.starts[rank],
+            rank - self.starts[place],
         );
         ProtocolName { proto, name }
     }
@@ -245,20 +244,20 @@ fn starts(alloc: Global, counts: &[u64]) -> Result<Vec<u64>, AllocError>
     Ok(starts)
 }
 
-/// The last of the first `names` names whose member symbols begin at `m` or before.
-fn last_from(starts: &[u64], names: usize, m: u64) -> usize
+/// The last of the first `names` names whose member symbols begin at this rank or before.
+fn last_from(starts: &[u64], names: usize, rank: u64) -> usize
     requires len { length starts.now ≡ names + 1 }
-    requires from { slice_index starts.now 0 ≤ m }
-    requires to { m < slice_index starts.now names }
+    requires from { slice_index starts.now 0 ≤ rank }
+    requires to { rank < slice_index starts.now names }
     ensures within { result < names }
-    ensures from { slice_index starts.now result ≤ m }
-    ensures to { m < slice_index starts.now (result + 1) }
+    ensures from { slice_index starts.now result ≤ rank }
+    ensures to { rank < slice_index starts.now (result + 1) }
 {
     let mut low = 0;
     let mut high = names;
     while low + 1 < high {
         let middle = low + (high - low) / 2;
-        if starts[middle] <= m {
+        if starts[middle] <= rank {
             low = middle;
         } else {
             high = middle;
@@ -273,19 +272,19 @@ fn nth(
     associated: &Associated,
     members: &Members,
     ordered: &Ordered,
-    a: NameId,
+    name: NameId,
     place: u64,
 ) -> ProtoId
     requires rows { AreRows ordered.now (has_member (inherits_by protocols.now.places
         protocols.now.resolved.inherits) associated.now) members.now }
     requires within { place < length (having ordered.now (has_member
-        (inherits_by protocols.now.places protocols.now.resolved.inherits) associated.now) a) }
+        (inherits_by protocols.now.places protocols.now.resolved.inherits) associated.now) name) }
     ensures { slice_get (having ordered.now (has_member (inherits_by protocols.now.places
-        protocols.now.resolved.inherits) associated.now) a) place ≡ Some result }
+        protocols.now.resolved.inherits) associated.now) name) place ≡ Some result }
 {
     let mut left = place;
     for q in ordered.protos() {
-        let here = members.has(protocols, ordered, associated, *q, a);
+        let here = members.has(protocols, ordered, associated, *q, name);
         if here && left == 0 {
             return *q;
         }

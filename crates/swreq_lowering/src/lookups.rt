@@ -45,16 +45,15 @@ pub fn step_of(words: &Words<'_>, step: &StepDecl) -> Step
 pub fn param_named(words: &Words<'_>, signature: Signature, name: &[u8]) -> Option<ParamId>
     ensures { result ≡ param_named (words_by words.now) signature name.now }
 {
-    match words.lexicon.resolved().find_param(signature, name) {
-        Some(Param::Outer(place)) => Some(ParamId {
+    match words.lexicon.resolved().find_param(signature, name)? {
+        Param::Outer(place) => Some(ParamId {
             depth: 0,
             index: place as u32,
         }),
-        Some(Param::Own(place)) => Some(ParamId {
+        Param::Own(place) => Some(ParamId {
             depth: own_depth(words.skeleton, signature),
             index: place as u32,
         }),
-        None => None,
     }
 }
 

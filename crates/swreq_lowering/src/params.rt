@@ -37,24 +37,24 @@ fn params_of_function(functions: &[FunctionDecl], place: usize) -> &[ParamDecl]
 }
 
 /// The generic parameters of the struct around a signature.
-fn outer_param_decls(s: &Skeleton, signature: Signature) -> &[ParamDecl]
-    ensures { result.now ≡ outer_param_decls s.now signature }
+fn outer_param_decls(skeleton: &Skeleton, signature: Signature) -> &[ParamDecl]
+    ensures { result.now ≡ outer_param_decls skeleton.now signature }
 {
     match signature {
-        Signature::Nested { outer, .. } => params_of_struct(s.structs.items(), outer),
+        Signature::Nested { outer, .. } => params_of_struct(skeleton.structs.items(), outer),
         _ => &[],
     }
 }
 
 /// The generic parameters of a signature itself.
-fn own_param_decls(s: &Skeleton, signature: Signature) -> &[ParamDecl]
-    ensures { result.now ≡ own_param_decls s.now signature }
+fn own_param_decls(skeleton: &Skeleton, signature: Signature) -> &[ParamDecl]
+    ensures { result.now ≡ own_param_decls skeleton.now signature }
 {
     match signature {
-        Signature::Struct(place) => params_of_struct(s.structs.items(), place),
-        Signature::Function(place) => params_of_function(s.functions.items(), place),
+        Signature::Struct(place) => params_of_struct(skeleton.structs.items(), place),
+        Signature::Function(place) => params_of_function(skeleton.functions.items(), place),
         Signature::Nested { outer, function } => {
-            params_of_function(functions_of(s.structs.items(), outer), function)
+            params_of_function(functions_of(skeleton.structs.items(), outer), function)
         }
     }
 }
@@ -71,10 +71,10 @@ fn depth_within(params: &[ParamDecl]) -> u32
 
 /// The depth of a signature's own generic parameters: 1 where it is a function of a struct that has generic parameters, and
 /// else 0.
-pub fn own_depth(s: &Skeleton, signature: Signature) -> u32
-    ensures { result ≡ own_depth s.now signature }
+pub fn own_depth(skeleton: &Skeleton, signature: Signature) -> u32
+    ensures { result ≡ own_depth skeleton.now signature }
 {
-    depth_within(outer_param_decls(s, signature))
+    depth_within(outer_param_decls(skeleton, signature))
 }
 
 /// How many generic parameters have depth 0 and depth 1.
@@ -97,13 +97,13 @@ fn counts(outer: &[ParamDecl], own: &[ParamDecl]) -> Params
 
 /// The generic parameters of a signature. Those of a struct have depth 0. Those of its functions have depth 1 where the struct
 /// has some, and otherwise depth 0.
-pub fn params_of(s: &Skeleton, signature: Signature) -> Params
-    requires outer { length (outer_param_decls s.now signature) < 2 ^ 32 }
-    requires own { length (own_param_decls s.now signature) < 2 ^ 32 }
-    ensures { result ≡ params_of s.now signature }
+pub fn params_of(skeleton: &Skeleton, signature: Signature) -> Params
+    requires outer { length (outer_param_decls skeleton.now signature) < 2 ^ 32 }
+    requires own { length (own_param_decls skeleton.now signature) < 2 ^ 32 }
+    ensures { result ≡ params_of skeleton.now signature }
 {
     counts(
-        outer_param_decls(s, signature),
-        own_param_decls(s, signature),
+        outer_param_decls(skeleton, signature),
+        own_param_decls(skeleton, signature),
     )
 }

@@ -21,22 +21,29 @@ use swreq_param::{ParamTable, Step};
 fn add_member(
     table: &mut ParamTable,
     words: &Words<'_>,
-    m: &AssocDecl,
+    member: &AssocDecl,
     into: &mut Vec<Written>,
 ) -> Result<(), AllocError>
     ensures adds { OnOk result (Adds table.old table.new into.old.items into.new.items
-        (in_member (words_by words.now) m.now)) }
+        (in_member (words_by words.now) member.now)) }
     ensures extends { Extends table.old table.new }
 {
     let context = Context::Protocol;
     let base = table.param(SELF)?;
-    let term = table.member(base, Step::Name(name_of(words, m.name)))?;
+    let term = table.member(base, Step::Name(name_of(words, member.name)))?;
     let subject = Subject {
         term,
-        at: m.name.start,
+        at: member.name.start,
     };
-    add_bounds(table, words, context, subject, m.inherits.items(), into)?;
-    add_clause(table, words, context, m.clause.items(), into)
+    add_bounds(
+        table,
+        words,
+        context,
+        subject,
+        member.inherits.items(),
+        into,
+    )?;
+    add_clause(table, words, context, member.clause.items(), into)
 }
 
 #[tactic(auto, using(swreq_param::proofs::Growing::onward))]
@@ -62,10 +69,10 @@ pub fn of_protocol(
     alloc: Global,
     table: &mut ParamTable,
     words: &Words<'_>,
-    p: &ProtocolDecl,
+    protocol: &ProtocolDecl,
 ) -> Result<Vec<Written>, AllocError>
     ensures lists { IfOk result
-        (λ v. Lists table.old table.new (in_protocol (words_by words.now) p.now) v.items) }
+        (λ v. Lists table.old table.new (in_protocol (words_by words.now) protocol.now) v.items) }
     ensures extends { Extends table.old table.new }
 {
     let context = Context::Protocol;
@@ -73,17 +80,17 @@ pub fn of_protocol(
     let base = table.param(SELF)?;
     let subject = Subject {
         term: base,
-        at: p.name.start,
+        at: protocol.name.start,
     };
     add_bounds(
         table,
         words,
         context,
         subject,
-        p.inherits.items(),
+        protocol.inherits.items(),
         &mut into,
     )?;
-    add_clause(table, words, context, p.clause.items(), &mut into)?;
-    add_members(table, words, p.members.items(), &mut into)?;
+    add_clause(table, words, context, protocol.clause.items(), &mut into)?;
+    add_members(table, words, protocol.members.items(), &mut into)?;
     Ok(into)
 }

@@ -18,11 +18,12 @@ use swreq_names::{Signature, word};
 use swreq_param::{ParamTable, TermId};
 
 /// The signature that a query asks, or the first function at the top where there is none.
-pub fn asked_signature(words: &Words<'_>, q: &QueryDecl) -> Signature
+pub fn asked_signature(words: &Words<'_>, query: &QueryDecl) -> Signature
     ensures { result
-        ≡ asked_signature (signature_in_query (words_by words.now) q.now.outer q.now.function) }
+        ≡ asked_signature
+        (signature_in_query (words_by words.now) query.now.outer query.now.function) }
 {
-    match signature_in_query(words, q.outer, q.function) {
+    match signature_in_query(words, query.outer, query.function) {
         Some(signature) => signature,
         None => Signature::Function(0),
     }
@@ -40,51 +41,55 @@ fn signature_in_query(words: &Words<'_>, outer: Option<Span>, function: Span) ->
     }
 }
 
-/// What is asked of a signature, which has the place `f`.
+/// What `ask` asks of the signature, whose id is `function`.
 #[tactic(auto, using(swreq_param::proofs::Growing::onward))]
 pub fn query(
     table: &mut ParamTable,
     words: &Words<'_>,
     signature: Signature,
-    f: FuncId,
+    function: FuncId,
     ask: &Ask,
 ) -> Result<Query, AllocError>
     ensures asks { IfOk result
-        (Asks table.old table.new (asked_of (words_by words.now) signature f ask.now)) }
+        (Asks table.old table.new (asked_of (words_by words.now) signature function ask.now)) }
     ensures extends { Extends table.old table.new }
 {
     let context = Context::Signature(signature);
     match ask {
-        Ask::Signature => Ok(Query::Signature { f }),
+        Ask::Signature => Ok(Query::Signature { f: function }),
         Ask::Reduced { t } => {
             let t = spell(table, words, context, t)?;
-            Ok(Query::Reduced { f, t })
+            Ok(Query::Reduced { f: function, t })
         }
         Ask::Is { t, bound } => {
             let t = spell(table, words, context, t)?;
-            Ok(is_query(words, f, t, bound))
+            Ok(is_query(words, function, t, bound))
         }
         Ask::Same { left, right } => {
             let a = spell(table, words, context, left)?;
             let b = spell(table, words, context, right)?;
-            Ok(Query::Same { f, a, b })
+            Ok(Query::Same { f: function, a, b })
         }
     }
 }
 
 /// A query of a conformance or a layout.
-fn is_query(words: &Words<'_>, f: FuncId, t: TermId, bound: &Entity) -> Query
+fn is_query(words: &Words<'_>, function: FuncId, subject: TermId, bound: &Entity) -> Query
     ensures means { (terms : List Term) → query_by terms result
-        ≡ cond bound.now.layout (AsksAnyObject f (term_at terms t))
-        (AsksConforms f (term_at terms t) (proto_of (words_by words.now) bound.now.span)) }
-    ensures of { (terms : List Term) → IsOf terms t → HasQueryIdsOf terms result }
+        ≡ cond bound.now.layout (AsksAnyObject function (term_at terms subject))
+        (AsksConforms function (term_at terms subject)
+        (proto_of (words_by words.now) bound.now.span)) }
+    ensures of { (terms : List Term) → IsOf terms subject → HasQueryIdsOf terms result }
 {
     if bound.layout {
-        Query::Layout { f, t }
+        Query::Layout {
+            f: function,
+            t: subject,
+        }
     } else {
         Query::Conf {
-            f,
-            t,
+            f: function,
+            t: subject,
             p: proto_of(words, bound.span),
         }
     }

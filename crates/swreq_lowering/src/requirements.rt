@@ -36,17 +36,17 @@ struct Argument<'a> {
 }
 
 /// What a bound requires of a type parameter, but for its arguments.
-fn bound_of(words: &Words<'_>, subject: TermId, e: &Entity) -> Requirement
+fn bound_of(words: &Words<'_>, subject: TermId, entity: &Entity) -> Requirement
     ensures means { (terms : List Term) → requirement_of terms result
-        ≡ bound_of (words_by words.now) (term_at terms subject) e.now }
+        ≡ bound_of (words_by words.now) (term_at terms subject) entity.now }
     ensures of { (terms : List Term) → IsOf terms subject → HasIdsOf terms result }
 {
-    if e.layout {
+    if entity.layout {
         Requirement::Layout { subject }
     } else {
         Requirement::Conf {
             subject,
-            proto: proto_of(words, e.span),
+            proto: proto_of(words, entity.span),
         }
     }
 }
@@ -58,21 +58,21 @@ fn add_argument(
     words: &Words<'_>,
     context: Context,
     subject: TermId,
-    a: &Argument<'_>,
+    written: &Argument<'_>,
     into: &mut Vec<Written>,
 ) -> Result<(), AllocError>
     requires { IsOf table.old subject }
     ensures adds { OnOk result (Adds table.old table.new into.old.items into.new.items
         (argument (words_by words.now) context
-        (term_at table.old subject) a.now.at a.now.name a.now.given.now ∷ [])) }
+        (term_at table.old subject) written.now.at written.now.name written.now.given.now ∷ [])) }
     ensures extends { Extends table.old table.new }
 {
-    let left = table.member(subject, Step::Name(name_of(words, a.name)))?;
-    let right = spell(table, words, context, a.given)?;
+    let left = table.member(subject, Step::Name(name_of(words, written.name)))?;
+    let right = spell(table, words, context, written.given)?;
     into.push(Written {
         requirement: Requirement::Same { left, right },
-        left_at: a.at,
-        right_at: a.given.head.start,
+        left_at: written.at,
+        right_at: written.given.head.start,
     })?;
     Ok(())
 }
@@ -84,23 +84,23 @@ fn add_arguments(
     words: &Words<'_>,
     context: Context,
     subject: TermId,
-    e: &Entity,
+    entity: &Entity,
     into: &mut Vec<Written>,
 ) -> Result<(), AllocError>
     requires { IsOf table.old subject }
     ensures adds { OnOk result (Adds table.old table.new into.old.items into.new.items
-        (arguments (words_by words.now) context (term_at table.old subject) e.now.span.start
-        (primaries_named (words_by words.now) e.now.span) e.now.args)) }
+        (arguments (words_by words.now) context (term_at table.old subject) entity.now.span.start
+        (primaries_named (words_by words.now) entity.now.span) entity.now.args)) }
     ensures extends { Extends table.old table.new }
 {
-    let names = primaries_named(words, e.span);
-    let given = e.args.items();
+    let names = primaries_named(words, entity.span);
+    let given = entity.args.items();
     let mut k = 0;
     while k < names.len() && k < given.len() {
         let a = Argument {
             name: names[k],
             given: &given[k],
-            at: e.span.start,
+            at: entity.span.start,
         };
         add_argument(table, words, context, subject, &a, into)?;
         k += 1;
@@ -114,20 +114,21 @@ fn add_bound(
     words: &Words<'_>,
     context: Context,
     subject: Subject,
-    e: &Entity,
+    entity: &Entity,
     into: &mut Vec<Written>,
 ) -> Result<(), AllocError>
     requires { IsOf table.old subject.term }
     ensures adds { OnOk result (Adds table.old table.new into.old.items into.new.items
-        (in_bound (words_by words.now) context (term_at table.old subject.term) subject.at e.now)) }
+        (in_bound (words_by words.now) context
+        (term_at table.old subject.term) subject.at entity.now)) }
     ensures extends { Extends table.old table.new }
 {
     into.push(Written {
-        requirement: bound_of(words, subject.term, e),
+        requirement: bound_of(words, subject.term, entity),
         left_at: subject.at,
         right_at: subject.at,
     })?;
-    add_arguments(table, words, context, subject.term, e, into)
+    add_arguments(table, words, context, subject.term, entity, into)
 }
 
 /// What bounds require of their subject.
@@ -152,7 +153,7 @@ pub fn add_bounds(
     Ok(())
 }
 
-/// `T == U`.
+/// Adds what `T == U` requires.
 #[tactic(auto, using(swreq_param::proofs::Growing::onward))]
 fn add_same(
     table: &mut ParamTable,
@@ -177,7 +178,7 @@ fn add_same(
     Ok(())
 }
 
-/// `T: P & Q`.
+/// Adds what `T: P & Q` requires.
 #[tactic(auto, using(swreq_param::proofs::Growing::onward))]
 fn add_subject(
     table: &mut ParamTable,
@@ -205,14 +206,14 @@ fn add_requirement(
     table: &mut ParamTable,
     words: &Words<'_>,
     context: Context,
-    r: &ReqDecl,
+    requirement: &ReqDecl,
     into: &mut Vec<Written>,
 ) -> Result<(), AllocError>
     ensures adds { OnOk result (Adds table.old table.new into.old.items into.new.items
-        (in_requirement (words_by words.now) context r.now)) }
+        (in_requirement (words_by words.now) context requirement.now)) }
     ensures extends { Extends table.old table.new }
 {
-    match r {
+    match requirement {
         ReqDecl::Bound { subject, bounds } => {
             add_subject(table, words, context, subject, bounds.items(), into)
         }

@@ -24,21 +24,21 @@ fn add_param(
     words: &Words<'_>,
     signature: Signature,
     index: u32,
-    p: &ParamDecl,
+    param: &ParamDecl,
     into: &mut Vec<Written>,
 ) -> Result<(), AllocError>
     ensures adds { OnOk result (Adds table.old table.new into.old.items into.new.items
-        (in_param (words_by words.now) signature index p.now)) }
+        (in_param (words_by words.now) signature index param.now)) }
     ensures extends { Extends table.old table.new }
 {
     let depth = own_depth(words.skeleton, signature);
     let term = table.param(ParamId { depth, index })?;
     let subject = Subject {
         term,
-        at: p.name.start,
+        at: param.name.start,
     };
     let context = Context::Signature(signature);
-    add_bounds(table, words, context, subject, p.bounds.items(), into)
+    add_bounds(table, words, context, subject, param.bounds.items(), into)
 }
 
 #[tactic(auto, using(swreq_param::proofs::Growing::onward))]
@@ -88,11 +88,12 @@ pub fn of_struct(
     table: &mut ParamTable,
     words: &Words<'_>,
     place: usize,
-    s: &StructDecl,
+    declaration: &StructDecl,
 ) -> Result<Vec<Written>, AllocError>
-    requires { length s.now.params < 2 ^ 32 }
+    requires { length declaration.now.params < 2 ^ 32 }
     ensures lists { IfOk result
-        (λ v. Lists table.old table.new (in_struct (words_by words.now) place s.now) v.items) }
+        (λ v. Lists table.old table.new
+        (in_struct (words_by words.now) place declaration.now) v.items) }
     ensures extends { Extends table.old table.new }
 {
     let mut into = Vec::new(alloc);
@@ -101,8 +102,8 @@ pub fn of_struct(
         table,
         words,
         signature,
-        s.params.items(),
-        s.clause.items(),
+        declaration.params.items(),
+        declaration.clause.items(),
         &mut into,
     )?;
     Ok(into)
@@ -114,11 +115,12 @@ pub fn of_function(
     table: &mut ParamTable,
     words: &Words<'_>,
     place: usize,
-    f: &FunctionDecl,
+    declaration: &FunctionDecl,
 ) -> Result<Vec<Written>, AllocError>
-    requires { length f.now.params < 2 ^ 32 }
+    requires { length declaration.now.params < 2 ^ 32 }
     ensures lists { IfOk result
-        (λ v. Lists table.old table.new (in_function (words_by words.now) place f.now) v.items) }
+        (λ v. Lists table.old table.new
+        (in_function (words_by words.now) place declaration.now) v.items) }
     ensures extends { Extends table.old table.new }
 {
     let mut into = Vec::new(alloc);
@@ -127,8 +129,8 @@ pub fn of_function(
         table,
         words,
         signature,
-        f.params.items(),
-        f.clause.items(),
+        declaration.params.items(),
+        declaration.clause.items(),
         &mut into,
     )?;
     Ok(into)
@@ -142,11 +144,12 @@ pub fn of_nested(
     words: &Words<'_>,
     outer: usize,
     function: usize,
-    f: &FunctionDecl,
+    declaration: &FunctionDecl,
 ) -> Result<Vec<Written>, AllocError>
-    requires { length f.now.params < 2 ^ 32 }
-    ensures lists { IfOk result (λ v.
-        Lists table.old table.new (in_inner (words_by words.now) outer function f.now) v.items) }
+    requires { length declaration.now.params < 2 ^ 32 }
+    ensures lists { IfOk result
+        (λ v. Lists table.old table.new
+        (in_inner (words_by words.now) outer function declaration.now) v.items) }
     ensures extends { Extends table.old table.new }
 {
     let mut into = Vec::new(alloc);
@@ -155,8 +158,8 @@ pub fn of_nested(
         table,
         words,
         signature,
-        f.params.items(),
-        f.clause.items(),
+        declaration.params.items(),
+        declaration.clause.items(),
         &mut into,
     )?;
     Ok(into)

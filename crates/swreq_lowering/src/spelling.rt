@@ -23,14 +23,14 @@ pub fn spell(
     table: &mut ParamTable,
     words: &Words<'_>,
     context: Context,
-    t: &TypeDecl,
+    written_type: &TypeDecl,
 ) -> Result<TermId, AllocError>
     ensures spells { IfOk result
-        (Spells table.old table.new (type_in (words_by words.now) context t.now)) }
+        (Spells table.old table.new (type_in (words_by words.now) context written_type.now)) }
     ensures extends { Extends table.old table.new }
 {
-    let head = spell_head(table, words, context, t.head)?;
-    spell_steps(table, words, head, t.steps.items())
+    let head = spell_head(table, words, context, written_type.head)?;
+    spell_steps(table, words, head, written_type.steps.items())
 }
 
 /// The first word of a type.

@@ -41,9 +41,9 @@ use Rattle.swreq_lines.specs.GoodLines as good
 use Rattle.swreq_lines.specs.LineTexts.{fields_of, lines_from, texts_from}
 use Rattle.swreq_lines.specs.Writing.{AreNamesOfOneLine}
 use Rattle.swreq_lines.proofs.Back.{as_long, lines_are}
-use Rattle.swreq_output.specs.Ended.{IsWorldOfText}
-use Rattle.swreq_output.proofs.OfText.{declared_assoc, for_self_of, of_protocol}
-use Rattle.swreq_output.proofs.PrintingAlike.{few_params, numbers, own}
+use Rattle.swreq_query.specs.Ended.{IsWorldOfText}
+use Rattle.swreq_query.proofs.OfText.{declared_assoc, for_self_of, of_protocol}
+use Rattle.swreq_query.proofs.PrintingAlike.{few_params, numbers, own}
 use Rattle.swreq_verify.specs.declared.judging.Judgement.TheVariants.{Derived}
 use Rattle.swreq_verify.specs.Judgements.{Asked, IsJudged, asked, yes}
 use Rattle.swreq_verify.specs.SecondParts.{TermSection}

@@ -7,7 +7,9 @@ use Rattle.std.proofs.lemmas.List.Elements.{All-contains, Contains-get_or}
 use Rattle.swreq_param.specs.Terms.{Term}
 use Rattle.swreq_orders.proofs.Members.{contains_map}
 use Rattle.swreq_reply.specs.declared.content.Content.{Content}
-use Rattle.swreq_reply.specs.declared.content.Content.TheVariants.{Answers, Signatures}
+use Rattle.swreq_reply.specs.declared.content.Made.{Made}
+use Rattle.swreq_reply.specs.declared.content.Made.TheVariants.{Lines, Lists}
+use Rattle.swreq_reply.specs.Contents.{makes}
 use Rattle.swreq_lowering.specs.declared.ids.FuncId.{FuncId}
 use Rattle.swreq_lowering.specs.declared.ids.Query.{Query}
 use Rattle.swreq_lowering.specs.declared.ids.Query.TheVariants as queries
@@ -18,8 +20,8 @@ use Rattle.swreq_world.specs.Worlds.{IdWorld, no_signature, signature_at}
 use Rattle.swreq_query.specs.Asked.{IsQueryIn}
 use Rattle.swreq_symbols.specs.Known.{IsTextOver}
 use Rattle.swreq_reply.specs.Outputs.{signature_of}
-use Rattle.swreq_reply.specs.Told.{IsMinimisedFor}
-use Rattle.swreq_reply.specs.Wanted.{function_of, is_at, is_list_asked, list_asked, wants_list}
+use Rattle.swreq_reply.specs.Told.{IsListMade, IsMinimisedFor}
+use Rattle.swreq_reply.specs.Wanted.{function_of, is_at, is_list_asked, is_list_made, list_asked, wants_list}
 use Rattle.swreq_reply.proofs.Lines.{query_signature}
 use Rattle.swreq_rank.proofs.Tests.{passes, some_passes}
 
@@ -67,17 +69,22 @@ asking_list : (k : ℕ) (q : Query) → lists_at k q ≡ true → (f : FuncId) �
 asking_list k (queries.Signature f) h = (f, refl, eqb-true f.place k h)
 asking_list k _ h = absurd (true≢false (sym h))
 
--- a list that is wanted is minimised for the command
-pub minimised_for : (w : IdWorld) (terms : List Term) (f : FuncId) (c : Content) → f.place < length w.signatures
-    → wants_list c w.queries f.place ≡ true → IsMinimisedFor c (world_by terms w) (signature_at (world_by terms w) f)
-minimised_for w terms f (Answers s) l h =
+-- a list that is made is that of a signature of which it is made
+list_made : (w : IdWorld) (terms : List Term) (f : FuncId) (a : Made) → f.place < length w.signatures
+    → is_list_made a w.queries f.place ≡ true → IsListMade a (world_by terms w) (signature_at (world_by terms w) f)
+list_made w terms f Lines l h =
     let (q, has, passes_it) = some_passes (lists_at f.place) w.queries h in
     let (g, is, at) = asking_list f.place q passes_it in (
       g,
       contains_map (query_by terms) w.queries (queries.Signature g) (subst (Contains w.queries) is has),
       ap (λ (n : ℕ). signature_at (world_by terms w) (record { place = n })) (sym at),
     )
-minimised_for w terms f Signatures l h =
+list_made w terms f Lists l h =
     Contains-get_or (map (signature_by terms) w.signatures) f.place no_signature
     (omega (arith, length-map w.signatures (signature_by terms), l))
-minimised_for w terms f _ l h = absurd (true≢false (sym h))
+list_made w terms f _ l h = absurd (true≢false (sym h))
+
+-- and one that is wanted is minimised for the command
+pub minimised_for : (w : IdWorld) (terms : List Term) (f : FuncId) (c : Content) → f.place < length w.signatures
+    → wants_list c w.queries f.place ≡ true → IsMinimisedFor c (world_by terms w) (signature_at (world_by terms w) f)
+minimised_for w terms f c = list_made w terms f (makes c)

@@ -36,15 +36,15 @@ use Rattle.swreq_subst.specs.Saying.{FindSignatures, SayCalls}
 use Rattle.swreq_subst.proofs.OneCall.{one_list}
 use Rattle.swreq_subst.proofs.Uses.{one_line}
 use Rattle.swreq_verify.proofs.OneOutput.{output_one}
-use Rattle.swreq_output.proofs.PrintingOnce.{line_once, named_once, system_once}
-use Rattle.swreq_output.specs.Ended.{IsWorldOfText}
+use Rattle.swreq_query.proofs.PrintingOnce.{line_once, named_once, system_once}
+use Rattle.swreq_query.specs.Ended.{IsWorldOfText}
 use Rattle.swreq_reply.specs.declared.outcome.Outcome.{Outcome}
 use Rattle.swreq_reply.specs.declared.content.Backing.{Backing}
 use Rattle.swreq_reply.specs.declared.content.Backing.TheVariants.{Nothing, Derivation, Path}
 use Rattle.swreq_reply.specs.declared.content.Shown.TheVariants.{Each, Counts}
 use Rattle.swreq_reply.specs.declared.content.Content.{Content}
 use Rattle.swreq_reply.specs.declared.content.Content.TheVariants.{Answers, Signatures, Systems, Calls, Families, Judgements}
-use Rattle.swreq_reply.specs.Contents.{content_of}
+use Rattle.swreq_reply.specs.Contents.{backing_of, content_of}
 use Rattle.swreq_reply.specs.Inputs.{AreParts, Parts, second_at}
 use Rattle.swreq_reply.specs.Lines.{AreLines, Counted}
 use Rattle.swreq_reply.specs.Lines.AreLines.{none as no_line, more}
@@ -118,11 +118,11 @@ module _ (w : TextWorld) where
 
   module _ (p : Parts) (apart : TellsApart w.lexicon) (found : FindSignatures w)
       (one_part : (ds es : List CallDecl) → StandsFor p.input (second_at p) ds → StandsFor p.input (second_at p) es → ds ≡ es) where
-    pieces_once : (c : Content) → c ≢ Answers (Each Derivation) → (ls ms : List Text) → ArePrinted w false c p ls
+    pieces_once : (c : Content) → backing_of c ≢ Derivation → (ls ms : List Text) → ArePrinted w false c p ls
         → ArePrinted w false c p ms
         → ls ≡ ms
     pieces_once (Answers (Each b)) real ls ms h k =
-        one_lines (IsLineOf w false b) (query_once b (λ e. real (ap (λ z. Answers (Each z)) e))) h k
+        one_lines (IsLineOf w false b) (query_once b real) h k
     pieces_once (Answers (Counts n)) real ls ms h k = counts_once n ls ms h k
     pieces_once Signatures real ls ms h k = one_lines _ (named_once w) h k
     pieces_once Systems real ls ms h k = one_lines _ (system_once w) h k
@@ -135,7 +135,7 @@ module _ (w : TextWorld) where
         (subst (λ (z : List CallDecl). SayCalls w p.input cs z) (one_part ds es stands also) say) tell in
         one_lines (calls.IsLineOf w) (one_line w) (subst (λ (z : List TermCall). AreLines (calls.IsLineOf w) z ls) same are) lines
 
-    output_once : (c : Content) → c ≢ Answers (Each Derivation) → (out other : Text) → IsOutput w false c p out → IsOutput w false c p other
+    output_once : (c : Content) → backing_of c ≢ Derivation → (out other : Text) → IsOutput w false c p out → IsOutput w false c p other
         → out ≡ other
     output_once c real out other (ls, are, is) (ms, too, same) = is ∙ ap concat (pieces_once c real ls ms are too) ∙ sym same
 
@@ -161,7 +161,7 @@ pub record AreKnown (text : List ℕ) : Type 0 where
 
 module _ (line : CommandLine) (input : Text) where
   abbrev printed : Content
-  printed = content_of line.command
+  printed = content_of line
 
   -- what a verdict with status 0 prints of a world of the input
   record IsPrinted (out : Text) : Type 0 where
@@ -180,7 +180,7 @@ module _ (line : CommandLine) (input : Text) where
 
   module _ (p : Parts) (are : AreParts line.command input p) (known : AreKnown p.source)
       (one_part : (ds es : List CallDecl) → StandsFor p.input (second_at p) ds → StandsFor p.input (second_at p) es → ds ≡ es)
-      (real : printed ≢ Answers (Each Derivation)) where
+      (real : backing_of printed ≢ Derivation) where
     at_parts : {out : Text} (h : IsPrinted out) → IsWorldOfText p.source h.world × IsOutput h.world false printed p out
     at_parts {out} h =
         subst (λ (z : Parts). IsWorldOfText z.source h.world × IsOutput h.world false printed z out)

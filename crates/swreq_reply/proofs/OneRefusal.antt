@@ -175,7 +175,7 @@ module _ (line : CommandLine) (p : Parts) where
   abbrev EndsRead : Result Skeleton ParseErr → Option Outcome → Type 0
   EndsRead (Err e) end = end ≡ Some (refused_with (refusal_of e))
   EndsRead (Ok s) end = ((e : NameErr) × RefusesSkeleton p.source s e × (end ≡ Some (refused_with (name_refusal e))))
-      ⊎ (Resolve p.source s × ((w : TextWorld) × IsWorldOf p.source s w × EndsIn w (content_of line.command) end))
+      ⊎ (Resolve p.source s × ((w : TextWorld) × IsWorldOf p.source s w × EndsIn w (content_of line) end))
 
   -- How the input ends with these parts.
   abbrev EndsWith : Option Outcome → Type 0
@@ -206,7 +206,7 @@ module _ (line : CommandLine) (p : Parts) where
 
 module _ (line : CommandLine) (input : List ℕ) where
   abbrev printed : Content
-  printed = content_of line.command
+  printed = content_of line
 
   -- How an input ends: it is too long, or lacks its second part, or has parts and ends as they do.
   data Ends (end : Option Outcome) : Type 0 where
@@ -222,7 +222,7 @@ module _ (line : CommandLine) (input : List ℕ) where
       let text = has.of_text in
       divided has.parts has.are (Ok text.skeleton, whole text.skeleton text.stands, inr (text.resolve, (w, text.world, h)))
 
-  of_check : {w : TextWorld} (has : HasWorld line input w) {end : Option Outcome} → ChecksMachines line.command → (r : Option Refused)
+  of_check : {w : TextWorld} (has : HasWorld line input w) {end : Option Outcome} → ChecksMachines line → (r : Option Refused)
       (told : List Event) → IsChecked (limits_of line) w r told → EndsChecked line has.parts w printed r end → Ends end
   of_check {w} has {end} checks r told checked h = of_world has (by printed checks h)
     where
@@ -317,8 +317,8 @@ module _ (line : CommandLine) (input : List ℕ) (p : Parts) (are : AreParts lin
   one_read (Ok s) a b (inl (e, refuses, is)) (inr (resolve, world)) = absurd (not_refused p.source s e resolve refuses)
   one_read (Ok s) a b (inr (resolve, world)) (inl (e, refuses, is)) = absurd (not_refused p.source s e resolve refuses)
   one_read (Ok s) a b (inr (resolve, (w, h, end))) (inr (also, (v, k, other))) =
-      one_in v (content_of line.command) a b
-      (subst (λ (z : TextWorld). EndsIn line p z (content_of line.command) a) (one.world s w v h k) end) other
+      one_in v (content_of line) a b
+      (subst (λ (z : TextWorld). EndsIn line p z (content_of line) a) (one.world s w v h k) end) other
 
   one_end : {a b : Option Outcome} → Ends line input a → Ends line input b → a ≡ b
   one_end {a} {b} h k =

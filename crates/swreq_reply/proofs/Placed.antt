@@ -12,8 +12,10 @@ use Rattle.swreq_lowering.specs.declared.ids.Query.{Query}
 use Rattle.swreq_lowering.specs.declared.ids.Query.TheVariants as queries
 use Rattle.swreq_world.specs.Worlds.{IdWorld}
 use Rattle.swreq_reply.specs.declared.content.Content.{Content}
-use Rattle.swreq_reply.specs.declared.content.Content.TheVariants.{Answers, Systems}
-use Rattle.swreq_reply.specs.Wanted.{ArePlaces, count_of, function_of, machine_asked, machine_asked_at, maker}
+use Rattle.swreq_reply.specs.declared.content.Made.{Made}
+use Rattle.swreq_reply.specs.declared.content.Made.TheVariants.{Lines, Systems}
+use Rattle.swreq_reply.specs.Contents.{makes}
+use Rattle.swreq_reply.specs.Wanted.{ArePlaces, count_of, function_of, machine_asked, machine_asked_at, made_by as by_made, maker, places_of}
 
 -- ---- by which machine
 
@@ -22,17 +24,23 @@ pub machine_function : (q : Query) (f : FuncId) → machine_asked q ≡ Some f �
 machine_function (queries.Signature g) f e = absurd (none-some f e)
 machine_function q f e = same_Some (function_of q) f e
 
--- a piece is made by the machine of a signature of the text
-pub maker_within : (w : IdWorld) (c : Content) (k : ℕ) → k < count_of w c
+-- what is made is made by the machine of a signature of the text
+made_within : (w : IdWorld) (a : Made) (k : ℕ) → k < places_of w a
     → ((q : Query) → Contains w.queries q → (function_of q).place < length w.signatures)
-    → (f : FuncId) → maker w c k ≡ Some f → f.place < length w.signatures
-maker_within w (Answers b) k l within f e =
+    → (f : FuncId) → by_made w a k ≡ Some f → f.place < length w.signatures
+made_within w Lines k l within f e =
     let any : Query = queries.Signature (record { place = 0 }) in
     let q : Query = get_or w.queries k any in
     let asks : machine_asked q ≡ Some f = sym (ap machine_asked_at (slice_get-get_or w.queries k any l)) ∙ e in
     subst (λ (g : FuncId). g.place < length w.signatures) (machine_function q f asks) (within q (Contains-get_or w.queries k any l))
-maker_within w Systems k l within f e = omega (arith, l, ap (λ (g : FuncId). g.place) (same_Some (record { place = k }) f e))
-maker_within w _ k l within f e = absurd (none-some f e)
+made_within w Systems k l within f e = omega (arith, l, ap (λ (g : FuncId). g.place) (same_Some (record { place = k }) f e))
+made_within w _ k l within f e = absurd (none-some f e)
+
+-- and so is a piece
+pub maker_within : (w : IdWorld) (c : Content) (k : ℕ) → k < count_of w c
+    → ((q : Query) → Contains w.queries q → (function_of q).place < length w.signatures)
+    → (f : FuncId) → maker w c k ≡ Some f → f.place < length w.signatures
+maker_within w c = made_within w (makes c)
 
 -- ---- groups
 
@@ -40,7 +48,7 @@ abbrev Group : Type 0
 Group = Vec ℕ Global
 
 -- a signature is its place
-same_signature : (f g : FuncId) → f.place ≡ g.place → f ≡ g
+pub same_signature : (f g : FuncId) → f.place ≡ g.place → f ≡ g
 same_signature f g e = ap (λ (n : ℕ). let h : FuncId = record { place = n } in h) e
 
 -- either before the last one, or that one

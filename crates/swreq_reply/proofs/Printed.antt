@@ -15,8 +15,8 @@ use Rattle.swreq_lowering.specs.declared.ids.Query.TheVariants as queries
 use Rattle.swreq_lowering.specs.ByTable.{query_by}
 use Rattle.swreq_lowering.specs.Queries.{TermQuery}
 use Rattle.swreq_lowering.specs.Queries.TermQuery.{AsksSignature}
-use Rattle.swreq_output.specs.Signatures.{IsMinimisedLine}
-use Rattle.swreq_output.specs.Systems.{IsSystemText}
+use Rattle.swreq_query.specs.Signatures.{IsMinimisedLine}
+use Rattle.swreq_query.specs.Systems.{IsSystemText}
 use Rattle.swreq_query.specs.declared.verdict.Verdict.{Verdict}
 use Rattle.swreq_query.specs.declared.verdict.Verdict.TheVariants as verdicts
 use Rattle.swreq_query.specs.Answers.{Answer, answer_line}
@@ -27,15 +27,14 @@ use Rattle.swreq_symbols.specs.Meaning.{facts_of}
 use Rattle.swreq_world.specs.FactsAt.{source_of}
 use Rattle.swreq_world.specs.Worlds.{TextWorld, signature_at}
 use Rattle.swreq_reply.specs.declared.content.Backing.TheVariants.{Nothing}
-use Rattle.swreq_reply.specs.declared.content.Content.{Content}
-use Rattle.swreq_reply.specs.declared.content.Content.TheVariants.{Answers, Signatures, Systems}
-use Rattle.swreq_reply.specs.declared.content.Shown.{Shown}
+use Rattle.swreq_reply.specs.declared.content.Made.{Made}
+use Rattle.swreq_reply.specs.declared.content.Made.TheVariants.{Lines, Lists, Systems}
 use Rattle.swreq_reply.specs.declared.printing.MadePieces.{MadePieces}
-use Rattle.swreq_reply.specs.Contents.{backing_of}
-use Rattle.swreq_reply.specs.Made.{AreLinesKept, AreMade, IsLineKept, IsPiece}
+use Rattle.swreq_reply.specs.Contents.{AreAnswers, AreSignatures, AreSystems, backing_of, makes}
+use Rattle.swreq_reply.specs.Made.{AreLinesKept, AreMade, IsLineKept, IsMadeAt}
 use Rattle.swreq_reply.specs.Outputs.{Backs, HasAnswer, IsLineOf, signature_of}
 use Rattle.swreq_reply.specs.Pieces.{IsWhole, query_at, text_at, text_or_none, world_of}
-use Rattle.swreq_reply.specs.Wanted.{count_of, function_of, list_asked, machine_asked, machine_asked_at, maker, wants_list}
+use Rattle.swreq_reply.specs.Wanted.{function_of, is_list_made, list_asked, machine_asked, machine_asked_at, made_by, places_of}
 use Rattle.swreq_reply.proofs.Flags.{asked_within, is_listed}
 
 -- ---- one piece
@@ -57,38 +56,34 @@ asks_machine (queries.Signature f) e = absurd (none-some f (sym e))
 asks_machine _ e = refl
 
 module _ (m : MadePieces) (whole : IsWhole m) where
-  -- what is made, where the content is this one
-  pieces_of : (c : Content) → m.content ≡ c
-      → AreMade (IsPiece (world_of m) c) (maker m.world.now c) (count_of m.world.now c) (length m.world.now.signatures) m.pieces.now
-  pieces_of c e = subst (λ (k : Content).
-      AreMade (IsPiece (world_of m) k) (maker m.world.now k) (count_of m.world.now k) (length m.world.now.signatures)
-      m.pieces.now) e whole.pieces
+  -- what is made, where it is this
+  pieces_of : (a : Made) → makes m.content ≡ a
+      → AreMade (IsMadeAt (world_of m) a (backing_of m.content)) (made_by m.world.now a) (places_of m.world.now a)
+      (length m.world.now.signatures) m.pieces.now
+  pieces_of a e = subst (λ (b : Made).
+      AreMade (IsMadeAt (world_of m) b (backing_of m.content)) (made_by m.world.now b) (places_of m.world.now b)
+      (length m.world.now.signatures) m.pieces.now) e whole.pieces
 
-  lists_of : (c : Content) → m.content ≡ c → AreLinesKept (world_of m) (wants_list c m.world.now.queries) m.lists.now
-  lists_of c e = subst (λ (k : Content). AreLinesKept (world_of m) (wants_list k m.world.now.queries) m.lists.now) e whole.lists
+  lists_of : (a : Made) → makes m.content ≡ a → AreLinesKept (world_of m) (is_list_made a m.world.now.queries) m.lists.now
+  lists_of a e = subst (λ (b : Made). AreLinesKept (world_of m) (is_list_made b m.world.now.queries) m.lists.now) e whole.lists
 
-  pub system_at : m.content ≡ Systems → (f : FuncId) → f.place < length m.world.now.signatures
+  pub system_at : AreSystems m.content → (f : FuncId) → f.place < length m.world.now.signatures
       → IsSystemText (world_of m) (signature_at (world_of m) f) (text_at m.pieces.now f.place)
   system_at e f below =
       let found = (pieces_of Systems e).filled f.place f below refl below in
       subst (IsSystemText (world_of m) (signature_at (world_of m) f)) (sym (ap text_or_none found.1))
       ((pieces_of Systems e).right f.place found.0 found.1)
 
-  pub list_at : m.content ≡ Signatures → (f : FuncId) → f.place < length m.world.now.signatures
+  pub list_at : AreSignatures m.content → (f : FuncId) → f.place < length m.world.now.signatures
       → IsMinimisedLine (world_of m) (signature_at (world_of m) f) (text_at m.lists.now f.place)
-  list_at e f below = kept_line (world_of m) (wants_list Signatures m.world.now.queries) m.lists.now f (lists_of Signatures e)
+  list_at e f below = kept_line (world_of m) (is_list_made Lists m.world.now.queries) m.lists.now f (lists_of Lists e)
       (omega (arith, below, whole.counted)) refl
 
   -- ---- the answer to the query at a place
 
-  module _ (s : Shown) (e : m.content ≡ Answers s) (k : ℕ) (below : k < length m.world.now.queries) where
+  module _ (e : AreAnswers m.content) (k : ℕ) (below : k < length m.world.now.queries) where
     abbrev pub asked : Query
     asked = get_or m.world.now.queries k (queries.Signature (record { place = 0 }))
-
-    -- the line of a query is that of the content
-    shown : (line : Text) → IsLineOf (world_of m) true (backing_of (Answers s)) (query_at m k) line
-        → IsLineOf (world_of m) true (backing_of m.content) (query_at m k) line
-    shown line h = subst (λ (c : Content). IsLineOf (world_of m) true (backing_of c) (query_at m k) line) (sym e) h
 
     in_world : (function_of asked).place < length m.world.now.signatures
     in_world = asked_within m.world.now m.table.now whole.text.closed asked (Contains-get_or m.world.now.queries k _ below)
@@ -114,11 +109,10 @@ module _ (m : MadePieces) (whole : IsWhole m) where
               ap (λ (h : FuncId). h.place) (same_Some g f here),
             ) in (
               within,
-              shown _
-                  (subst (λ (q : TermQuery). IsLineOf (world_of m) true (backing_of (Answers s)) q (text_at m.lists.now f.place)) (sym same)
-                  (kept_line (world_of m) (wants_list (Answers s) m.world.now.queries) m.lists.now f (lists_of (Answers s) e) within
+              subst (λ (q : TermQuery). IsLineOf (world_of m) true (backing_of m.content) q (text_at m.lists.now f.place)) (sym same)
+                  (kept_line (world_of m) (is_list_made Lines m.world.now.queries) m.lists.now f (lists_of Lines e) within
                   (is_listed m.world.now.queries f
-                  (k, below, get_or_default m.world.now.queries k _ _ below ∙ is ∙ ap queries.Signature (same_Some g f here))))),
+                  (k, below, get_or_default m.world.now.queries k _ _ below ∙ is ∙ ap queries.Signature (same_Some g f here)))),
             )
         by _ is here = absurd (none-some f here)
 
@@ -126,13 +120,13 @@ module _ (m : MadePieces) (whole : IsWhole m) where
     pub by_piece : list_asked asked ≡ None
         → (k < length m.pieces.now) × IsLineOf (world_of m) true (backing_of m.content) (query_at m k) (text_at m.pieces.now k)
     by_piece no_list =
-        let made = pieces_of (Answers s) e in
+        let made = pieces_of Lines e in
         let makes = ap machine_asked_at (slice_get-get_or m.world.now.queries k _ below) ∙ asks_machine asked no_list in
         let found = made.filled k (function_of asked) below makes in_world in
         let there : k < length (world_of m).queries = omega (arith, below, length-map m.world.now.queries (query_by m.table.now)) in (
           omega (arith, below, made.counted),
-          shown _ (subst (IsLineOf (world_of m) true (backing_of (Answers s)) (query_at m k)) (sym (ap text_or_none found.1))
-              (made.right k found.0 found.1 (query_at m k) (slice_get-get_or (world_of m).queries k _ there))),
+          subst (IsLineOf (world_of m) true (backing_of m.content) (query_at m k)) (sym (ap text_or_none found.1))
+              (made.right k found.0 found.1 (query_at m k) (slice_get-get_or (world_of m).queries k _ there)),
         )
 
 -- ---- which verdict a line tells

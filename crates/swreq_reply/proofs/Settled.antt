@@ -1,5 +1,5 @@
 -- A text and what is asked of its machines, while its table grows.
-use Rattle.std.proofs.Common.{◌≡◌, ◌∙◌, sym, ap, subst, ℕ, ◌<◌, arith, List, Vec, Option, Some, Contains, get_or, length, slice_get, true}
+use Rattle.std.proofs.Common.{◌≡◌, ◌∙◌, sym, ap, subst, ℕ, ◌<◌, arith, List, Vec, Option, None, Some, Contains, get_or, length, slice_get, true}
 use Rattle.std.specs.declared.alloc.Global.{Global}
 use Rattle.std.proofs.lemmas.List.{get_or_default}
 use Rattle.std.proofs.lemmas.Option.{slice_get-get_or}
@@ -22,13 +22,15 @@ use Rattle.swreq_world.specs.FactsAt.{written_list}
 use Rattle.swreq_world.specs.Worlds.{TextWorld, signature_at}
 use Rattle.swreq_reply.specs.declared.setting.Means.{Means}
 use Rattle.swreq_reply.specs.declared.setting.Setting.{Setting}
-use Rattle.swreq_explain.specs.Books.{IsBookFor}
-use Rattle.swreq_explain.specs.Grounded.{AreNamesOf}
-use Rattle.swreq_reply.specs.Made.{AreMade, IsPiece}
-use Rattle.swreq_reply.specs.Contents.{AreAnswers, backed_by, backing_of}
+use Rattle.swreq_explain.specs.Histories.{IsHistoryFor}
+use Rattle.swreq_explain.specs.declared.text_history.TextHistory.{TextHistory}
+use Rattle.swreq_explain.proofs.Standing.{text_history_stays}
+use Rattle.swreq_reply.specs.declared.content.Made.{Made}
+use Rattle.swreq_reply.specs.Made.{AreMade, IsMadeAt, IsPiece}
+use Rattle.swreq_reply.specs.Contents.{AreAnswers, backing_of}
 use Rattle.swreq_reply.specs.Outputs.{IsLineOf, signature_of}
-use Rattle.swreq_reply.specs.Settings.{AreMadeIn, AreMeansFor, IsMachineFor, IsPlaceFor, IsReady, world_in}
-use Rattle.swreq_reply.specs.Wanted.{count_of, machine_asked, machine_asked_at, maker}
+use Rattle.swreq_reply.specs.Settings.{AreMadeIn, AreMeansFor, HasBase, IsMachineFor, IsPlaceFor, IsReady, world_in}
+use Rattle.swreq_reply.specs.Wanted.{count_of, machine_asked, machine_asked_at, made_by, maker, places_of}
 
 module _ (old new : List Term) (s : Setting) (more : Extends old new) (ready : IsReady old s) where
   pub world_on : world_in new s ≡ world_in old s
@@ -37,6 +39,12 @@ module _ (old new : List Term) (s : Setting) (more : Extends old new) (ready : I
   -- what holds of the world still does
   on : (P : TextWorld → Type 0) → P (world_in old s) → P (world_in new s)
   on P h = subst P (sym world_on) h
+
+  -- what all histories have in common still is
+  base_on : (base : Option TextHistory) → HasBase old s.world.now s.protocols.now s.content base
+      → HasBase new s.world.now s.protocols.now s.content base
+  base_on None h = h
+  base_on (Some base) h = text_history_stays old new more s.world.now s.protocols.now base ready.text h
 
   pub ready_on : IsReady new s
   ready_on = record {
@@ -47,7 +55,7 @@ module _ (old new : List Term) (s : Setting) (more : Extends old new) (ready : I
     rounds = on (λ w. AreRounds s.limits (protocols_of w) s.protocols.now.rounds) ready.rounds;
     places = ready.places;
     limits = ready.limits;
-    names = λ e some. on (λ w. AreNamesOf w s.names.now) (ready.names e some);
+    base = base_on s.base.now ready.base;
   }
 
   pub machine_on : (f : FuncId) (m : MachineView) → IsMachineFor old s f m → IsMachineFor new s f m
@@ -63,7 +71,7 @@ module _ (old new : List Term) (s : Setting) (more : Extends old new) (ready : I
   means_on m h = record {
     machine = machine_on m.own.f m.own.machine.now h.machine;
     map = h.map;
-    book = λ e. (let (b, is, for) = h.book e in (b, is, on (λ w. IsBookFor w m.own.f b) for));
+    history = λ e. (let (b, is, for) = h.history e in (b, is, on (λ w. IsHistoryFor w m.own.f b) for));
   }
 
   -- the pieces are made in the one as in the other
@@ -83,10 +91,11 @@ asks_own terms q f e = cc
 pub place_for : (terms : List Term) (s : Setting) (f : FuncId) → AreAnswers s.content → IsReady terms s
     → f.place < length s.world.now.signatures
     → (d : Vec ℕ Global) (place : ℕ) → Contains (get_or s.places.now f.place d).items place → IsPlaceFor terms s f place
-place_for terms s f (shown, content) ready l d place has =
+place_for terms s f content ready l d place has =
     let (counted, made) = (ready.places.each f d place l).0 has in
-    let below : place < length s.world.now.queries = rw content at counted in
-    let asks : machine_asked_at (slice_get s.world.now.queries place) ≡ Some f = rw content at made in record {
+    let below : place < length s.world.now.queries = subst (λ (a : Made). place < places_of s.world.now a) content counted in
+    let asks : machine_asked_at (slice_get s.world.now.queries place) ≡ Some f =
+    subst (λ (a : Made). made_by s.world.now a place ≡ Some f) content made in record {
       below = below;
       query = λ q e. record {
         is = (place, below, sym e);
@@ -117,8 +126,9 @@ pub piece_right : (terms : List Term) (s : Setting) → AreAnswers s.content →
     → q ≡ get_or s.world.now.queries place q → (piece : Text)
     → IsLineOf (world_in terms s) true (backing_of s.content) (query_by terms q) piece
     → IsPiece (world_in terms s) s.content place piece
-piece_right terms s (shown, content) place q below at piece is =
+piece_right terms s content place q below at piece is =
     let there =
     get_map (query_by terms) s.world.now.queries place q (slice_get-get_or s.world.now.queries place q below ∙ ap Some (sym at)) in
-    rw content (λ t e. let same : query_by terms q ≡ t = cc (e, there) in
-    subst (λ z. IsLineOf (world_in terms s) true (backed_by shown) z piece) same (rw content at is))
+    subst (λ (a : Made). IsMadeAt (world_in terms s) a (backing_of s.content) place piece) (sym content)
+    (λ t e. let same : query_by terms q ≡ t = cc (e, there) in
+    subst (λ z. IsLineOf (world_in terms s) true (backing_of s.content) z piece) same is)

@@ -2,15 +2,14 @@
 use Rattle.std.proofs.Common.{◌≡◌, inl, inr, ℕ, List, []}
 use Rattle.swreq_watch.specs.declared.events.Event.{Event}
 use Rattle.swreq_words.specs.declared.command.CommandLine.{CommandLine}
-use Rattle.swreq_reply.specs.declared.content.Content.TheVariants.{Judgements}
 use Rattle.swreq_reply.specs.declared.outcome.Outcome.{Outcome}
-use Rattle.swreq_reply.specs.Contents.{content_of}
+use Rattle.swreq_reply.specs.Contents.{AreJudgements, content_of}
 use Rattle.swreq_reply.specs.Replies.{TellsPart}
 use Rattle.swreq_reply.specs.Verdict.{IsRefused, IsVerdict}
 use Rattle.swreq_reply.specs.Verdict.IsRefused.{bad_calls, in_one_part, misfit, past_a_limit_of_families, too_long, unchecked, without_world}
 use Rattle.swreq_reply.specs.Verdict.IsVerdict.{answered as is_answered, cut_short as is_cut_short, judged as is_judged, refused as is_refused}
 
-module _ (line : CommandLine) (input : List ℕ) (judges : content_of line.command ≡ Judgements) where
+module _ (line : CommandLine) (input : List ℕ) (judges : AreJudgements (content_of line)) where
   refusal_untold : {o : Outcome} {told : List Event} → IsRefused line input o told → told ≡ []
   refusal_untold (too_long long is untold) = untold
   refusal_untold (in_one_part within two none is untold) = untold

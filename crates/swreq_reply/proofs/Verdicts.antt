@@ -25,6 +25,9 @@ use Rattle.swreq_watch.proofs.Told.{grew_none, grew_on}
 use Rattle.swreq_words.specs.declared.command.Command.{Command}
 use Rattle.swreq_words.specs.declared.command.Command.TheVariants as command
 use Rattle.swreq_words.specs.declared.command.CommandLine.{CommandLine}
+use Rattle.swreq_words.specs.declared.command.Input.{Input}
+use Rattle.swreq_words.specs.declared.command.Input.TheVariants as inputs
+use Rattle.swreq_words.specs.Commands.{input as reads}
 use Rattle.swreq_world.specs.Closed.{IsClosed}
 use Rattle.swreq_world.specs.Worlds.{TextWorld}
 use Rattle.swreq_valid.specs.Rounds.{last_rules}
@@ -33,7 +36,7 @@ use Rattle.swreq_valid.specs.declared.refused.Refused.TheVariants.{Memory}
 use Rattle.swreq_reply.specs.declared.outcome.Outcome.{Outcome}
 use Rattle.swreq_reply.specs.declared.checking.Checked.{Checked}
 use Rattle.swreq_reply.specs.declared.request.Request.{Request}
-use Rattle.swreq_output.specs.Ended.{IsWorldOfText}
+use Rattle.swreq_query.specs.Ended.{IsWorldOfText}
 use Rattle.swreq_parts.specs.Lines.{lines}
 use Rattle.swreq_verify.specs.Outputs as verified
 use Rattle.swreq_verify.specs.SecondParts.{IsFirstMisfit}
@@ -48,7 +51,7 @@ use Rattle.swreq_subst.specs.Refusals.{refusals as refusals_of}
 use Rattle.swreq_subst.specs.Saying.{SayCalls}
 use Rattle.swreq_reply.specs.declared.content.Content.{Content}
 use Rattle.swreq_reply.specs.declared.content.Content.TheVariants.{Calls, Families, Judgements}
-use Rattle.swreq_reply.specs.Contents.{PrintsPieces, content_of}
+use Rattle.swreq_reply.specs.Contents.{AreCalls, AreJudgements, PrintsPieces, content_by, content_of}
 use Rattle.swreq_reply.specs.Inputs.{second_at}
 use Rattle.swreq_reply.specs.Machines.{IsBuiltOver}
 use Rattle.swreq_reply.specs.Outputs.{IsOutput}
@@ -59,7 +62,7 @@ use Rattle.swreq_reply.specs.Reports.{name_refusal, refusal_of}
 use Rattle.swreq_reply.specs.Requests.{IsRequest, limits_in, line_of, parts_of, printed_of}
 use Rattle.swreq_reply.specs.Told.{MinimisingAllTells, MinimisingEndsIn, TellsBehind}
 use Rattle.swreq_reply.specs.Told.MinimisingAllTells.{nothing}
-use Rattle.swreq_reply.specs.Verdict.{ChecksMachines, HasNoWorld, HasWorld, IsStopOf, IsVerdict, PassesCheck, RefusesSecond, answered_text, limits_of, machine_outcome, refused_with}
+use Rattle.swreq_reply.specs.Verdict.{ChecksMachines, HasNoWorld, HasWorld, IsStopOf, IsVerdict, PassesCheck, RefusesSecond, limits_of, machine_outcome, refused_with, text_for}
 use Rattle.swreq_reply.specs.Verdict.IsRefused.{bad_calls, misfit, past_a_limit_of_families, unchecked, without_world}
 use Rattle.swreq_reply.specs.Verdict.IsVerdict.{answered as is_answered, cut_short as is_cut_short, judged as is_judged, refused as is_refused}
 use Rattle.swreq_reply.proofs.Checked.{check_tells, is_formed, stops_come}
@@ -87,9 +90,18 @@ unresolved text skeleton names.Memory within stands (inl refuses) real = absurd 
 unresolved text skeleton e within stands (inl refuses) real = (within, (skeleton, stands, refuses))
 
 -- the input of a command that reads one is that of the source
-pub source_text : (c : Command) (text : List ℕ) → ((n : ℕ) → c ≢ command.Gen n) → answered_text c text ≡ text
-source_text (command.Gen n) text reads = absurd (reads n refl)
-source_text c text reads = refl
+pub source_text : (i : Input) (n : ℕ) (text : List ℕ) → i ≢ inputs.Nothing → text_for i n text ≡ text
+source_text inputs.Nothing n text some = absurd (some refl)
+source_text i n text some = refl
+
+-- where a command reads one part, its answers are neither judgements nor lines of calls
+of_one_part : (c : Command) (n : ℕ) → reads c ≡ inputs.OnePart → (content_by c n ≢ Judgements) × (content_by c n ≢ Calls)
+of_one_part command.Answer n one = (λ e. (cc), λ e. (cc))
+of_one_part _ n one = (λ e. (cc), λ e. (cc))
+
+pub prints_of_one : (line : CommandLine) → reads line.command ≡ inputs.OnePart
+    → (AreJudgements (content_of line) → ⊥) × (AreCalls (content_of line) → ⊥)
+prints_of_one line one = of_one_part line.command line.count one
 
 -- what is made of machines or minimised lists is printed in pieces
 pub prints_pieces : (c : Content) → c ≢ Judgements → c ≢ Families → c ≢ Calls → PrintsPieces c
@@ -107,11 +119,11 @@ minimising_tells limits w c rules told prints tells = tells
 
 -- ---- commands that check machines
 
-checks_of : (c : Command) (k : Content) → content_of c ≡ k → k ≢ Judgements → ChecksMachines c
-checks_of c k asked other e = other (sym asked ∙ e)
+checks_of : (line : CommandLine) (k : Content) → content_of line ≡ k → k ≢ Judgements → ChecksMachines line
+checks_of line k asked other e = other (sym asked ∙ e)
 
-pub checks_for_pieces : (c : Command) → PrintsPieces (content_of c) → ChecksMachines c
-checks_for_pieces c prints e = subst PrintsPieces e prints
+pub checks_for_pieces : (line : CommandLine) → PrintsPieces (content_of line) → ChecksMachines line
+checks_for_pieces line prints e = subst PrintsPieces e prints
 
 -- ---- replies
 
@@ -178,7 +190,7 @@ module _ {r : Request} (request : IsRequest r) where
     -- ---- by machines
 
     -- where they are refused
-    pub replies_refused : ChecksMachines (line_of r).command → (old new : Option (List Event)) (refused : Refused)
+    pub replies_refused : ChecksMachines (line_of r) → (old new : Option (List Event)) (refused : Refused)
         (result : Result Outcome AllocError) → Checks (limits_in r) w old new (Err refused)
         → IfOk result (λ o. (refused ≢ Memory) × (o ≡ machine_outcome (line_of r) w.lexicon refused))
         → Replies (line_of r) (parts_of r).input old new result
@@ -207,7 +219,7 @@ module _ {r : Request} (request : IsRequest r) where
       finishes old new more grew part (Err e) h verdict = (more, part, grew)
 
       -- minimising ends because memory runs out
-      part_of : ChecksMachines (line_of r).command → (cause : Failed) (more : List Event)
+      part_of : ChecksMachines (line_of r) → (cause : Failed) (more : List Event)
           → MinimisingEndsIn (limits_in r) w (printed_of r) rules cause more → After more (TellsPart (line_of r) (parts_of r).input)
       part_of checks cause more part first built =
           inr (
@@ -228,7 +240,7 @@ module _ {r : Request} (request : IsRequest r) where
           )
 
       -- nothing is told after the check
-      pub finishes_alone : ChecksMachines (line_of r).command
+      pub finishes_alone : ChecksMachines (line_of r)
           → (old : Option (List Event)) {P : Outcome → Type 0} (result : Result Outcome AllocError)
           → IfOk result P → ((o : Outcome) → P o → After [] (IsVerdict (line_of r) (parts_of r).input o))
           → Finishes (line_of r) (parts_of r).input w rules old old result
@@ -236,7 +248,7 @@ module _ {r : Request} (request : IsRequest r) where
           finishes old old [] (grew_none old) (part_of checks failed.Memory [] (inl nothing)) result h verdict
 
       -- the check, and what is told after it
-      abbrev passes : ChecksMachines (line_of r).command → (more : List Event) → After more (PassesCheck (line_of r) (parts_of r).input)
+      abbrev passes : ChecksMachines (line_of r) → (more : List Event) → After more (PassesCheck (line_of r) (parts_of r).input)
       passes checks more first built = record {
         checks = checks;
         world = w;
@@ -252,7 +264,7 @@ module _ {r : Request} (request : IsRequest r) where
           → TellsBehind (limits_in r) w k rules more → (o : Outcome)
           → o.status ≡ 0 → IsOutput w false k (parts_of r) o.output → After more (IsVerdict (line_of r) (parts_of r).input o)
       answers k asked other more behind o status output first built = is_answered (record {
-        check = passes (checks_of (line_of r).command k asked other) more first built;
+        check = passes (checks_of (line_of r) k asked other) more first built;
         behind = subst (λ (c : Content). TellsBehind (limits_in r) w c rules more) (sym asked) behind;
         status = status;
         output = subst (λ (c : Content). IsOutput w false c (parts_of r) o.output) (sym asked) output;
@@ -261,8 +273,8 @@ module _ {r : Request} (request : IsRequest r) where
       -- ---- by pieces and minimised lists
 
       module _ (prints : PrintsPieces (printed_of r)) where
-        pieces_check : ChecksMachines (line_of r).command
-        pieces_check = checks_for_pieces (line_of r).command prints
+        pieces_check : ChecksMachines (line_of r)
+        pieces_check = checks_for_pieces (line_of r) prints
 
         pub finishes_answered : IsClosed w → (old new : Option (List Event)) (result : Result Outcome AllocError)
             → (told : List Event) × MinimisingAllTells (limits_in r) w (printed_of r) rules told × GrewBy old new told
@@ -293,8 +305,8 @@ module _ {r : Request} (request : IsRequest r) where
       -- ---- by families of requirement signatures
 
       module _ (asked : printed_of r ≡ Families) where
-        families_check : ChecksMachines (line_of r).command
-        families_check = checks_of (line_of r).command Families asked (λ e. cc)
+        families_check : ChecksMachines (line_of r)
+        families_check = checks_of (line_of r) Families asked (λ e. cc)
 
         families_part : (more : List Event) → ComesSoFar (limits_in r) w more → After more (TellsPart (line_of r) (parts_of r).input)
         families_part more part first built =
@@ -355,8 +367,8 @@ module _ {r : Request} (request : IsRequest r) where
       -- ---- by the lines of calls
 
       module _ (asked : printed_of r ≡ Calls) where
-        calls_check : ChecksMachines (line_of r).command
-        calls_check = checks_of (line_of r).command Calls asked (λ e. cc)
+        calls_check : ChecksMachines (line_of r)
+        calls_check = checks_of (line_of r) Calls asked (λ e. cc)
 
         pub calls_refused : (old : Option (List Event)) (refusal : RefusalKind) {real : Type 0} (result : Result Outcome AllocError)
             → IfOk result (λ o. real × (o ≡ refused_with refusal)) → (real → RefusesSecond w (parts_of r) refusal)

@@ -1,24 +1,31 @@
 -- What each command prints.
+use Rattle.std.specs.Prelude.{◌≡◌, ℕ}
 use Rattle.swreq_words.specs.declared.command.Command.{Command}
 use Rattle.swreq_words.specs.declared.command.Command.TheVariants as command
-use Rattle.std.specs.Prelude.{◌≡◌}
+use Rattle.swreq_words.specs.declared.command.CommandLine.{CommandLine}
 use Rattle.swreq_reply.specs.declared.content.Backing.{Backing}
+use Rattle.swreq_reply.specs.declared.content.Backing.TheVariants.{Nothing, Derivation, Path}
 use Rattle.swreq_reply.specs.declared.content.Content.{Content}
 use Rattle.swreq_reply.specs.declared.content.Content.TheVariants.{Answers, Signatures, Systems, Calls, Families, Judgements}
-use Rattle.swreq_reply.specs.declared.content.Backing.TheVariants.{Nothing, Derivation, Path}
+use Rattle.swreq_reply.specs.declared.content.Made.{Made}
+use Rattle.swreq_reply.specs.declared.content.Made.TheVariants as made
 use Rattle.swreq_reply.specs.declared.content.Shown.{Shown}
 use Rattle.swreq_reply.specs.declared.content.Shown.TheVariants.{Each, Counts}
 
-abbrev pub content_of : Command → Content
-content_of command.Answer = Answers (Each Nothing)
-content_of command.Signatures = Signatures
-content_of command.Rules = Systems
-content_of (command.Gen n) = Answers (Counts n)
-content_of command.Explain = Answers (Each Derivation)
-content_of command.Verify = Judgements
-content_of command.Paths = Answers (Each Path)
-content_of command.Calls = Calls
-content_of command.Requirements = Families
+-- what the command prints, whose number is n
+abbrev pub content_by : Command → ℕ → Content
+content_by command.Answer n = Answers (Each Nothing)
+content_by command.Signatures n = Signatures
+content_by command.Rules n = Systems
+content_by command.Gen n = Answers (Counts n)
+content_by command.Explain n = Answers (Each Derivation)
+content_by command.Verify n = Judgements
+content_by command.Paths n = Answers (Each Path)
+content_by command.Calls n = Calls
+content_by command.Requirements n = Families
+
+abbrev pub content_of : CommandLine → Content
+content_of line = content_by line.command line.count
 
 -- what follows a `yes`
 abbrev pub backed_by : Shown → Backing
@@ -29,17 +36,44 @@ abbrev pub backing_of : Content → Backing
 backing_of (Answers s) = backed_by s
 backing_of _ = Nothing
 
+-- what is made of the signatures of a text, to be printed
+abbrev pub makes : Content → Made
+makes (Answers s) = made.Lines
+makes Signatures = made.Lists
+makes Systems = made.Systems
+makes Families = made.Nothing
+makes Judgements = made.Nothing
+makes Calls = made.Nothing
+
 -- Answers to queries are printed.
 abbrev pub AreAnswers : Content → Type 0
-AreAnswers c = (s : Shown) × (c ≡ Answers s)
+AreAnswers c = makes c ≡ made.Lines
 
 -- Reduced rewriting systems are printed.
 abbrev pub AreSystems : Content → Type 0
-AreSystems c = c ≡ Systems
+AreSystems c = makes c ≡ made.Systems
 
--- Pieces of machines, or minimised lists, are printed.
+-- Minimised lists are printed, after the names of their signatures.
+abbrev pub AreSignatures : Content → Type 0
+AreSignatures c = makes c ≡ made.Lists
+
+-- Requirement signatures of protocols are printed.
+abbrev pub AreFamilies : Content → Type 0
+AreFamilies c = c ≡ Families
+
+-- What the checker of derivations says is printed.
+abbrev pub AreJudgements : Content → Type 0
+AreJudgements c = c ≡ Judgements
+
+-- The lines of calls are printed.
+abbrev pub AreCalls : Content → Type 0
+AreCalls c = c ≡ Calls
+
+-- Something is made.
+abbrev pub IsSomething : Made → Type 0
+IsSomething made.Nothing = ⊥
+IsSomething _ = Unit {0}
+
+-- What is made of signatures is printed: pieces of machines, or minimised lists.
 abbrev pub PrintsPieces : Content → Type 0
-PrintsPieces Families = ⊥
-PrintsPieces Judgements = ⊥
-PrintsPieces Calls = ⊥
-PrintsPieces _ = Unit {0}
+PrintsPieces c = IsSomething (makes c)

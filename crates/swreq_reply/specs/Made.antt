@@ -5,24 +5,28 @@ use Rattle.swreq_print.specs.Names.{Text}
 use Rattle.swreq_lowering.specs.declared.ids.FuncId.{FuncId}
 use Rattle.swreq_lowering.specs.Queries.{TermQuery}
 use Rattle.swreq_world.specs.Worlds.{TextWorld, signature_at}
-use Rattle.swreq_output.specs.Signatures.{IsMinimisedLine}
-use Rattle.swreq_output.specs.Systems.{IsSystemText}
+use Rattle.swreq_query.specs.Signatures.{IsMinimisedLine}
+use Rattle.swreq_query.specs.Systems.{IsSystemText}
 use Rattle.swreq_reply.specs.declared.content.Content.{Content}
-use Rattle.swreq_reply.specs.declared.content.Content.TheVariants.{Answers, Signatures, Systems, Calls, Families, Judgements}
-use Rattle.swreq_reply.specs.Contents.{backed_by}
+use Rattle.swreq_reply.specs.declared.content.Made.{Made}
+use Rattle.swreq_reply.specs.declared.content.Made.TheVariants.{Lines, Lists, Nothing, Systems}
+use Rattle.swreq_reply.specs.declared.content.Backing.{Backing}
+use Rattle.swreq_reply.specs.Contents.{backing_of, makes}
 use Rattle.swreq_reply.specs.Outputs.{IsLineOf}
 
 -- ---- pieces at their places
 
 module _ (w : TextWorld) where
+  -- This is made at the place: the line of the query there, in which this follows a `yes`, or the system of the signature there.
+  abbrev pub IsMadeAt : Made → Backing → ℕ → Text → Type 0
+  IsMadeAt Lines b k piece = (q : TermQuery) → slice_get w.queries k ≡ Some q → IsLineOf w true b q piece
+  IsMadeAt Systems b k piece = IsSystemText w (signature_at w (record { place = k })) piece
+  IsMadeAt Lists b k piece = Unit {0}
+  IsMadeAt Nothing b k piece = Unit {0}
+
   -- This is the piece at the place.
   abbrev pub IsPiece : Content → ℕ → Text → Type 0
-  IsPiece (Answers s) k piece = (q : TermQuery) → slice_get w.queries k ≡ Some q → IsLineOf w true (backed_by s) q piece
-  IsPiece Signatures k piece = Unit {0}
-  IsPiece Systems k piece = IsSystemText w (signature_at w (record { place = k })) piece
-  IsPiece Families k piece = Unit {0}
-  IsPiece Judgements k piece = Unit {0}
-  IsPiece Calls k piece = Unit {0}
+  IsPiece c = IsMadeAt (makes c) (backing_of c)
 
 -- There are `count` places, none of them filled.
 abbrev pub AreNone : ℕ → Vec (Option Text) Global → Type 0

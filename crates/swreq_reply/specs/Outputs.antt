@@ -29,8 +29,8 @@ use Rattle.swreq_subst.specs.Calls.{TermCall}
 use Rattle.swreq_subst.specs.Lines as calls
 use Rattle.swreq_subst.specs.Refusals.{refusals}
 use Rattle.swreq_subst.specs.Saying.{SayCalls}
-use Rattle.swreq_output.specs.Signatures.{IsMinimisedLine, IsNamedLine}
-use Rattle.swreq_output.specs.Systems.{IsSystemText}
+use Rattle.swreq_query.specs.Signatures.{IsMinimisedLine, IsNamedLine}
+use Rattle.swreq_query.specs.Systems.{IsSystemText}
 use Rattle.swreq_reply.specs.declared.content.Backing.{Backing}
 use Rattle.swreq_reply.specs.declared.content.Backing.TheVariants.{Nothing, Derivation, Path}
 use Rattle.swreq_reply.specs.declared.content.Shown.TheVariants.{Each, Counts}

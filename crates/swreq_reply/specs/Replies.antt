@@ -8,8 +8,7 @@ use Rattle.swreq_rule.specs.declared.rules.Rule.{Rule}
 use Rattle.swreq_words.specs.declared.command.CommandLine.{CommandLine}
 use Rattle.swreq_world.specs.Worlds.{TextWorld}
 use Rattle.swreq_reply.specs.declared.outcome.Outcome.{Outcome}
-use Rattle.swreq_reply.specs.declared.content.Content.TheVariants.{Families}
-use Rattle.swreq_reply.specs.Contents.{content_of}
+use Rattle.swreq_reply.specs.Contents.{AreFamilies, content_of}
 use Rattle.swreq_reply.specs.Machines.{IsBuiltOver}
 use Rattle.swreq_reply.specs.Told.{CheckTells, FamiliesPartTell, MinimisingPartTells}
 use Rattle.swreq_reply.specs.Verdict.{ChecksMachines, HasWorld, IsRefused, IsVerdict, limits_of}
@@ -17,9 +16,9 @@ use Rattle.swreq_reply.specs.Verdict.{ChecksMachines, HasWorld, IsRefused, IsVer
 -- What an input may have told when memory runs out: nothing, or, of a command that checks machines, a part of what the check of its text
 -- tells, or that and a part of what is told after it.
 abbrev pub TellsPart : CommandLine → Text → List Event → Type 0
-TellsPart line input told = (told ≡ []) ⊎ (ChecksMachines line.command × ((w : TextWorld) × HasWorld line input w
-    × (CheckTells (limits_of line) w told ⊎ (MinimisingPartTells (limits_of line) w (content_of line.command) told
-    ⊎ ((content_of line.command ≡ Families) × FamiliesPartTell (limits_of line) w told)))))
+TellsPart line input told = (told ≡ []) ⊎ (ChecksMachines line × ((w : TextWorld) × HasWorld line input w
+    × (CheckTells (limits_of line) w told ⊎ (MinimisingPartTells (limits_of line) w (content_of line) told
+    ⊎ (AreFamilies (content_of line) × FamiliesPartTell (limits_of line) w told)))))
 
 -- The watcher was told what an input may have told when memory runs out.
 abbrev pub WasToldPart : CommandLine → Text → Option (List Event) → Option (List Event) → Type 0

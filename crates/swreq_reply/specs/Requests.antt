@@ -24,10 +24,10 @@ limits_in r = limits_of (line_of r)
 
 -- what is printed
 abbrev pub printed_of : Request → Content
-printed_of r = content_of (line_of r).command
+printed_of r = content_of (line_of r)
 
 -- These are the parts of the input, and the numbers of the command line are in their ranges.
 pub record IsRequest (r : Request) : Type 0 where
   pub parts : AreParts (line_of r).command (parts_of r).input (parts_of r)
   pub limits : AreInRange (limits_in r)
-  pub count : HasCount (line_of r).command
+  pub count : HasCount (line_of r)

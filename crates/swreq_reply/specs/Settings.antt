@@ -11,7 +11,7 @@ use Rattle.swreq_world.specs.Short.{IsShort}
 use Rattle.swreq_world.specs.Worlds.{IdWorld, TextWorld, signature_at}
 use Rattle.swreq_symbols.specs.Known.{IsTextOver}
 use Rattle.swreq_symbols.specs.Meaning.{facts_of}
-use Rattle.swreq_valid.specs.Machines.{AreRulesOf, IsMachineOf, MachineView, protocols_of}
+use Rattle.swreq_valid.specs.Machines.{AreRulesOf, IsMachineOf, MachineView, ProtocolsView, protocols_of}
 use Rattle.swreq_valid.specs.OfSignatures.{signature_plan, signature_sides}
 use Rattle.swreq_valid.specs.Rounds.{AreRounds, last_rules}
 use Rattle.swreq_valid.specs.Sides.{HoldsOfEach, IsValidSide}
@@ -26,10 +26,9 @@ use Rattle.swreq_lowering.specs.Queries.{TermQuery}
 use Rattle.swreq_lowering.specs.Queries.TermQuery.{AsksReduced}
 use Rattle.swreq_map.specs.Follows.{IsMapOf, MapView}
 use Rattle.swreq_print.specs.Names.{Text}
-use Rattle.swreq_explain.specs.Books.{IsBookFor}
-use Rattle.swreq_explain.specs.Grounded.{AreNamesOf}
-use Rattle.swreq_explain.specs.declared.grounds.TextNames.{TextNames}
-use Rattle.swreq_unfold.specs.declared.book.Book.{Book}
+use Rattle.swreq_explain.specs.Histories.{IsHistoryFor, IsTextHistory}
+use Rattle.swreq_explain.specs.declared.text_history.TextHistory.{TextHistory}
+use Rattle.swreq_births.specs.declared.history.History.{History}
 use Rattle.swreq_reply.specs.Contents.{backing_of}
 use Rattle.swreq_reply.specs.Made.{AreMade, IsPiece}
 use Rattle.swreq_reply.specs.Wanted.{ArePlaces, count_of, machine_asked, maker}
@@ -38,12 +37,13 @@ use Rattle.swreq_reply.specs.Wanted.{ArePlaces, count_of, machine_asked, maker}
 abbrev pub world_in : List Term → Setting → TextWorld
 world_in terms s = world_by terms s.world.now
 
--- Where derivations are printed for queries, the names are those of the text.
-abbrev pub AreNamesFor : List Term → IdWorld → Content → TextNames → Type 0
-AreNamesFor terms w content names = backing_of content ≡ Derivation → 0 < length w.queries → AreNamesOf (world_by terms w) names
+-- Where derivations are printed for queries there is what all histories of the text have in common.
+abbrev pub HasBase : List Term → IdWorld → ProtocolsView → Content → Option TextHistory → Type 0
+HasBase terms w p content None = backing_of content ≡ Derivation → 0 < length w.queries → ⊥
+HasBase terms w p content (Some base) = IsTextHistory terms w p base
 
 -- The ids are of the table, the rules are those of the protocols, whose requirements are over type parameters, each machine is asked for
--- the pieces that it makes, and the names are there where they are read.
+-- the pieces that it makes, and what the histories have in common is there where it is read.
 pub record IsReady (terms : List Term) (s : Setting) : Type 0 where
   pub text : IsTextOver terms s.world.now
   pub short : IsShort s.world.now
@@ -52,7 +52,7 @@ pub record IsReady (terms : List Term) (s : Setting) : Type 0 where
   pub rounds : AreRounds s.limits (protocols_of (world_in terms s)) s.protocols.now.rounds
   pub places : ArePlaces (maker s.world.now s.content) (length s.world.now.signatures) (count_of s.world.now s.content) s.places.now
   pub limits : AreInRange s.limits
-  pub names : AreNamesFor terms s.world.now s.content s.names.now
+  pub base : HasBase terms s.world.now s.protocols.now s.content s.base.now
 
 -- The signature is of the text, each side of its requirements is a type parameter, and this is its machine, over the rules of the
 -- protocols.
@@ -73,11 +73,10 @@ abbrev pub IsLast : List Term → Setting → Option Kept → Type 0
 IsLast terms s None = Unit {0}
 IsLast terms s (Some kept) = IsKeptFor terms s kept
 
--- Of each signature of the text the places are those of the pieces that its machine makes, and the names are there where they are read.
+-- Of each signature of the text the places are those of the pieces that its machine makes.
 pub record IsAskedOf (terms : List Term) (w : IdWorld) (a : Asked) : Type 0 where
   pub places : ArePlaces (maker w a.content) (length w.signatures) (count_of w a.content) a.places.now
   pub limits : AreInRange a.limits
-  pub names : AreNamesFor terms w a.content a.names.now
 
 -- The query is one of the text, and asks this signature.
 pub record IsQueryFor (terms : List Term) (s : Setting) (f : FuncId) (q : Query) : Type 0 where
@@ -98,15 +97,15 @@ pub record IsMapFor (s : Setting) (m : MachineView) (map : MapView) : Type 0 whe
   pub rules : IsMapOf (last_rules m.rounds) map
   pub protocols : map.protocols ≡ length s.world.now.lexicon.protocols
 
--- Where derivations are printed there is a book, and it is one for the signature.
-abbrev pub HasBook : List Term → Setting → FuncId → Option Book → Type 0
-HasBook terms s f book = backing_of s.content ≡ Derivation → (b : Book) × (book ≡ Some b) × IsBookFor (world_in terms s) f b
+-- Where derivations are printed there is a history, and it is one for the signature.
+abbrev pub HasHistory : List Term → Setting → FuncId → Option History → Type 0
+HasHistory terms s f history = backing_of s.content ≡ Derivation → (b : History) × (history ≡ Some b) × IsHistoryFor (world_in terms s) f b
 
--- The machine is that of the signature, the map is that of its rules, and there is a book where one is read.
+-- The machine is that of the signature, the map is that of its rules, and there is a history where one is read.
 pub record AreMeansFor (terms : List Term) (s : Setting) (m : Means) : Type 0 where
   pub machine : IsMachineFor terms s m.own.f m.own.machine.now
   pub map : IsMapFor s m.own.machine.now m.map.now
-  pub book : HasBook terms s m.own.f (option_copied m.book)
+  pub history : HasHistory terms s m.own.f (option_copied m.history)
 
 -- The pieces that the machines of the first `signatures` signatures make stand at their places.
 abbrev pub AreMadeIn : List Term → Setting → ℕ → List (Option Text) → Type 0

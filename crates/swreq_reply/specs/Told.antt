@@ -7,25 +7,31 @@ use Rattle.swreq_complete.specs.declared.limit.Failed.TheVariants.{Limit, Memory
 use Rattle.swreq_complete.specs.declared.limit.Limits.{Limits}
 use Rattle.swreq_watch.specs.declared.events.Event.{Event}
 use Rattle.swreq_reply.specs.declared.content.Content.{Content}
-use Rattle.swreq_reply.specs.declared.content.Content.TheVariants.{Answers, Signatures, Systems, Calls, Families, Judgements}
+use Rattle.swreq_reply.specs.declared.content.Content.TheVariants.{Calls, Families}
+use Rattle.swreq_reply.specs.declared.content.Made.{Made}
+use Rattle.swreq_reply.specs.declared.content.Made.TheVariants.{Lines, Lists, Nothing, Systems}
+use Rattle.swreq_reply.specs.Contents.{makes}
 use Rattle.swreq_lowering.specs.Queries.TermQuery.{AsksSignature}
 use Rattle.swreq_lowering.specs.Requirements.{PlacedRequirement}
 use Rattle.swreq_lowering.specs.declared.ids.FuncId.{FuncId}
 use Rattle.swreq_world.specs.Worlds.{SignatureOver, TextWorld, signature_at}
 use Rattle.swreq_valid.specs.Machines.{protocols_of}
 use Rattle.swreq_valid.specs.OfSignatures.{signature_plan}
-use Rattle.swreq_output.specs.Minimising.{MinimisingFails, MinimisingTells}
+use Rattle.swreq_query.specs.Minimising.{MinimisingFails, MinimisingTells}
 use Rattle.swreq_reqsig.specs.Told.{ComesSoFar, WasReduced}
 use Rattle.swreq_reply.specs.Machines.{IsBuiltOver, ProtocolsCome, SignatureComes}
 
--- The minimised list of the signature is wanted: for answers where a query asks for it, for the signatures of each, and otherwise of none.
+-- The minimised list of the signature is made: where lines of queries are made, if a query asks for it; where lists are made, of each; and
+-- otherwise of none.
+abbrev pub IsListMade : Made → TextWorld → SignatureOver PlacedRequirement → Type 0
+IsListMade Lines w g = (f : FuncId) × Contains w.queries (AsksSignature f) × (g ≡ signature_at w f)
+IsListMade Lists w g = Contains w.signatures g
+IsListMade Systems w g = ⊥
+IsListMade Nothing w g = ⊥
+
+-- The minimised list of the signature is wanted for this content.
 abbrev pub IsMinimisedFor : Content → TextWorld → SignatureOver PlacedRequirement → Type 0
-IsMinimisedFor (Answers b) w g = (f : FuncId) × Contains w.queries (AsksSignature f) × (g ≡ signature_at w f)
-IsMinimisedFor Signatures w g = Contains w.signatures g
-IsMinimisedFor Systems w g = ⊥
-IsMinimisedFor Families w g = ⊥
-IsMinimisedFor Judgements w g = ⊥
-IsMinimisedFor Calls w g = ⊥
+IsMinimisedFor c = IsListMade (makes c)
 
 module _ (limits : Limits) (w : TextWorld) where
   -- ---- minimising

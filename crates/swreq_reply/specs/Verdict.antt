@@ -21,8 +21,6 @@ use Rattle.swreq_complete.specs.declared.limit.Failed.{Failed}
 use Rattle.swreq_complete.specs.declared.limit.Failed.TheVariants as failed
 use Rattle.swreq_complete.specs.declared.limit.Limits.{Limits}
 use Rattle.swreq_complete.specs.declared.limit.Which.{Which}
-use Rattle.swreq_words.specs.declared.command.Command.{Command}
-use Rattle.swreq_words.specs.declared.command.Command.TheVariants as command
 use Rattle.swreq_words.specs.declared.command.CommandLine.{CommandLine}
 use Rattle.swreq_world.specs.Worlds.{TextWorld}
 use Rattle.swreq_valid.specs.declared.refused.Refused.{Refused}
@@ -33,15 +31,15 @@ use Rattle.swreq_print.specs.Names.{Text}
 use Rattle.swreq_print.specs.Refusals.{refusal_line}
 use Rattle.swreq_print.specs.Rules.{trace_text}
 use Rattle.swreq_reply.specs.declared.outcome.Outcome.{Outcome}
-use Rattle.swreq_output.specs.Ended.{IsWorldOfText}
+use Rattle.swreq_query.specs.Ended.{IsWorldOfText}
 use Rattle.swreq_parts.specs.Lines.{lines}
 use Rattle.swreq_parts.specs.Parts.{divider}
 use Rattle.swreq_reqsig.specs.Told.{IsFamilyOutcome}
 use Rattle.swreq_verify.specs.SecondParts.{IsFirstMisfit}
-use Rattle.swreq_words.specs.declared.command.Input.TheVariants.{TwoParts}
+use Rattle.swreq_words.specs.declared.command.Input.{Input}
+use Rattle.swreq_words.specs.declared.command.Input.TheVariants.{Nothing, TwoParts}
 use Rattle.swreq_words.specs.Commands.{input as reads}
-use Rattle.swreq_reply.specs.declared.content.Content.TheVariants.{Calls, Families, Judgements}
-use Rattle.swreq_reply.specs.Contents.{content_of}
+use Rattle.swreq_reply.specs.Contents.{AreCalls, AreFamilies, AreJudgements, content_of}
 use Rattle.swreq_reply.specs.Inputs.{AreParts, Parts, second_at}
 use Rattle.swreq_reply.specs.Machines as machines
 use Rattle.swreq_reply.specs.Machines.{IsBuiltOver}
@@ -53,10 +51,13 @@ use Rattle.swreq_reply.specs.Told.{MinimisingAllFails, TellsBehind}
 abbrev pub limits_of : CommandLine → Limits
 limits_of line = record { max_rules = line.max_rules; max_length = line.max_length }
 
--- The input that is answered: the generated text of `gen`, and otherwise that of the source.
-abbrev pub answered_text : Command → Text → Text
-answered_text (command.Gen n) text = generated n
-answered_text _ text = text
+-- The input that is answered: where a command reads nothing, as `gen`, the generated text of its number, and otherwise that of the source.
+abbrev pub text_for : Input → ℕ → Text → Text
+text_for Nothing n text = generated n
+text_for _ n text = text
+
+abbrev pub answered_text : CommandLine → Text → Text
+answered_text line = text_for (reads line.command) line.count
 
 -- ---- what is printed
 
@@ -111,8 +112,8 @@ pub data RefusesSecond (w : TextWorld) (p : Parts) (refusal : RefusalKind) : Typ
       → refusal ≡ name_refusal e → RefusesSecond w p refusal
 
 -- The machines of the text are checked: its derivations are not judged by the checker of derivations alone.
-abbrev pub ChecksMachines : Command → Type 0
-ChecksMachines c = content_of c ≢ Judgements
+abbrev pub ChecksMachines : CommandLine → Type 0
+ChecksMachines line = AreJudgements (content_of line) → ⊥
 
 module _ (line : CommandLine) (input : Text) where
   -- The input has a source text, of which this is a world.
@@ -123,7 +124,7 @@ module _ (line : CommandLine) (input : Text) where
 
   -- The text has a world, of which the check refuses nothing and comes to rules of the protocols. Its events are told first, and then more.
   pub record PassesCheck (told : List Event) : Type 0 where
-    pub checks : ChecksMachines line.command
+    pub checks : ChecksMachines line
     pub world : TextWorld
     pub has_world : HasWorld world
     pub rules : List Rule
@@ -145,19 +146,19 @@ module _ (line : CommandLine) (input : Text) where
         → o ≡ refused_with refusal → told ≡ [] → IsRefused o told
     -- The check of its machines refuses it: a side of a requirement is no type parameter, or a round of the protocols or of a signature
     -- passes a limit.
-    unchecked : (w : TextWorld) (cause : Refused) → ChecksMachines line.command → HasWorld w
+    unchecked : (w : TextWorld) (cause : Refused) → ChecksMachines line → HasWorld w
         → machines.IsChecked (limits_of line) w (Some cause) told → o ≡ machine_outcome line w.lexicon cause → IsRefused o told
     -- A line of the second part does not fit the queries.
-    misfit : (w : TextWorld) (n : ℕ) → content_of line.command ≡ Judgements → (has : HasWorld w)
+    misfit : (w : TextWorld) (n : ℕ) → AreJudgements (content_of line) → (has : HasWorld w)
         → IsFirstMisfit w.lexicon (length w.queries) (lines has.parts.second) n → o ≡ refused_with (refusals.DerivationSyntax n) → told ≡ []
         → IsRefused o told
     -- The rounds that are run for a requirement of a protocol pass a limit, going through the requirements of the protocols.
-    past_a_limit_of_families : (which : Which) (trace : List Rule) (c : PassesCheck told) → content_of line.command ≡ Families
+    past_a_limit_of_families : (which : Which) (trace : List Rule) (c : PassesCheck told) → AreFamilies (content_of line)
         → IsFamilyOutcome (limits_of line) c.world (Err (failed.Limit which trace)) c.more
         → o ≡ stopped_with line c.world.lexicon which trace
         → IsRefused o told
     -- The second part stands for no calls, or a name of its calls is refused. After the check nothing is told.
-    bad_calls : (refusal : RefusalKind) (c : PassesCheck told) → content_of line.command ≡ Calls
+    bad_calls : (refusal : RefusalKind) (c : PassesCheck told) → AreCalls (content_of line)
         → RefusesSecond c.world c.has_world.parts refusal
         → c.more ≡ [] → o ≡ refused_with refusal → IsRefused o told
 
@@ -165,17 +166,17 @@ module _ (line : CommandLine) (input : Text) where
     -- The text is answered, by the rules with the guard or without it: it passes the check, and the output is what the command prints.
     pub record IsAnswered (o : Outcome) (told : List Event) : Type 0 where
       pub check : PassesCheck told
-      pub behind : TellsBehind (limits_of line) check.world (content_of line.command) check.rules check.more
+      pub behind : TellsBehind (limits_of line) check.world (content_of line) check.rules check.more
       pub status : o.status ≡ 0
-      pub output : IsOutput check.world guarded (content_of line.command) check.has_world.parts o.output
+      pub output : IsOutput check.world guarded (content_of line) check.has_world.parts o.output
 
   -- The derivations in the second part are judged by the checker of derivations alone. Nothing is told.
   pub record IsJudged (o : Outcome) (told : List Event) : Type 0 where
-    pub judges : content_of line.command ≡ Judgements
+    pub judges : AreJudgements (content_of line)
     pub world : TextWorld
     pub has_world : HasWorld world
     pub status : o.status ≡ 0
-    pub output : IsOutput world false (content_of line.command) has_world.parts o.output
+    pub output : IsOutput world false (content_of line) has_world.parts o.output
     pub told_nothing : told ≡ []
 
   -- The text passes the check, and in minimising for the command a round passes a limit.
@@ -183,7 +184,7 @@ module _ (line : CommandLine) (input : Text) where
     pub check : PassesCheck told
     pub which : Which
     pub trace : List Rule
-    pub fails : MinimisingAllFails (limits_of line) check.world (content_of line.command) check.rules (failed.Limit which trace) check.more
+    pub fails : MinimisingAllFails (limits_of line) check.world (content_of line) check.rules (failed.Limit which trace) check.more
     pub outcome : o ≡ stopped_with line check.world.lexicon which trace
 
   -- A verdict, and what is told with it. The answers are by the book's rules, which have no guard.

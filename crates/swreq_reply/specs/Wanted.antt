@@ -2,19 +2,19 @@
 use Rattle.std.specs.Prelude.{◌≡◌, ◌↔◌, ℕ, ◌<◌, ◌≤◌, Bool, true, false, List, Vec, Option, Some, None, Contains, length, get_or, nat_eq, slice_get}
 use Rattle.std.specs.List.{list_any}
 use Rattle.std.specs.declared.alloc.Global.{Global}
-use Rattle.swreq_words.specs.declared.command.Command.{Command}
-use Rattle.swreq_words.specs.declared.command.Command.TheVariants as command
+use Rattle.swreq_words.specs.declared.command.CommandLine.{CommandLine}
 use Rattle.swreq_lowering.specs.declared.ids.FuncId.{FuncId}
 use Rattle.swreq_lowering.specs.declared.ids.Query.{Query}
 use Rattle.swreq_lowering.specs.declared.ids.Query.TheVariants as queries
 use Rattle.swreq_world.specs.Worlds.{IdWorld}
 use Rattle.swreq_reply.specs.declared.content.Content.{Content}
-use Rattle.swreq_reply.specs.declared.content.Content.TheVariants.{Answers, Signatures, Systems, Calls, Families, Judgements}
+use Rattle.swreq_reply.specs.declared.content.Made.{Made}
+use Rattle.swreq_reply.specs.declared.content.Made.TheVariants.{Lines, Lists, Nothing, Systems}
+use Rattle.swreq_reply.specs.Contents.{makes}
 
--- The number of `gen` is from 1 to 100.
-abbrev pub HasCount : Command → Type 0
-HasCount (command.Gen n) = (1 ≤ n) × (n ≤ 100)
-HasCount _ = Unit {0}
+-- The number of the command is from 1 to 100.
+abbrev pub HasCount : CommandLine → Type 0
+HasCount line = (1 ≤ line.count) × (line.count ≤ 100)
 
 -- the signature that a query asks
 abbrev pub function_of : Query → FuncId
@@ -39,23 +39,27 @@ machine_asked_at (Some q) = machine_asked q
 machine_asked_at None = None
 
 module _ (w : IdWorld) where
+  -- how many places machines fill where this is made
+  abbrev pub places_of : Made → ℕ
+  places_of Lines = length w.queries
+  places_of Systems = length w.signatures
+  places_of Lists = 0
+  places_of Nothing = 0
+
+  -- the signature whose machine makes what stands at this place, if one does
+  abbrev pub made_by : Made → ℕ → Option FuncId
+  made_by Lines k = machine_asked_at (slice_get w.queries k)
+  made_by Systems k = Some (record { place = k })
+  made_by Lists k = None
+  made_by Nothing k = None
+
   -- how many pieces of this content have places that machines fill
   abbrev pub count_of : Content → ℕ
-  count_of (Answers b) = length w.queries
-  count_of Signatures = 0
-  count_of Systems = length w.signatures
-  count_of Families = 0
-  count_of Judgements = 0
-  count_of Calls = 0
+  count_of c = places_of (makes c)
 
   -- the signature whose machine makes the piece at this place, if one does
   abbrev pub maker : Content → ℕ → Option FuncId
-  maker (Answers b) k = machine_asked_at (slice_get w.queries k)
-  maker Signatures k = None
-  maker Systems k = Some (record { place = k })
-  maker Families k = None
-  maker Judgements k = None
-  maker Calls k = None
+  maker c = made_by (makes c)
 
 -- Of each of the first `count` signatures, these are the places before the last one whose pieces its machine makes.
 pub record ArePlaces (made_by : ℕ → Option FuncId) (count last : ℕ) (places : List (Vec ℕ Global)) : Type 0 where
@@ -82,14 +86,16 @@ is_at k None = false
 abbrev pub is_list_asked : List Query → ℕ → Bool
 is_list_asked qs k = list_any (λ (q : Query). is_at k (list_asked q)) qs
 
--- the minimised list of the signature at this place is wanted: of each for which a query asks, of each, or of none
+-- the minimised list of the signature at this place is made: of each for which a query asks, of each, or of none
+abbrev pub is_list_made : Made → List Query → ℕ → Bool
+is_list_made Lines qs k = is_list_asked qs k
+is_list_made Lists qs k = true
+is_list_made Systems qs k = false
+is_list_made Nothing qs k = false
+
+-- and it is wanted for this content
 abbrev pub wants_list : Content → List Query → ℕ → Bool
-wants_list (Answers b) qs k = is_list_asked qs k
-wants_list Signatures qs k = true
-wants_list Systems qs k = false
-wants_list Families qs k = false
-wants_list Judgements qs k = false
-wants_list Calls qs k = false
+wants_list c = is_list_made (makes c)
 
 -- These are `count` flags, one of each place, set where it is wanted.
 pub record AreFlags (wants : ℕ → Bool) (count : ℕ) (flags : List Bool) : Type 0 where

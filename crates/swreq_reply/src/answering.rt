@@ -5,7 +5,7 @@ ghost use Rattle.swreq_derive.specs.Derivation.{Derivable};
 ghost use Rattle.swreq_derive.specs.Derivation.TermRequirement.{Conforms};
 ghost use Rattle.swreq_derive.specs.Derivation.TermStatement.{Requires};
 ghost use Rattle.swreq_derive.specs.declared.requirements.Requirement.TheVariants.{Conf};
-ghost use Rattle.swreq_explain.specs.Books.{IsBookFor};
+ghost use Rattle.swreq_explain.specs.Histories.{IsHistoryFor};
 ghost use Rattle.swreq_query.specs.Answers.Answer.{Yes};
 ghost use Rattle.swreq_query.specs.Asked.{AsksRequirement, IsRoomFor, answer_of};
 ghost use Rattle.swreq_symbols.specs.Known.{IsRequirementIn};
@@ -16,21 +16,22 @@ ghost use Rattle.swreq_lowering.specs.ByTable.{HasQueryIdsOf, query_by};
 ghost use Rattle.swreq_reply.specs.Contents.{AreAnswers, backing_of};
 ghost use Rattle.swreq_reply.specs.Made.{IsPiece};
 ghost use Rattle.swreq_reply.specs.Outputs.{AnswersByTypes, Backs, BacksYes, HasAnswer, IsDerivationText, IsLineOf, IsPathLine, signature_of};
-ghost use Rattle.swreq_reply.specs.Settings.{AreMadeIn, AreMeansFor, AsksType, HasBook, IsMachineFor, IsPlaceFor, IsQueryFor, IsReady, world_in};
+ghost use Rattle.swreq_reply.specs.Settings.{AreMadeIn, AreMeansFor, AsksType, HasHistory, IsMachineFor, IsPlaceFor, IsQueryFor, IsReady, world_in};
 
 use crate::content::{Backing, backing_of};
 use crate::setting::{Means, Own, Setting};
 use std::alloc::{AllocError, Global};
+use swreq_births::History;
 use swreq_confpath::laws::paths_have_texts;
 use swreq_confpath::{path_text, shortest};
-use swreq_explain::{book_of, explain_by};
+use swreq_explain::{explain_by, history_of};
 use swreq_lines::lines_text;
 use swreq_lowering::Query;
 use swreq_map::PropertyMap;
 use swreq_param::{ParamTable, ProtoId, TermId};
 use swreq_query::{Verdict, answer, judge};
+use swreq_symbols::Text;
 use swreq_text::{Seq, append_bytes};
-use swreq_unfold::Book;
 use swreq_valid::Scratch;
 
 /// Room for the type parameters that a query names.
@@ -73,17 +74,17 @@ fn put_path(
     append_bytes(out, b"\n")
 }
 
-/// Appends the lines of a derivation of what a query asks, which is derivable, by the book of its signature.
+/// Appends the lines of a derivation of what a query asks, which is derivable, by the history of its signature.
 fn put_derivation(
     s: &Setting<'_>,
     table: &mut ParamTable,
-    book: &Book,
+    history: &History,
     query: &Query,
     out: &mut Vec<u8>,
 ) -> Result<(), AllocError>
     requires ready { IsReady table.old s.now }
-    requires book { IsBookFor (world_in table.old s.now)
-        (signature_of (query_by table.old query.now)) book.now }
+    requires history { IsHistoryFor (world_in table.old s.now)
+        (signature_of (query_by table.old query.now)) history.now }
     requires query { Contains s.now.world.now.queries query.now }
     requires yes { HasAnswer (world_in table.old s.now) true Yes (query_by table.old query.now) }
     ensures backing { OnOk result ((text : List ℕ)
@@ -91,7 +92,7 @@ fn put_derivation(
         × (out.new.items ≡ out.old.items ++ text)) }
     ensures extends { OnOk result (Extends table.old table.new) }
 {
-    let lines = explain_by(s.alloc, s.world, table, book, query)?;
+    let lines = explain_by(s.alloc, s.world, table, history, query)?;
     lines_text(s.alloc, s.world.lexicon(), table, &lines, out)
 }
 
@@ -116,8 +117,8 @@ fn put_backing(
 {
     match backing_of(s.content) {
         Backing::Nothing => Ok(()),
-        Backing::Derivation => match means.book {
-            Some(book) => put_derivation(s, table, book, query, out),
+        Backing::Derivation => match means.history {
+            Some(history) => put_derivation(s, table, history, query, out),
             None => unreachable!(),
         },
         Backing::Path => match *query {
@@ -236,27 +237,27 @@ fn piece(
     }
 }
 
-/// The book of the machine of a signature, where derivations are printed. The text has queries.
-fn book_for(s: &Setting<'_>, table: &ParamTable, own: &Own<'_>) -> Result<Option<Book>, AllocError>
+/// The history of the machine of a signature, where derivations are printed. The text has queries.
+fn history_for<'a>(
+    s: &Setting<'a>,
+    table: &ParamTable,
+    own: &Own<'_>,
+) -> Result<Option<History<'a>>, AllocError>
     requires ready { IsReady table.now s.now }
     requires machine { IsMachineFor table.now s.now own.now.f own.now.machine.now }
     requires some { 0 < length s.now.world.now.queries }
-    ensures { IfOk result (HasBook table.now s.now own.now.f) }
+    ensures { IfOk result (HasHistory table.now s.now own.now.f) }
 {
-    match backing_of(s.content) {
-        Backing::Derivation => {
-            let book = book_of(
-                s.alloc,
-                s.world,
-                table,
-                s.names,
-                s.protocols,
-                own.machine,
-                own.f,
-            )?;
-            Ok(Some(book))
+    let text = Text {
+        world: s.world,
+        table,
+    };
+    match s.base {
+        None => Ok(None),
+        Some(base) => {
+            let history = history_of(s.alloc, &text, base, s.protocols, own.machine, own.f)?;
+            Ok(Some(history))
         }
-        Backing::Nothing | Backing::Path => Ok(None),
     }
 }
 
@@ -304,11 +305,11 @@ pub(crate) fn answer_queries(
         return Ok(());
     }
     let map = PropertyMap::build(s.alloc, own.machine.rules(), s.world.protocols())?;
-    let book = book_for(s, table, own)?;
+    let history = history_for(s, table, own)?;
     let means = Means {
         own: *own,
         map: &map,
-        book: book.as_ref(),
+        history: history.as_ref(),
     };
     for j in 0..places.len() {
         let place = places[j];

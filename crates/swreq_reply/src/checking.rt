@@ -2,13 +2,15 @@
 ghost use Rattle.std.specs.Prelude.{◌+◌, ◌<◌, length, IfOk, OnOk};
 ghost use Rattle.swreq_param.specs.Tables.{Extends};
 ghost use Rattle.swreq_symbols.specs.Known.{IsTextOver};
-ghost use Rattle.swreq_valid.specs.Rounds.{last_rules};
+ghost use Rattle.swreq_complete.specs.declared.limit.Limits.{Limits as LimitsView};
+ghost use Rattle.swreq_valid.specs.Machines.{protocols_of};
+ghost use Rattle.swreq_valid.specs.Rounds.{AreRounds, last_rules};
 ghost use Rattle.swreq_world.specs.Additions.{AddsNothing};
 ghost use Rattle.swreq_world.specs.ByTable.{world_by};
 ghost use Rattle.swreq_world.specs.Short.{IsShort};
 ghost use Rattle.swreq_reply.specs.Checks.{Checks, ChecksAll, ChecksAt, IsCheckedFor, ending};
 ghost use Rattle.swreq_reply.specs.Made.{AreNone};
-ghost use Rattle.swreq_reply.specs.Settings.{AreMadeIn, AreNamesFor, IsAskedOf, IsKeptFor, IsLast, IsMachineFor, IsReady, world_in};
+ghost use Rattle.swreq_reply.specs.Settings.{AreMadeIn, HasBase, IsAskedOf, IsKeptFor, IsLast, IsMachineFor, IsReady, world_in};
 
 use crate::content::{Backing, Content, backing_of};
 use crate::making::make_pieces;
@@ -16,7 +18,7 @@ use crate::places::count_of;
 use crate::setting::{Kept, Own, Setting};
 use std::alloc::{AllocError, Global};
 use swreq_complete::Limits;
-use swreq_explain::{TextNames, names_of_text, no_names};
+use swreq_explain::{TextHistory, text_history_of};
 use swreq_lowering::FuncId;
 use swreq_param::ParamTable;
 use swreq_symbols::Text;
@@ -40,8 +42,6 @@ pub(crate) struct Asked<'a> {
     pub content: Content,
     /// Of each signature the places of the pieces that its machine makes.
     pub places: &'a [Vec<usize>],
-    /// The names of the text where derivations are printed for queries, and else none.
-    pub names: &'a TextNames,
     pub limits: Limits,
 }
 
@@ -228,7 +228,7 @@ fn check_all<W: Watch>(
 }
 
 /// `count` places, none of them filled.
-fn no_pieces(alloc: Global, count: usize) -> Result<Vec<Option<Seq<u8>>>, AllocError>
+pub(crate) fn no_pieces(alloc: Global, count: usize) -> Result<Vec<Option<Seq<u8>>>, AllocError>
     ensures { IfOk result (AreNone count) }
 {
     let mut pieces = Vec::new(alloc);
@@ -238,23 +238,29 @@ fn no_pieces(alloc: Global, count: usize) -> Result<Vec<Option<Seq<u8>>>, AllocE
     Ok(pieces)
 }
 
-/// The names of a text where derivations are printed for queries, and else none.
-pub(crate) fn names_for(
+/// What is the same for the histories of all signatures, where derivations are printed for queries.
+fn base_for<'x>(
     alloc: Global,
-    world: &World,
-    table: &ParamTable,
+    world: &'x World,
+    table: &'x ParamTable,
+    protocols: &Protocols,
     content: Content,
-) -> Result<TextNames, AllocError>
+) -> Result<Option<TextHistory>, AllocError>
     requires text { IsTextOver table.now world.now }
     requires short { IsShort world.now }
-    ensures { IfOk result (AreNamesFor table.now world.now content) }
+    requires rounds { (limits : LimitsView) × AreRounds limits
+        (protocols_of (world_by table.now world.now)) protocols.now.rounds }
+    ensures { IfOk result (HasBase table.now world.now protocols.now content) }
 {
     if world.queries().is_empty() {
-        return Ok(no_names(alloc));
+        return Ok(None);
     }
     match backing_of(content) {
-        Backing::Derivation => names_of_text(alloc, world, table),
-        Backing::Nothing | Backing::Path => Ok(no_names(alloc)),
+        Backing::Derivation => {
+            let base = text_history_of(alloc, &Text { world, table }, protocols)?;
+            Ok(Some(base))
+        }
+        Backing::Nothing | Backing::Path => Ok(None),
     }
 }
 
@@ -278,6 +284,7 @@ pub(crate) fn check<W: Watch>(
     ensures extends { OnOk result (Extends table.old table.new) }
 {
     let protocols = Protocols::build(alloc, world, table, asked.limits, watch)?;
+    let base = base_for(alloc, world, table, &protocols, asked.content)?;
     let mut pieces = no_pieces(alloc, count_of(world, asked.content))?;
     let setting = Setting {
         alloc,
@@ -286,7 +293,7 @@ pub(crate) fn check<W: Watch>(
         limits: asked.limits,
         content: asked.content,
         places: asked.places,
-        names: asked.names,
+        base: &base,
     };
     check_all(&setting, table, watch, &mut pieces)?;
     Ok(Checked { protocols, pieces })

@@ -2,9 +2,9 @@
 ghost use Rattle.std.specs.Prelude.{◌≡◌};
 ghost use Rattle.swreq_reply.specs.declared.content.Content.TheVariants.{Answers};
 ghost use Rattle.swreq_reply.specs.declared.content.Shown.TheVariants.{Each};
-ghost use Rattle.swreq_reply.specs.Contents.{backed_by, backing_of, content_of};
+ghost use Rattle.swreq_reply.specs.Contents.{backed_by, backing_of, content_by, content_of, makes};
 
-use swreq_words::Command;
+use swreq_words::{Command, CommandLine};
 
 /// What follows a `yes`.
 #[derive(Clone, Copy, Debug, PartialEq, Eq)]
@@ -52,6 +52,33 @@ pub enum Content {
     Calls,
 }
 
+/// What is made of the signatures of a text, to be printed.
+#[derive(Clone, Copy, Debug, PartialEq, Eq)]
+pub enum Made {
+    /// A line for each query: by the machine of the signature that it asks, or by the minimised list for which it asks.
+    Lines,
+    /// The reduced rewriting system of each signature, by its machine.
+    Systems,
+    /// The minimised list of each signature.
+    Lists,
+    /// Nothing.
+    Nothing,
+}
+
+impl Content {
+    /// What is made of the signatures of a text for this content.
+    pub(crate) fn makes(self) -> Made
+        ensures { result ≡ makes self }
+    {
+        match self {
+            Content::Answers { .. } => Made::Lines,
+            Content::Systems => Made::Systems,
+            Content::Signatures => Made::Lists,
+            Content::Families | Content::Judgements | Content::Calls => Made::Nothing,
+        }
+    }
+}
+
 /// Each answer, with this after a `yes`.
 fn each(backing: Backing) -> Content
     ensures { result ≡ Answers (Each backing) }
@@ -61,14 +88,14 @@ fn each(backing: Backing) -> Content
     }
 }
 
-/// What the command prints.
-pub(crate) fn content_of(command: Command) -> Content
-    ensures { result ≡ content_of command }
+/// What the command prints, whose number is `count`.
+fn content_by(command: Command, count: u32) -> Content
+    ensures { result ≡ content_by command count }
 {
     match command {
         Command::Answer => each(Backing::Nothing),
-        Command::Gen { n } => Content::Answers {
-            shown: Shown::Counts { protocols: n },
+        Command::Gen => Content::Answers {
+            shown: Shown::Counts { protocols: count },
         },
         Command::Explain => each(Backing::Derivation),
         Command::Paths => each(Backing::Path),
@@ -78,6 +105,13 @@ pub(crate) fn content_of(command: Command) -> Content
         Command::Verify => Content::Judgements,
         Command::Calls => Content::Calls,
     }
+}
+
+/// What the command prints.
+pub(crate) fn content_of(line: &CommandLine) -> Content
+    ensures { result ≡ content_of line.now }
+{
+    content_by(line.command, line.count)
 }
 
 /// What follows a `yes` that is shown so.

@@ -4,7 +4,7 @@ ghost use Rattle.swreq_watch.specs.declared.events.Event.{Event};
 ghost use Rattle.swreq_print.specs.Names.{Text};
 ghost use Rattle.swreq_lowering.specs.Queries.{TermQuery};
 ghost use Rattle.swreq_world.specs.Worlds.{TextWorld};
-ghost use Rattle.swreq_output.specs.Ended.{IsWorldOfText};
+ghost use Rattle.swreq_query.specs.Ended.{IsWorldOfText};
 ghost use Rattle.swreq_verify.specs.declared.judging.Judgement.TheVariants.{Derived};
 ghost use Rattle.swreq_verify.specs.Judgements.{IsJudged};
 ghost use Rattle.swreq_verify.specs.SecondParts.{TermSection};
@@ -12,9 +12,7 @@ ghost use Rattle.swreq_words.specs.declared.command.Command.TheVariants.{Verify}
 ghost use Rattle.swreq_words.specs.declared.command.CommandLine.{CommandLine};
 ghost use Rattle.swreq_reply.specs.declared.outcome.Outcome.{Outcome};
 ghost use Rattle.swreq_reply.specs.declared.content.Backing.TheVariants.{Derivation};
-ghost use Rattle.swreq_reply.specs.declared.content.Shown.TheVariants.{Each};
-ghost use Rattle.swreq_reply.specs.declared.content.Content.TheVariants.{Answers};
-ghost use Rattle.swreq_reply.specs.Contents.{content_of};
+ghost use Rattle.swreq_reply.specs.Contents.{backing_of, content_of};
 ghost use Rattle.swreq_reply.specs.Explained.{IsLaidUnderYes};
 ghost use Rattle.swreq_reply.specs.Inputs.{AreParts, Parts, second_at};
 ghost use Rattle.swreq_reply.specs.Outputs.{IsDerivationText};
@@ -44,7 +42,7 @@ pub fn one_output(input: &[u8], source: &[u8], from: u32)
     requires { from ≤ length input.now }
     ensures { (line : CommandLine) (p : Parts) → AreParts line.command input.now p
         → p.source ≡ source.now → second_at p ≡ from
-        → content_of line.command ≢ Answers (Each Derivation)
+        → backing_of (content_of line) ≢ Derivation
         → (o q : Outcome) (told also : List Event) → IsVerdict line input.now o told
         → IsVerdict line input.now q also
         → o.status ≡ 0 → q.status ≡ 0 → q ≡ o }

@@ -5,11 +5,11 @@ ghost use Rattle.swreq_reply.specs.Contents.{AreSystems};
 ghost use Rattle.swreq_reply.specs.Settings.{AreMadeIn, IsMachineFor, IsReady};
 
 use crate::answering::answer_queries;
-use crate::content::Content;
+use crate::content::Made;
 use crate::setting::{Own, Setting};
 use std::alloc::AllocError;
-use swreq_output::system_text;
 use swreq_param::ParamTable;
+use swreq_query::system_text;
 use swreq_text::Seq;
 
 /// Puts the reduced rewriting system of a signature to its place.
@@ -45,9 +45,9 @@ pub(crate) fn make_pieces(
         (AreMadeIn table.old s.now (own.now.f.place + 1) pieces.new.items) }
     ensures extends { OnOk result (Extends table.old table.new) }
 {
-    match s.content {
-        Content::Answers { .. } => answer_queries(s, table, own, pieces),
-        Content::Systems => put_system(s, table, own, pieces),
-        Content::Signatures | Content::Families | Content::Judgements | Content::Calls => Ok(()),
+    match s.content.makes() {
+        Made::Lines => answer_queries(s, table, own, pieces),
+        Made::Systems => put_system(s, table, own, pieces),
+        Made::Lists | Made::Nothing => Ok(()),
     }
 }

@@ -1,8 +1,8 @@
 //! The minimised lists that a command asks for, each as its line.
 ghost use Rattle.std.specs.Prelude.{◌≡◌, ◌<◌, List, length, IfErr, IfOk, OnOk};
 ghost use Rattle.swreq_param.specs.Tables.{Extends};
-ghost use Rattle.swreq_output.specs.Minimising.{MinimisingFails, MinimisingTells};
-ghost use Rattle.swreq_output.specs.Signatures.{IsMinimisedLine};
+ghost use Rattle.swreq_query.specs.Minimising.{MinimisingFails, MinimisingTells};
+ghost use Rattle.swreq_query.specs.Signatures.{IsMinimisedLine};
 ghost use Rattle.swreq_symbols.specs.Known.{IsTextOver};
 ghost use Rattle.swreq_watch.specs.declared.events.Event.{Event};
 ghost use Rattle.swreq_watch.specs.Told.{GrewBy};
@@ -16,8 +16,8 @@ use crate::passed::{Passed, machine_of};
 use std::alloc::Global;
 use swreq_complete::{Failed, Limits};
 use swreq_lowering::FuncId;
-use swreq_output::minimised_line;
 use swreq_param::ParamTable;
+use swreq_query::minimised_line;
 use swreq_text::Seq;
 use swreq_valid::Protocols;
 use swreq_watch::Watch;

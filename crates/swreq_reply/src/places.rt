@@ -1,11 +1,12 @@
 //! By which machine each piece is made that a command prints.
-ghost use Rattle.std.specs.Prelude.{◌≡◌, ◌+◌, ◌<◌, [], All, Vec, ℕ, length, Contains, IfOk, OnOk};
+ghost use Rattle.std.specs.Prelude.{◌≡◌, ◌+◌, ◌<◌, [], All, Vec, ℕ, length, Contains, IfOk, OnOk, Option, Some};
 ghost use Rattle.std.specs.declared.alloc.Global.{Global as GlobalView};
+ghost use Rattle.swreq_lowering.specs.declared.ids.FuncId.{FuncId as FuncIdView};
 ghost use Rattle.swreq_lowering.specs.declared.ids.Query.{Query as QueryView};
 ghost use Rattle.swreq_world.specs.Short.{IsShort};
 ghost use Rattle.swreq_reply.specs.Wanted.{ArePlaces, count_of, function_of, machine_asked, maker};
 
-use crate::content::Content;
+use crate::content::{Content, Made};
 use std::alloc::{AllocError, Global};
 use swreq_lowering::{FuncId, Query};
 use swreq_world::World;
@@ -27,10 +28,10 @@ fn machine_asked(query: &Query) -> Option<FuncId>
 pub(crate) fn count_of(world: &World, content: Content) -> usize
     ensures { result ≡ count_of world.now content }
 {
-    match content {
-        Content::Answers { .. } => world.queries().len(),
-        Content::Systems => world.functions() as usize,
-        Content::Signatures | Content::Families | Content::Judgements | Content::Calls => 0,
+    match content.makes() {
+        Made::Lines => world.queries().len(),
+        Made::Systems => world.functions() as usize,
+        Made::Lists | Made::Nothing => 0,
     }
 }
 
@@ -40,15 +41,15 @@ fn maker(world: &World, content: Content, k: usize) -> Option<FuncId>
     requires short { IsShort world.now }
     ensures { result ≡ maker world.now content k }
 {
-    match content {
-        Content::Answers { .. } => machine_asked(&world.queries()[k]),
-        Content::Systems => Some(FuncId { place: k as u32 }),
-        Content::Signatures | Content::Families | Content::Judgements | Content::Calls => None,
+    match content.makes() {
+        Made::Lines => machine_asked(&world.queries()[k]),
+        Made::Systems => Some(FuncId { place: k as u32 }),
+        Made::Lists | Made::Nothing => None,
     }
 }
 
 /// `count` lists without places.
-fn no_places(alloc: Global, count: usize) -> Result<Vec<Vec<usize>>, AllocError>
+pub(crate) fn no_places(alloc: Global, count: usize) -> Result<Vec<Vec<usize>>, AllocError>
     ensures count { IfOk result (λ v. length v.items ≡ count) }
     ensures empty { IfOk result
         (λ v. All (λ (places : Vec ℕ GlobalView). places.items ≡ []) v.items) }
@@ -58,6 +59,17 @@ fn no_places(alloc: Global, count: usize) -> Result<Vec<Vec<usize>>, AllocError>
         groups.push(Vec::new(alloc))?;
     }
     Ok(groups)
+}
+
+/// Puts a place to those of this signature, whose machine makes the piece there.
+pub(crate) fn add_place(f: FuncId, k: usize, places: &mut Vec<Vec<usize>>) -> Result<(), AllocError>
+    requires f { f.place < length places.old.items }
+    ensures { OnOk result ((made_by : ℕ → Option FuncIdView) (count : ℕ) → made_by k ≡ Some f
+        → ArePlaces made_by count k places.old.items
+        → ArePlaces made_by count (k + 1) places.new.items) }
+{
+    places[f.place as usize].push(k)?;
+    Ok(())
 }
 
 /// Puts a place to those of the signature whose machine makes the piece there, if one does.
@@ -77,10 +89,7 @@ fn note(
         (k + 1) places.new.items) }
 {
     match maker(world, content, k) {
-        Some(f) => {
-            places[f.place as usize].push(k)?;
-            Ok(())
-        }
+        Some(f) => add_place(f, k, places),
         None => Ok(()),
     }
 }

@@ -2,14 +2,14 @@
 ghost use Rattle.std.specs.Prelude.{◌≡◌, ◌<◌, ◌++◌, ℕ, true, decimal, get_or, length, List, IfOk, OnOk};
 ghost use Rattle.std.specs.Bool.{Decides};
 ghost use Rattle.std.specs.List.{concat};
-ghost use Rattle.swreq_output.specs.Signatures.{IsNamedLine};
-ghost use Rattle.swreq_output.specs.Systems.{IsSystemText};
+ghost use Rattle.swreq_query.specs.Signatures.{IsNamedLine};
+ghost use Rattle.swreq_query.specs.Systems.{IsSystemText};
 ghost use Rattle.swreq_print.specs.Names.{Text};
 ghost use Rattle.swreq_query.specs.Asked.{answer_of};
 ghost use Rattle.swreq_world.specs.Worlds.{no_signature};
-ghost use Rattle.swreq_reply.specs.declared.content.Content.TheVariants.{Answers, Signatures, Systems};
-ghost use Rattle.swreq_reply.specs.declared.content.Shown.TheVariants.{Counts};
-ghost use Rattle.swreq_reply.specs.Contents.{AreAnswers, backing_of};
+ghost use Rattle.swreq_reply.specs.declared.content.Backing.TheVariants.{Nothing};
+ghost use Rattle.swreq_reply.specs.declared.content.Content.TheVariants.{Answers};
+ghost use Rattle.swreq_reply.specs.Contents.{AreAnswers, AreSignatures, AreSystems, backed_by, backing_of};
 ghost use Rattle.swreq_reply.specs.Inputs.{Parts};
 ghost use Rattle.swreq_reply.specs.Lines.{AreLinesIn, Counted};
 ghost use Rattle.swreq_reply.specs.Outputs.{AnswersLast, AreCounts, HasAnswer, IsLineOf, IsOutput, sizes_text, verdicts_text};
@@ -19,9 +19,8 @@ use crate::content::{Content, Shown};
 use crate::wanted::list_asked;
 use std::alloc::{AllocError, Global};
 use swreq_lowering::FuncId;
-use swreq_output::full_name;
 use swreq_param::ParamTable;
-use swreq_query::Verdict;
+use swreq_query::{Verdict, full_name};
 use swreq_text::{Seq, append_bytes, append_number};
 use swreq_world::World;
 
@@ -38,7 +37,7 @@ pub(crate) struct MadePieces<'a> {
 }
 
 /// The bytes of the piece at this place, or no bytes where there is no piece.
-fn text_at<'a>(pieces: &'a [Option<Seq<u8>>], k: usize) -> &'a [u8]
+pub(crate) fn text_at<'a>(pieces: &'a [Option<Seq<u8>>], k: usize) -> &'a [u8]
     requires { k < length pieces.now }
     ensures { result.now ≡ text_at pieces.now k }
 {
@@ -79,7 +78,8 @@ fn all_answers(m: &MadePieces<'_>) -> Result<Vec<u8>, AllocError>
 /// Whether the query at this place has this verdict: its line is that of no other answer.
 fn has_verdict(m: &MadePieces<'_>, k: usize, verdict: Verdict) -> bool
     requires k { k < length m.now.world.now.queries }
-    requires counts { (n : ℕ) × (m.now.content ≡ Answers (Counts n)) }
+    requires answers { AreAnswers m.now.content }
+    requires plain { backing_of m.now.content ≡ Nothing }
     requires whole { IsWhole m.now }
     ensures { Decides result
         (HasAnswer (world_of m.now) true (answer_of verdict) (query_at m.now k)) }
@@ -89,7 +89,8 @@ fn has_verdict(m: &MadePieces<'_>, k: usize, verdict: Verdict) -> bool
 
 /// How many queries have this verdict.
 fn count_of(m: &MadePieces<'_>, verdict: Verdict) -> usize
-    requires counts { (n : ℕ) × (m.now.content ≡ Answers (Counts n)) }
+    requires answers { AreAnswers m.now.content }
+    requires plain { backing_of m.now.content ≡ Nothing }
     requires whole { IsWhole m.now }
     ensures { Counted (HasAnswer (world_of m.now) true (answer_of verdict))
         (world_of m.now).queries result }
@@ -105,7 +106,8 @@ fn count_of(m: &MadePieces<'_>, verdict: Verdict) -> usize
 
 /// The answer to the last query, and nothing where there is none.
 fn last_answer<'a>(m: &MadePieces<'a>) -> &'a [u8]
-    requires counts { (n : ℕ) × (m.now.content ≡ Answers (Counts n)) }
+    requires answers { AreAnswers m.now.content }
+    requires plain { backing_of m.now.content ≡ Nothing }
     requires whole { IsWhole m.now }
     ensures { AnswersLast (world_of m.now) true (world_of m.now).queries result.now }
 {
@@ -152,7 +154,8 @@ fn put_verdicts(
 
 /// The counts of the verdicts on the queries of the generated text of n protocols, and the last answer.
 fn counts(m: &MadePieces<'_>, n: u32) -> Result<Vec<u8>, AllocError>
-    requires counts { m.now.content ≡ Answers (Counts n) }
+    requires answers { AreAnswers m.now.content }
+    requires plain { backing_of m.now.content ≡ Nothing }
     requires whole { IsWhole m.now }
     ensures { IfOk result (λ v.
         (lines : List Text) × AreCounts (world_of m.now) true n lines × (v.items ≡ concat lines)) }
@@ -169,7 +172,7 @@ fn counts(m: &MadePieces<'_>, n: u32) -> Result<Vec<u8>, AllocError>
 
 /// The reduced rewriting systems of all signatures, in written order.
 fn all_systems(m: &MadePieces<'_>) -> Result<Vec<u8>, AllocError>
-    requires systems { m.now.content ≡ Systems }
+    requires systems { AreSystems m.now.content }
     requires whole { IsWhole m.now }
     ensures { IfOk result
         (λ v. AreLinesIn (IsSystemText (world_of m.now)) (world_of m.now).signatures v.items) }
@@ -183,7 +186,7 @@ fn all_systems(m: &MadePieces<'_>) -> Result<Vec<u8>, AllocError>
 
 /// Appends the line of a signature: its name, and its minimised list.
 fn put_named(m: &MadePieces<'_>, f: FuncId, out: &mut Vec<u8>) -> Result<(), AllocError>
-    requires signatures { m.now.content ≡ Signatures }
+    requires signatures { AreSignatures m.now.content }
     requires whole { IsWhole m.now }
     requires f { f.place < length m.now.world.now.signatures }
     ensures { OnOk result ((line : Text) × IsNamedLine (world_of m.now)
@@ -197,7 +200,7 @@ fn put_named(m: &MadePieces<'_>, f: FuncId, out: &mut Vec<u8>) -> Result<(), All
 
 /// The lines of all signatures, in written order.
 fn all_signatures(m: &MadePieces<'_>) -> Result<Vec<u8>, AllocError>
-    requires signatures { m.now.content ≡ Signatures }
+    requires signatures { AreSignatures m.now.content }
     requires whole { IsWhole m.now }
     ensures { IfOk result
         (λ v. AreLinesIn (IsNamedLine (world_of m.now)) (world_of m.now).signatures v.items) }

@@ -40,14 +40,14 @@ pub(crate) fn parts_of(command: Command, input: &[u8]) -> Option<Divided<'_>>
             source: input,
             second: &[],
         }),
-        Input::TwoParts => match parts(input) {
-            None => None,
-            Some(found) => Some(Divided {
+        Input::TwoParts => {
+            let found = parts(input)?;
+            Some(Divided {
                 input,
                 source: found.first,
                 second: found.second,
-            }),
-        },
+            })
+        }
     }
 }
 

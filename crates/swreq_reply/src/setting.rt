@@ -1,11 +1,11 @@
 //! Over what the pieces that a command prints are made.
 use crate::content::Content;
 use std::alloc::Global;
+use swreq_births::History;
 use swreq_complete::Limits;
-use swreq_explain::TextNames;
+use swreq_explain::TextHistory;
 use swreq_lowering::FuncId;
 use swreq_map::PropertyMap;
-use swreq_unfold::Book;
 use swreq_valid::{Machine, Protocols};
 use swreq_world::World;
 
@@ -21,8 +21,8 @@ pub(crate) struct Setting<'a> {
     pub content: Content,
     /// Of each signature the places of the pieces that its machine makes.
     pub places: &'a [Vec<usize>],
-    /// The names of the text where derivations are printed for queries, and else none.
-    pub names: &'a TextNames,
+    /// What is the same for the histories of all signatures, where derivations are printed for queries.
+    pub base: &'a Option<TextHistory>,
 }
 
 /// A signature with its machine.
@@ -45,6 +45,6 @@ pub(crate) struct Means<'a> {
     pub own: Own<'a>,
     /// The map of the machine's rules.
     pub map: &'a PropertyMap,
-    /// The book of the machine, where derivations are printed.
-    pub book: Option<&'a Book>,
+    /// The history of the machine, where derivations are printed.
+    pub history: Option<&'a History<'a>>,
 }

@@ -2,7 +2,7 @@
 ghost use Rattle.std.specs.Prelude.{◌≡◌, ◌<◌, length, Contains, IfOk};
 ghost use Rattle.swreq_reply.specs.Wanted.{AreFlags, function_of, is_list_asked, list_asked, wants_list};
 
-use crate::content::Content;
+use crate::content::{Content, Made};
 use std::alloc::{AllocError, Global};
 use swreq_lowering::{FuncId, Query};
 use swreq_world::World;
@@ -64,11 +64,9 @@ pub(crate) fn lists_wanted(
     ensures { IfOk result (λ v.
         AreFlags (wants_list content world.now.queries) (length world.now.signatures) v.items) }
 {
-    match content {
-        Content::Answers { .. } => lists_asked(alloc, world),
-        Content::Signatures => flags(alloc, world.functions() as usize, true),
-        Content::Systems | Content::Families | Content::Judgements | Content::Calls => {
-            flags(alloc, world.functions() as usize, false)
-        }
+    match content.makes() {
+        Made::Lines => lists_asked(alloc, world),
+        Made::Lists => flags(alloc, world.functions() as usize, true),
+        Made::Systems | Made::Nothing => flags(alloc, world.functions() as usize, false),
     }
 }

@@ -4,7 +4,6 @@ ghost use Rattle.swreq_derive.specs.Derivation.{Derivable};
 ghost use Rattle.swreq_derive.specs.Derivation.Source.{SelfOf};
 ghost use Rattle.swreq_derive.specs.Derivation.TermStatement.{Requires};
 ghost use Rattle.swreq_derive.specs.Facts.{requirement_of};
-ghost use Rattle.swreq_symbols.specs.Vanishing.{IsLeastBy, Links};
 ghost use Rattle.swreq_valid.specs.Keeping.{kept_facts};
 ghost use Rattle.swreq_reqsig.specs.Families.{AreRulesOfKept};
 ghost use Rattle.swreq_reqsig.specs.Places.{IsPlaceIn};
@@ -13,34 +12,8 @@ ghost use Rattle.swreq_reqsig.specs.Settings.{IsSetting, text_in};
 use crate::places::Place;
 use crate::setting::Setting;
 use std::alloc::{AllocError, Global};
-use swreq_complete::CompleteRules;
 use swreq_symbols::equation;
-use swreq_valid::Protocols;
-use swreq_word::{Symbol, Word, are_same};
-
-/// The least word that the rules link to a word.
-fn least(alloc: Global, rules: &CompleteRules<'_>, word: &Word) -> Result<Vec<Symbol>, AllocError>
-    ensures linked { IfOk result (λ v. Links rules.now word.now v.items) }
-    ensures least { IfOk result (λ v. IsLeastBy rules.now v.items) }
-{
-    let mut least = Vec::from_slice(alloc, word.symbols())?;
-    rules.reduce(&mut least);
-    Ok(least)
-}
-
-/// Whether the rules link two words.
-fn are_linked(
-    alloc: Global,
-    rules: &CompleteRules<'_>,
-    u: &Word,
-    v: &Word,
-) -> Result<bool, AllocError>
-    ensures { IfOk result (λ b. IsTrue b ↔ Links rules.now u.now v.now) }
-{
-    let left = least(alloc, rules, u)?;
-    let right = least(alloc, rules, v)?;
-    Ok(are_same(&left, &right))
-}
+use swreq_valid::{Protocols, are_linked};
 
 /// Whether a requirement of a protocol is derivable by the kept requirements of which the rules were made: whether it is usable by them,
 /// and the rules link the two sides of its equation.

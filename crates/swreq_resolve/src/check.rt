@@ -20,33 +20,37 @@ pub enum FirstWords<'a> {
     Signature(Signature),
 }
 
-fn begins_in_protocol(d: &Declared, inherits: &Closure, i: usize, name: &[u8]) -> bool
-    ensures { result ≡ begins_in_protocol d.now (leads inherits.now) i name.now }
+fn begins_in_protocol(declared: &Declared, inherits: &Closure, place: usize, name: &[u8]) -> bool
+    ensures { result ≡ begins_in_protocol declared.now (leads inherits.now) place name.now }
 {
-    b"Self".as_slice() == name || has_member(d, inherits, i, name)
+    b"Self".as_slice() == name || has_member(declared, inherits, place, name)
 }
 
-fn begins_in_signature(d: &Declared, signature: Signature, name: &[u8]) -> bool
-    ensures { result ≡ begins_in_signature d.now signature name.now }
+fn begins_in_signature(declared: &Declared, signature: Signature, name: &[u8]) -> bool
+    ensures { result ≡ begins_in_signature declared.now signature name.now }
 {
-    d.param_of(signature, name).is_some()
+    declared.param_of(signature, name).is_some()
 }
 
 /// Whether a type may begin with this name.
-fn begins(d: &Declared, first_words: FirstWords<'_>, name: &[u8]) -> bool
-    ensures { result ≡ begins d.now first_words.entry name.now }
+fn begins(declared: &Declared, first_words: FirstWords<'_>, name: &[u8]) -> bool
+    ensures { result ≡ begins declared.now first_words.entry name.now }
 {
     match first_words {
-        FirstWords::Protocol(inherits, i) => begins_in_protocol(d, inherits, i, name),
-        FirstWords::Signature(signature) => begins_in_signature(d, signature, name),
+        FirstWords::Protocol(inherits, i) => begins_in_protocol(declared, inherits, i, name),
+        FirstWords::Signature(signature) => begins_in_signature(declared, signature, name),
     }
 }
 
-fn check_declaration(space: &Directory, d: &Declaration, best: Option<Refusal>) -> Option<Refusal>
-    ensures { result ≡ least best (duplicate_of space.now d.now) }
+fn check_declaration(
+    space: &Directory,
+    declaration: &Declaration,
+    best: Option<Refusal>,
+) -> Option<Refusal>
+    ensures { result ≡ least best (duplicate_of space.now declaration.now) }
 {
-    let again = space.has_before(d.name.items(), d.at);
-    noted(best, again, Fault::Duplicate, d.at)
+    let again = space.has_before(declaration.name.items(), declaration.at);
+    noted(best, again, Fault::Duplicate, declaration.at)
 }
 
 /// Checks for names that a list of their space has before them.
@@ -63,26 +67,26 @@ pub fn check_duplicates(
 }
 
 /// Whether a protocol may have this number of arguments.
-fn has_arity(d: &Declared, protocol: usize, count: usize) -> bool
-    ensures { result ≡ has_arity d.now protocol count }
+fn has_arity(declared: &Declared, protocol: usize, count: usize) -> bool
+    ensures { result ≡ has_arity declared.now protocol count }
 {
-    count == 0 || count == d.primaries(protocol).items().len()
+    count == 0 || count == declared.primaries(protocol).items().len()
 }
 
 /// Checks the name of a protocol, with the number of its arguments.
 fn check_protocol_name(
     text: &[u8],
-    d: &Declared,
+    declared: &Declared,
     span: Span,
     count: usize,
     best: Option<Refusal>,
 ) -> Option<Refusal>
-    ensures { result
-        ≡ least best (of_protocol_name d.now span count (protocol_of d.now (word text.now span))) }
+    ensures { result ≡ least best
+        (of_protocol_name declared.now span count (protocol_of declared.now (word text.now span))) }
 {
-    match d.protocol_of(word(text, span)) {
+    match declared.protocol_of(word(text, span)) {
         Some(protocol) => {
-            let wrong = !has_arity(d, protocol, count);
+            let wrong = !has_arity(declared, protocol, count);
             noted(best, wrong, Fault::WrongArity, span.start)
         }
         None => noted(best, true, Fault::NotAProtocol, span.start),
@@ -92,148 +96,164 @@ fn check_protocol_name(
 /// Checks the names in `.[P]A`.
 fn check_bound(
     text: &[u8],
-    d: &Declared,
+    declared: &Declared,
     proto: Span,
     name: Span,
     best: Option<Refusal>,
 ) -> Option<Refusal>
     ensures { result ≡ least best
-        (of_bound text.now d.now proto name (protocol_of d.now (word text.now proto))) }
+        (of_bound text.now declared.now proto name
+        (protocol_of declared.now (word text.now proto))) }
 {
-    match d.protocol_of(word(text, proto)) {
+    match declared.protocol_of(word(text, proto)) {
         Some(protocol) => {
-            let lacking = !d.declares(protocol, word(text, name));
+            let lacking = !declared.declares(protocol, word(text, name));
             noted(best, lacking, Fault::NoSuchMember, name.start)
         }
         None => noted(best, true, Fault::NotAProtocol, proto.start),
     }
 }
 
-fn check_step(text: &[u8], d: &Declared, s: &StepDecl, best: Option<Refusal>) -> Option<Refusal>
-    ensures { result ≡ least best (of_step text.now d.now s.now) }
+fn check_step(
+    text: &[u8],
+    declared: &Declared,
+    step: &StepDecl,
+    best: Option<Refusal>,
+) -> Option<Refusal>
+    ensures { result ≡ least best (of_step text.now declared.now step.now) }
 {
-    match s {
+    match step {
         StepDecl::Plain { .. } => best,
-        StepDecl::Bound { proto, name } => check_bound(text, d, *proto, *name, best),
+        StepDecl::Bound { proto, name } => check_bound(text, declared, *proto, *name, best),
     }
 }
 
 fn check_steps(
     text: &[u8],
-    d: &Declared,
+    declared: &Declared,
     steps: &[StepDecl],
     best: Option<Refusal>,
 ) -> Option<Refusal>
-    ensures { result ≡ walk (of_step text.now d.now) best steps.now }
+    ensures { result ≡ walk (of_step text.now declared.now) best steps.now }
 {
-    steps.iter().fold(best, |b, s| check_step(text, d, s, b))
+    steps
+        .iter()
+        .fold(best, |b, s| check_step(text, declared, s, b))
 }
 
 #[tactic(auto, using(crate::proofs::Walks::walked, crate::proofs::Walks::least_both))]
 pub fn check_type(
     text: &[u8],
-    d: &Declared,
+    declared: &Declared,
     first_words: FirstWords<'_>,
-    t: &TypeDecl,
+    written_type: &TypeDecl,
     best: Option<Refusal>,
 ) -> Option<Refusal>
-    ensures { result ≡ least best (of_type text.now d.now (begins d.now first_words.entry) t.now) }
+    ensures { result ≡ least best
+        (of_type text.now declared.now (begins declared.now first_words.entry) written_type.now) }
 {
-    let outside = !begins(d, first_words, word(text, t.head));
-    let best = noted(best, outside, Fault::ConcreteType, t.head.start);
-    check_steps(text, d, t.steps.items(), best)
+    let outside = !begins(declared, first_words, word(text, written_type.head));
+    let best = noted(best, outside, Fault::ConcreteType, written_type.head.start);
+    check_steps(text, declared, written_type.steps.items(), best)
 }
 
 fn check_types(
     text: &[u8],
-    d: &Declared,
+    declared: &Declared,
     first_words: FirstWords<'_>,
     types: &[TypeDecl],
     best: Option<Refusal>,
 ) -> Option<Refusal>
-    ensures { result
-        ≡ walk (of_type text.now d.now (begins d.now first_words.entry)) best types.now }
+    ensures { result ≡ walk
+        (of_type text.now declared.now (begins declared.now first_words.entry)) best types.now }
 {
     types
         .iter()
-        .fold(best, |b, t| check_type(text, d, first_words, t, b))
+        .fold(best, |b, t| check_type(text, declared, first_words, t, b))
 }
 
 /// Checks what stands for a protocol, without its arguments.
-fn check_named(text: &[u8], d: &Declared, e: &Entity, best: Option<Refusal>) -> Option<Refusal>
-    ensures { result ≡ least best (of_named text.now d.now e.now) }
+fn check_named(
+    text: &[u8],
+    declared: &Declared,
+    entity: &Entity,
+    best: Option<Refusal>,
+) -> Option<Refusal>
+    ensures { result ≡ least best (of_named text.now declared.now entity.now) }
 {
-    if e.layout {
+    if entity.layout {
         best
     } else {
-        check_protocol_name(text, d, e.span, e.args.items().len(), best)
+        check_protocol_name(text, declared, entity.span, entity.args.items().len(), best)
     }
 }
 
 #[tactic(auto, using(crate::proofs::Walks::walked, crate::proofs::Walks::least_both))]
 pub fn check_entity(
     text: &[u8],
-    d: &Declared,
+    declared: &Declared,
     first_words: FirstWords<'_>,
-    e: &Entity,
+    entity: &Entity,
     best: Option<Refusal>,
 ) -> Option<Refusal>
-    ensures { result
-        ≡ least best (of_entity text.now d.now (begins d.now first_words.entry) e.now) }
+    ensures { result ≡ least best
+        (of_entity text.now declared.now (begins declared.now first_words.entry) entity.now) }
 {
-    let best = check_named(text, d, e, best);
-    check_types(text, d, first_words, e.args.items(), best)
+    let best = check_named(text, declared, entity, best);
+    check_types(text, declared, first_words, entity.args.items(), best)
 }
 
 pub fn check_entities(
     text: &[u8],
-    d: &Declared,
+    declared: &Declared,
     first_words: FirstWords<'_>,
     entities: &[Entity],
     best: Option<Refusal>,
 ) -> Option<Refusal>
-    ensures { result
-        ≡ walk (of_entity text.now d.now (begins d.now first_words.entry)) best entities.now }
+    ensures { result ≡ walk
+        (of_entity text.now declared.now (begins declared.now first_words.entry))
+        best entities.now }
 {
-    entities
-        .iter()
-        .fold(best, |b, e| check_entity(text, d, first_words, e, b))
+    entities.iter().fold(best, |b, e| check_entity(text, declared, first_words, e, b))
 }
 
 #[tactic(auto, using(crate::proofs::Walks::walked, crate::proofs::Walks::least_both))]
 fn check_requirement(
     text: &[u8],
-    d: &Declared,
+    declared: &Declared,
     first_words: FirstWords<'_>,
-    r: &ReqDecl,
+    requirement: &ReqDecl,
     best: Option<Refusal>,
 ) -> Option<Refusal>
-    ensures { result
-        ≡ least best (of_requirement text.now d.now (begins d.now first_words.entry) r.now) }
+    ensures { result ≡ least best
+        (of_requirement text.now declared.now
+        (begins declared.now first_words.entry) requirement.now) }
 {
-    match r {
+    match requirement {
         ReqDecl::Bound { subject, bounds } => {
-            let best = check_type(text, d, first_words, subject, best);
-            check_entities(text, d, first_words, bounds.items(), best)
+            let best = check_type(text, declared, first_words, subject, best);
+            check_entities(text, declared, first_words, bounds.items(), best)
         }
         ReqDecl::Same { left, right } => {
-            let best = check_type(text, d, first_words, left, best);
-            check_type(text, d, first_words, right, best)
+            let best = check_type(text, declared, first_words, left, best);
+            check_type(text, declared, first_words, right, best)
         }
     }
 }
 
 pub fn check_requirements(
     text: &[u8],
-    d: &Declared,
+    declared: &Declared,
     first_words: FirstWords<'_>,
     clause: &[ReqDecl],
     best: Option<Refusal>,
 ) -> Option<Refusal>
-    ensures { result
-        ≡ walk (of_requirement text.now d.now (begins d.now first_words.entry)) best clause.now }
+    ensures { result ≡ walk
+        (of_requirement text.now declared.now (begins declared.now first_words.entry))
+        best clause.now }
 {
-    clause
-        .iter()
-        .fold(best, |b, r| check_requirement(text, d, first_words, r, b))
+    clause.iter().fold(
+        best,
+        |b, r| check_requirement(text, declared, first_words, r, b),
+    )
 }

@@ -19,13 +19,11 @@ fn first_loop(inherits: &Closure, count: usize) -> Option<usize>
 }
 
 /// Where the first protocol that inherits itself has its name, if there is one.
-pub fn cycle_of(s: &Skeleton, inherits: &Closure) -> Option<u32>
-    ensures { MatchOption result (HasNoLoop inherits.now (length s.now.protocols))
-        (IsLoopAt inherits.now s.now) }
+pub fn cycle_of(skeleton: &Skeleton, inherits: &Closure) -> Option<u32>
+    ensures { MatchOption result (HasNoLoop inherits.now (length skeleton.now.protocols))
+        (IsLoopAt inherits.now skeleton.now) }
 {
-    let protocols = s.protocols.items();
-    match first_loop(inherits, protocols.len()) {
-        Some(i) => Some(protocols[i].name.start),
-        None => None,
-    }
+    let protocols = skeleton.protocols.items();
+    let place = first_loop(inherits, protocols.len())?;
+    Some(protocols[place].name.start)
 }

@@ -102,16 +102,16 @@ impl Refusal {
 }
 
 /// The error that says this of a name.
-pub fn error_of(r: Refusal) -> NameErr
-    ensures { result ≡ error_of r }
+pub fn error_of(refusal: Refusal) -> NameErr
+    ensures { result ≡ error_of refusal }
 {
-    match r.fault {
-        Fault::Duplicate => NameErr::Duplicate { at: r.at },
-        Fault::NotAProtocol => NameErr::NotAProtocol { at: r.at },
-        Fault::ConcreteType => NameErr::ConcreteType { at: r.at },
-        Fault::NoSuchMember => NameErr::NoSuchMember { at: r.at },
-        Fault::UnknownSignature => NameErr::UnknownSignature { at: r.at },
-        Fault::WrongArity => NameErr::WrongArity { at: r.at },
+    match refusal.fault {
+        Fault::Duplicate => NameErr::Duplicate { at: refusal.at },
+        Fault::NotAProtocol => NameErr::NotAProtocol { at: refusal.at },
+        Fault::ConcreteType => NameErr::ConcreteType { at: refusal.at },
+        Fault::NoSuchMember => NameErr::NoSuchMember { at: refusal.at },
+        Fault::UnknownSignature => NameErr::UnknownSignature { at: refusal.at },
+        Fault::WrongArity => NameErr::WrongArity { at: refusal.at },
     }
 }
 

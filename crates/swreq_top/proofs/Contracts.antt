@@ -66,7 +66,7 @@ module _ (r : Run) where
 
   -- where each verdict on the text has this status, the run has it, unless memory ran out
   module _ (sound : NothingFailed r) (n : ℕ) (line : CommandLine) (text : Text) (says : Says r.words line)
-      (known : known_text line.command r.before.left ≡ Some text)
+      (known : known_text line r.before.left ≡ Some text)
       (of_verdict : (o : Outcome) → IsToldVerdict line text r.before.told r.after.told o → IsOnlyRefusal line text o → o.status ≡ n) where
     status_printed : {status : ℕ} {bytes : Text} → HasToPrint r status bytes → (status ≡ n) ⊎ (status ≡ 6)
     status_printed {status} {bytes} (verdict other also has unread) =

@@ -11,19 +11,19 @@ use Rattle.swreq_print.specs.declared.refusal.RefusalKind.TheVariants as refusal
 use Rattle.swreq_watch.specs.declared.events.Event.{Event}
 use Rattle.swreq_watch.specs.Told.{GrewBy}
 use Rattle.swreq_words.specs.Form.{Says}
-use Rattle.swreq_words.specs.declared.command.Command.{Command}
-use Rattle.swreq_words.specs.declared.command.Command.TheVariants as command
 use Rattle.swreq_words.specs.declared.command.CommandLine.{CommandLine}
+use Rattle.swreq_words.specs.declared.command.Input.{Input}
+use Rattle.swreq_words.specs.declared.command.Input.TheVariants.{Nothing}
+use Rattle.swreq_words.specs.Commands.{input as reads}
 use Rattle.swreq_words.proofs.Lines.{one_line}
 use Rattle.swreq_reply.specs.declared.outcome.Outcome.{Outcome}
 use Rattle.swreq_reply.specs.Replies.{IsOnlyRefusal, IsToldVerdict, WasToldPart}
-use Rattle.swreq_reply.specs.Verdict.{IsVerdict, answered_text, refused_with}
+use Rattle.swreq_reply.specs.Verdict.{IsVerdict, answered_text, refused_with, text_for}
 use Rattle.swreq_reply.specs.Verdict.IsRefused.{too_long}
 use Rattle.swreq_reply.specs.Verdict.IsVerdict.{answered as is_answered, cut_short as is_cut_short, judged as is_judged, refused as is_refused}
-use Rattle.swreq_reply.specs.Wanted.{HasCount}
 use Rattle.swreq_reply.proofs.OneOutput.{refused_status}
 use Rattle.swreq_reply.proofs.OneRefusal.{long_refused}
-use Rattle.swreq_top.specs.Run.{AreWrong, HasToPrint, HasToldPart, HoldsOfText, IsEnd, IsGen, IsOfVerdict, IsRead, LeavesSource, NoReadFailed, ReadFailed, Run, SayGen, Tells, known_text}
+use Rattle.swreq_top.specs.Run.{AreWrong, HasToPrint, HasToldPart, HoldsOfText, IsEnd, ReadsNothing, IsOfVerdict, IsRead, Leaves, NoReadFailed, ReadFailed, Run, ReadNothing, Tells, known_for, known_text}
 use Rattle.swreq_top.specs.Run.HasToPrint.{no_memory, read_fault, verdict}
 use Rattle.swreq_top.specs.Run.IsEnd.{cut_off, printed}
 use Rattle.swreq_top.specs.Steps.{Answers, AnswersText, IsFinished}
@@ -61,29 +61,31 @@ read_long (Some all) None came = absurd came.1
 read_long (Some all) (Some rest) came = omega (arith, ap length came.1, length-append came.0 rest, came.2)
 
 -- a command that reads a source knows its text where the source tells it, and leaves what is left of what was read
-reads_source : (c : Command) (left rest : Option Text) (P : Text → Type 0) → (IsGen c → ⊥) → IsRead left rest → IfSome left P
-    → LeavesSource c left rest × IfSome (known_text c left) P
-reads_source (command.Gen n) left rest P reads read h = absurd (reads (n, refl))
-reads_source _ left rest P reads read h = (read, h)
+reads_source : (i : Input) (n : ℕ) (left rest : Option Text) (P : Text → Type 0) → (i ≡ Nothing → ⊥) → IsRead left rest → IfSome left P
+    → Leaves i left rest × IfSome (known_for i n left) P
+reads_source Nothing n left rest P some read h = absurd (some refl)
+reads_source _ n left rest P some read h = (read, h)
 
--- what holds of the text that a command answers holds of the text that it knows: `gen` knows its own, and the others that of the source
-knows_answered : (c : Command) (left rest : Option Text) (text : Text) (P : Text → Type 0) → (IsGen c → rest ≡ left)
-    → ((IsGen c → ⊥) → IsRead left rest × IfSome left (λ all. all ≡ text)) → P (answered_text c text)
-    → LeavesSource c left rest × IfSome (known_text c left) P
-knows_answered (command.Gen n) left rest text P unread read h = (unread (n, refl), h)
-knows_answered _ left rest text P unread read h =
-    let had = read (λ gen. (cc gen.1)) in (had.0, IfSome_then left had.1 (λ all e. subst P (sym e) h))
+-- what holds of the text that a command answers holds of the text that it knows: one that reads nothing knows its own, and the others that
+-- of the source
+knows_answered : (i : Input) (n : ℕ) (left rest : Option Text) (text : Text) (P : Text → Type 0) → (i ≡ Nothing → rest ≡ left)
+    → ((i ≡ Nothing → ⊥) → IsRead left rest × IfSome left (λ all. all ≡ text)) → P (text_for i n text)
+    → Leaves i left rest × IfSome (known_for i n left) P
+knows_answered Nothing n left rest text P unread read h = (unread refl, h)
+knows_answered _ n left rest text P unread read h =
+    let had = read (λ nothing. cc) in (had.0, IfSome_then left had.1 (λ all e. subst P (sym e) h))
 
 -- what is answered of a text
 pub answers_text : (line : CommandLine) (left rest : Option Text) (old new : Option (List Event)) (text : Text)
-    → (IsGen line.command → rest ≡ left) → ((IsGen line.command → ⊥) → IsRead left rest × IfSome left (λ all. all ≡ text))
-    → (result : Result Outcome ReadErr) → AnswersText line (answered_text line.command text) old new result
+    → (ReadsNothing line.command → rest ≡ left) → ((ReadsNothing line.command → ⊥) → IsRead left rest × IfSome left (λ all. all ≡ text))
+    → (result : Result Outcome ReadErr) → AnswersText line (answered_text line text) old new result
     → Answers line left rest old new result
 answers_text line left rest old new text unread read (Ok o) h =
-    let said = knows_answered line.command left rest text (λ t. IsToldVerdict line t old new o × IsOnlyRefusal line t o) unread read h in
-    (said.0, said.1, verdict_status line (answered_text line.command text) o h.0.0 h.0.1)
+    let said = knows_answered (reads line.command) line.count left rest text
+    (λ t. IsToldVerdict line t old new o × IsOnlyRefusal line t o) unread read h in
+    (said.0, said.1, verdict_status line (answered_text line text) o h.0.0 h.0.1)
 answers_text line left rest old new text unread read (Err Memory) h =
-    (knows_answered line.command left rest text (λ t. WasToldPart line t old new) unread read h).1
+    (knows_answered (reads line.command) line.count left rest text (λ t. WasToldPart line t old new) unread read h).1
 answers_text line left rest old new text unread read _ h = absurd h
 
 -- ---- what there is to print
@@ -92,7 +94,7 @@ module _ (r : Run) where
   -- where nothing was told, a part was told
   pub nothing_told : Tells r [] → HasToldPart r
   nothing_told untold = record {
-    part = λ line says. told_nothing line (known_text line.command r.before.left) r.before.told r.after.told untold;
+    part = λ line says. told_nothing line (known_text line r.before.left) r.before.told r.after.told untold;
     untold = λ wrong. untold;
   }
 
@@ -109,19 +111,19 @@ module _ (r : Run) where
     for_verdict o (leaves, answers, status) unread = verdict line says (record {
       status = status;
       source = leaves;
-      verdict = IfSome_then (known_text line.command r.before.left) answers (λ text k. k.0);
-      refusal = IfSome_then (known_text line.command r.before.left) answers (λ text k. k.1);
+      verdict = IfSome_then (known_text line r.before.left) answers (λ text k. k.0);
+      refusal = IfSome_then (known_text line r.before.left) answers (λ text k. k.1);
     }) unread
 
     pub to_print : (result : Result Outcome ReadErr) → Answers line r.before.left r.after.left r.before.told r.after.told result
         → (result ≡ Err Fault → ReadFailed r) → (result ≡ Err Fault) ⊎ NoReadFailed r → PrintsAnswer result
-    to_print (Err Fault) (reads, grew) failed unread = read_fault line says reads grew (failed refl)
+    to_print (Err Fault) (some, grew) failed unread = read_fault line says some grew (failed refl)
     to_print (Ok o) answers failed (inr unread) = for_verdict o answers unread
-    to_print (Err TooLarge) (came, reads, grew) failed (inr unread) =
+    to_print (Err TooLarge) (came, some, grew) failed (inr unread) =
         let o : Outcome = refused_with refusals.TooLarge in
         let long = read_long r.before.left r.after.left came in
-        let said = reads_source line.command r.before.left r.after.left
-        (λ text. IsToldVerdict line text r.before.told r.after.told o × IsOnlyRefusal line text o) reads
+        let said = reads_source (reads line.command) line.count r.before.left r.after.left
+        (λ text. IsToldVerdict line text r.before.told r.after.told o × IsOnlyRefusal line text o) some
         (IfSome_then r.before.left long (λ all l. inr (l, came)))
         (IfSome_then r.before.left long
         (λ all l. (([], is_refused (too_long l refl refl), grew), λ p told refused. sym (long_refused line all l refused)))) in
@@ -143,14 +145,9 @@ module _ (r : Run) where
 
 -- ---- words
 
--- what follows where a line says `gen` follows where the words are wrong or say `gen`
-pub gen_said : {A : Type 0} (words : List Text) (line : CommandLine) → Says words line → (IsGen line.command → A)
-    → AreWrong words ⊎ SayGen words → A
-gen_said words line says by (inl wrong) = absurd (wrong line says)
-gen_said words line says by (inr (other, also, gen)) =
-    by (subst (λ (l : CommandLine). IsGen l.command) (one_line words other line also says) gen)
-
--- the number of `gen` is in its range
-pub has_count : (c : Command) → ((n : ℕ) → c ≡ command.Gen n → (1 ≤ n) × (n ≤ 100)) → HasCount c
-has_count (command.Gen n) within = within n refl
-has_count _ within = tt
+-- what follows where a line says to read nothing follows where the words are wrong or say so
+pub nothing_said : {A : Type 0} (words : List Text) (line : CommandLine) → Says words line → (ReadsNothing line.command → A)
+    → AreWrong words ⊎ ReadNothing words → A
+nothing_said words line says by (inl wrong) = absurd (wrong line says)
+nothing_said words line says by (inr (other, also, none)) =
+    by (subst (λ (l : CommandLine). ReadsNothing l.command) (one_line words other line also says) none)

@@ -31,9 +31,8 @@ use Rattle.swreq_print.specs.declared.refusal.RefusalKind.TheVariants as refusal
 use Rattle.swreq_valid.specs.declared.refused.Refused.{Refused}
 use Rattle.swreq_valid.specs.declared.refused.Refused.TheVariants.{Limit, NotATypeParameter, Memory}
 use Rattle.swreq_valid.specs.Machines.{protocols_of}
-use Rattle.swreq_words.specs.declared.command.Command.{Command}
-use Rattle.swreq_words.specs.declared.command.Command.TheVariants as command
 use Rattle.swreq_words.specs.declared.command.CommandLine.{CommandLine}
+use Rattle.swreq_words.specs.declared.command.Input.{Input}
 use Rattle.swreq_words.specs.declared.command.Input.TheVariants.{OnePart}
 use Rattle.swreq_words.specs.Commands.{input as reads}
 use Rattle.swreq_world.specs.WorldOf.{IsWorldOf}
@@ -41,18 +40,19 @@ use Rattle.swreq_world.specs.Worlds.{SignatureOver, TextWorld}
 use Rattle.swreq_lowering.specs.Queries.TermQuery.{AsksSignature}
 use Rattle.swreq_lowering.specs.Requirements.{PlacedRequirement}
 use Rattle.swreq_reply.specs.declared.outcome.Outcome.{Outcome}
-use Rattle.swreq_output.specs.Ended.{IsWorldOfText}
+use Rattle.swreq_query.specs.Ended.{IsWorldOfText}
 use Rattle.swreq_reply.specs.Machines.{IsChecked}
 use Rattle.swreq_reply.specs.Machines.IsChecked.{protocols_built, protocols_refused}
-use Rattle.swreq_top.specs.Run.{IsAnswerable, Run, known_text}
+use Rattle.swreq_reply.proofs.Verdicts.{prints_of_one}
+use Rattle.swreq_top.specs.Run.{IsAnswerable, Run, known_for, known_text}
 use Rattle.swreq_words.specs.Form.{Says}
-use Rattle.swreq_reply.specs.Told.{IsMinimisedFor}
+use Rattle.swreq_reply.specs.Told.{IsListMade}
 use Rattle.swreq_reqsig.specs.Families.{owned}
 use Rattle.swreq_reqsig.specs.Told.{WasReduced}
 use Rattle.swreq_reqsig.specs.Told.WasReduced.{further, start}
-use Rattle.swreq_reply.specs.declared.content.Content.{Content}
-use Rattle.swreq_reply.specs.declared.content.Content.TheVariants.{Answers, Calls, Judgements, Signatures}
-use Rattle.swreq_reply.specs.Contents.{content_of}
+use Rattle.swreq_reply.specs.declared.content.Made.{Made}
+use Rattle.swreq_reply.specs.declared.content.Made.TheVariants.{Lines, Lists}
+use Rattle.swreq_reply.specs.Contents.{content_of, makes}
 use Rattle.swreq_reply.specs.Inputs.{AreParts, Parts}
 use Rattle.swreq_reply.specs.Verdict.{HasNoWorld, HasWorld, IsCutShort, IsRefused, RefusesNames, limits_of}
 use Rattle.swreq_reply.specs.Verdict.IsRefused.{bad_calls, in_one_part, misfit, past_a_limit_of_families, too_long, unchecked, without_world}
@@ -148,9 +148,9 @@ module _ (w : TextWorld) (limits : Limits) where
 
 -- ---- what is told after the check
 
-none_minimised : (c : Content) (w : TextWorld) (g : SignatureOver PlacedRequirement) → IsMinimisedFor c (emptied w) g → ⊥
-none_minimised (Answers s) w g (f, has, is) = no_member (AsksSignature f) has
-none_minimised Signatures w g has = no_member g has
+none_minimised : (a : Made) (w : TextWorld) (g : SignatureOver PlacedRequirement) → IsListMade a (emptied w) g → ⊥
+none_minimised Lines w g (f, has, is) = no_member (AsksSignature f) has
+none_minimised Lists w g has = no_member g has
 none_minimised _ w g asked = asked
 
 -- one goes through no more requirements than there are
@@ -160,11 +160,6 @@ gone_within (start e f untold) = omega (arith, e)
 gone_within (further h m e) = omega (arith, gone_within h)
 
 -- ---- its verdict
-
--- what a command of one part prints
-prints_of_one : (c : Command) → reads c ≡ OnePart → (content_of c ≢ Judgements) × (content_of c ≢ Calls)
-prints_of_one command.Answer r = (λ e. (cc), λ e. (cc))
-prints_of_one _ r = (λ e. (cc), λ e. (cc))
 
 -- The command reads a text of one part, and the input has nothing.
 module _ (line : CommandLine) (one : reads line.command ≡ OnePart) where
@@ -182,23 +177,22 @@ module _ (line : CommandLine) (one : reads line.command ≡ OnePart) where
       never_without_world refusal (rw (nothing_in p are) at has)
   empty_unrefused o told (inl (unchecked w refused checks has checked is)) =
       unrefused w (limits_of line) (rw (empty_world w has) at checked)
-  empty_unrefused o told (inl (misfit w n judges has found is untold)) = (prints_of_one line.command one).0 judges
+  empty_unrefused o told (inl (misfit w n judges has found is untold)) = (prints_of_one line one).0 judges
   empty_unrefused o told (inl (past_a_limit_of_families which trace c asked stops is)) =
       omega (arith, gone_within stops.gone, ap (λ (w : TextWorld). length (owned w)) (empty_world c.world c.has_world))
-  empty_unrefused o told (inl (bad_calls refusal c asked refuses untold is)) = (prints_of_one line.command one).1 asked
+  empty_unrefused o told (inl (bad_calls refusal c asked refuses untold is)) = (prints_of_one line one).1 asked
   empty_unrefused o told (inr cut) =
       let c = cut.check in
-      none_minimised (content_of line.command) c.world cut.fails.g (rw (empty_world c.world c.has_world) at cut.fails.asked)
+      none_minimised (makes (content_of line)) c.world cut.fails.g (rw (empty_world c.world c.has_world) at cut.fails.asked)
 
 -- ---- runs over a source that has nothing left
 
 -- the text of a command that reads one is that of the source
-is_source : (c : Command) → reads c ≡ OnePart → known_text c (Some []) ≡ Some []
-is_source (command.Gen n) r = absurd (cc)
-is_source _ r = refl
+is_source : (i : Input) (n : ℕ) → i ≡ OnePart → known_for i n (Some []) ≡ Some []
+is_source i n one = ap (λ (j : Input). known_for j n (Some [])) one
 
 -- Such a command is answered over such a source.
 pub empty_is_answerable : (r : Run) (line : CommandLine) → Says r.words line → reads line.command ≡ OnePart → r.before.left ≡ Some []
     → IsAnswerable r
 empty_is_answerable r line says one empty =
-    (line, says, ([], ap (known_text line.command) empty ∙ is_source line.command one, empty_unrefused line one))
+    (line, says, ([], ap (known_text line) empty ∙ is_source (reads line.command) line.count one, empty_unrefused line one))

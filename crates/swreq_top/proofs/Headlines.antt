@@ -30,10 +30,10 @@ use Rattle.swreq_print.specs.Names.{Text}
 use Rattle.swreq_query.specs.Answers.{Answer, IsLeastEqual, IsSide, answer_line, asked}
 use Rattle.swreq_query.specs.Answers.Answer.{Invalid, Yes, Reduced}
 use Rattle.swreq_query.proofs.OneAnswer.{one_answer}
-use Rattle.swreq_output.specs.Ended.{HasEnded, IsWorldOfText}
-use Rattle.swreq_output.specs.Signatures.{IsMinimisedLine, full_name}
+use Rattle.swreq_query.specs.Ended.{HasEnded, IsWorldOfText}
+use Rattle.swreq_query.specs.Signatures.{IsMinimisedLine, full_name}
 use Rattle.swreq_world.specs.FactsAt.{source_of, written_list}
-use Rattle.swreq_output.proofs.PrintingAlike.{closed_world, equivalent_by_one_line, lines_alike, params_of_one_line}
+use Rattle.swreq_query.proofs.PrintingAlike.{closed_world, equivalent_by_one_line, lines_alike, params_of_one_line}
 use Rattle.swreq_reply.specs.declared.outcome.Outcome.{Outcome}
 use Rattle.swreq_top.specs.Headline.{HasPathWhereImplied, IsDerivedWhereImplied, AsksImplied, IsImplied, IsLeastWhereValid, IsYes, IsYesWhereImplied, PrintsOf, SayAlike, SayDerivations, SayEqualLists, SayFailing, SayFamily, SayPaths, SayTheLeast, SayYesWhereImplied, SaysOf}
 use Rattle.swreq_reply.specs.Lines.{AreLines}
@@ -293,10 +293,10 @@ module _ (Sentence : TextWorld → Content → Parts → List Text → Type 0) (
   SaysOfText line text = (p : Parts) × AreParts line.command text p × SaysOf Sentence line p r.before.taken r.after.taken
 
   module _ (line : CommandLine) (text output : Text) (taken : Appends r.before.taken r.after.taken output) where
-    of_output : (w : TextWorld) (has : HasWorld line text w) → (content_of line.command ≢ Judgements → HasPassed w)
-        → IsOutput w false (content_of line.command) has.parts output → SaysOfText line text
+    of_output : (w : TextWorld) (has : HasWorld line text w) → (content_of line ≢ Judgements → HasPassed w)
+        → IsOutput w false (content_of line) has.parts output → SaysOfText line text
     of_output w has passed (lines, are, e) =
-        let says = holds w (content_of line.command) passed has.parts lines are in
+        let says = holds w (content_of line) passed has.parts lines are in
         (has.parts, has.are, (w, has.of_text, (lines, are, subst (Appends r.before.taken r.after.taken) e taken, says)))
 
     -- a verdict with status 0 is an answer, or judges derivations
@@ -316,9 +316,9 @@ module _ (Sentence : TextWorld → Content → Parts → List Text → Type 0) (
 
   -- what is printed with status 0 says so
   pub taken_say : IsAnsweredRun r
-      → (line : CommandLine) × Says r.words line × IfSome (known_text line.command r.before.left) (SaysOfText line)
+      → (line : CommandLine) × Says r.words line × IfSome (known_text line r.before.left) (SaysOfText line)
   taken_say (output, taken, (line, says, has)) = (
     line,
     says,
-    IfSome_then (known_text line.command r.before.left) has.verdict (λ text said. of_verdict line text output taken said.0 said.1),
+    IfSome_then (known_text line r.before.left) has.verdict (λ text said. of_verdict line text output taken said.0 said.1),
   )

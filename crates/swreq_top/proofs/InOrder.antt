@@ -24,9 +24,7 @@ use Rattle.swreq_words.specs.declared.command.CommandLine.{CommandLine}
 use Rattle.swreq_world.specs.WorldOf.{IsWorldOf}
 use Rattle.swreq_world.specs.Worlds.{SignatureOver, TextWorld}
 use Rattle.swreq_lowering.specs.Requirements.{PlacedRequirement}
-use Rattle.swreq_output.specs.Ended.{IsWorldOfText}
-use Rattle.swreq_reply.specs.declared.content.Content.{Content}
-use Rattle.swreq_reply.specs.declared.content.Content.TheVariants.{Calls, Judgements}
+use Rattle.swreq_query.specs.Ended.{IsWorldOfText}
 use Rattle.swreq_reply.specs.declared.outcome.Outcome.{Outcome}
 use Rattle.swreq_reply.specs.Contents.{content_of}
 use Rattle.swreq_reply.specs.Inputs.{AreParts, Parts, second_at}
@@ -90,7 +88,7 @@ module _ (line : CommandLine) (w : TextWorld)
   never_stopped which trace (protocols_built {first = first} rules come rest e) =
       signatures_pass rules first come which trace (λ g c. c) rest
 
-module _ (line : CommandLine) (w : TextWorld) (p : Parts) (order : IsInOrder line p w) (checks : ChecksMachines line.command) where
+module _ (line : CommandLine) (w : TextWorld) (p : Parts) (order : IsInOrder line p w) (checks : ChecksMachines line) where
   passes : {told : List Event} (cause : Refused) → IsChecked (limits_of line) w (Some cause) told → ⊥
   passes (Limit which trace) checked = never_stopped line w (order.within checks) which trace checked
   passes (NotATypeParameter at) checked = never_refused w (order.formed checks) (limits_of line) at checked
@@ -116,8 +114,8 @@ module _ (line : CommandLine) (input : List ℕ) (p : Parts) (s : Skeleton) (are
       each w
       (subst (λ (t : Skeleton). IsWorldOf p.source t w) (only_skeleton p.source s stands resolve text.skeleton text.stands) text.world)
 
-  second : (w : TextWorld) → HasWorld line input w → (c : Content) → content_of line.command ≡ c → IsSecondFor c w p
-  second w has c is = subst (λ (k : Content). IsSecondFor k w p) is (in_order w has).second
+  second : (w : TextWorld) → HasWorld line input w → IsSecondFor (content_of line) w p
+  second w has = (in_order w has).second
 
   pub never_refused_in_order : (o : Outcome) (told : List Event) → IsRefused line input o told ⊎ IsCutShort line input o told → ⊥
   never_refused_in_order o told (inl (too_long long is untold)) = omega (arith, long, are.within)
@@ -127,12 +125,12 @@ module _ (line : CommandLine) (input : List ℕ) (p : Parts) (s : Skeleton) (are
   never_refused_in_order o told (inl (unchecked w cause checks has checked is)) = passes line w p (in_order w has) checks cause checked
   never_refused_in_order o told (inl (misfit w n judges has first is untold)) =
       no_sections w.lexicon (length w.queries) (lines p.second) n (rw (same_parts has.parts has.are) at first)
-      (second w has Judgements judges)
+      ((second w has).sections judges)
   never_refused_in_order o told (inl (past_a_limit_of_families which trace c asked stops is)) =
       (in_order c.world c.has_world).within c.checks which trace c.more (of_families asked stops)
   never_refused_in_order o told (inl (bad_calls refusal c asked refuses untold is)) =
       never_second c.world p (part_is_one p.input (second_at p) (omega (arith, second_within are))) refusal
-      (rw (same_parts c.has_world.parts c.has_world.are) at refuses) (second c.world c.has_world Calls asked)
+      (rw (same_parts c.has_world.parts c.has_world.are) at refuses) ((second c.world c.has_world).calls asked)
   never_refused_in_order o told (inr cut) =
       let c = cut.check in
       let fails = cut.fails in

@@ -21,10 +21,10 @@ use Rattle.swreq_print.specs.Names.{Text}
 use Rattle.swreq_print.specs.Signatures.{signature_text}
 use Rattle.swreq_print.specs.Types.{type_text}
 use Rattle.swreq_query.specs.Answers.{IsLeastEqual, asked}
-use Rattle.swreq_output.specs.Signatures.{full_name}
+use Rattle.swreq_query.specs.Signatures.{full_name}
 use Rattle.swreq_world.specs.FactsAt.{source_of, written_list}
 use Rattle.swreq_reply.specs.Lines.{AreLines, Counted}
-use Rattle.swreq_output.specs.Ended.{IsWorldOfText}
+use Rattle.swreq_query.specs.Ended.{IsWorldOfText}
 use Rattle.swreq_reply.specs.declared.content.Backing.{Backing}
 use Rattle.swreq_reply.specs.declared.content.Content.{Content}
 use Rattle.swreq_reply.specs.declared.content.Content.TheVariants.{Answers, Calls, Families, Signatures}
@@ -155,11 +155,11 @@ module _ (w : TextWorld) where
 -- The source text has a world, and the bytes that were taken are lines, by what the command prints, of which this is true.
 abbrev pub SaysOf : (TextWorld → Content → Parts → List Text → Type 0) → CommandLine → Parts → (old new : Option Text) → Type 0
 SaysOf Sentence line p old new = (w : TextWorld) × IsWorldOfText p.source w ×
-    ((lines : List Text) × ArePrinted w false (content_of line.command) p lines × Appends old new (concat lines)
-    × Sentence w (content_of line.command) p lines)
+    ((lines : List Text) × ArePrinted w false (content_of line) p lines × Appends old new (concat lines)
+    × Sentence w (content_of line) p lines)
 
 -- The status is 0 only where the words say a command, and where its text is known, so says what was taken.
 abbrev pub Prints : Run → (TextWorld → Content → Parts → List Text → Type 0) → Type 0
 Prints r Sentence = r.status ≡ 0 → (line : CommandLine) × Says r.words line
-    × IfSome (known_text line.command r.before.left)
+    × IfSome (known_text line r.before.left)
     (λ text. (p : Parts) × AreParts line.command text p × SaysOf Sentence line p r.before.taken r.after.taken)

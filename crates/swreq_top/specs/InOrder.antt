@@ -13,14 +13,13 @@ use Rattle.swreq_symbols.specs.Meaning.{facts_of}
 use Rattle.swreq_valid.specs.Machines.{protocols_of}
 use Rattle.swreq_valid.specs.OfSignatures.{signature_plan}
 use Rattle.swreq_parts.specs.Lines.{lines}
-use Rattle.swreq_output.specs.Minimising.{MinimisingFails}
+use Rattle.swreq_query.specs.Minimising.{MinimisingFails}
 use Rattle.swreq_reqsig.specs.Told.{IsFamilyOutcome}
 use Rattle.swreq_verify.specs.SecondParts.{AreSections, TermSection}
 use Rattle.swreq_words.specs.declared.command.CommandLine.{CommandLine}
 use Rattle.swreq_reply.specs.declared.content.Content.{Content}
-use Rattle.swreq_reply.specs.declared.content.Content.TheVariants.{Calls, Families, Judgements}
 use Rattle.swreq_reply.specs.CallLines.{HasCalls}
-use Rattle.swreq_reply.specs.Contents.{content_of}
+use Rattle.swreq_reply.specs.Contents.{AreCalls, AreFamilies, AreJudgements, content_of}
 use Rattle.swreq_reply.specs.Inputs.{Parts}
 use Rattle.swreq_reply.specs.Told.{IsMinimisedFor}
 use Rattle.swreq_reply.specs.Verdict.{ChecksMachines, limits_of}
@@ -36,23 +35,22 @@ module _ (line : CommandLine) (w : TextWorld) where
         → IsOutcome (limits_of line) (signature_plan w rules g) (Err (Limit which trace)) told → PassesALimit which trace told
     -- those of a list that is met in minimising a signature whose minimised list is printed, over the rules of the protocols
     of_minimising : (rules : List Rule) (first : List Event) → IsOutcome (limits_of line) (protocols_of w) (Ok rules) first
-        → (g : SignatureOver PlacedRequirement) → IsMinimisedFor (content_of line.command) w g
+        → (g : SignatureOver PlacedRequirement) → IsMinimisedFor (content_of line) w g
         → MinimisingFails (limits_of line) w rules g (Limit which trace) told → PassesALimit which trace told
     -- those that are run for the requirements of the protocols, where requirement signatures are printed
-    of_families : content_of line.command ≡ Families → IsFamilyOutcome (limits_of line) w (Err (Limit which trace)) told
+    of_families : AreFamilies (content_of line) → IsFamilyOutcome (limits_of line) w (Err (Limit which trace)) told
         → PassesALimit which trace told
 
 -- The second part is one for the command: of `verify` as many sections as there are queries, and of `calls` calls of which no name is
 -- refused.
-abbrev pub IsSecondFor : Content → TextWorld → Parts → Type 0
-IsSecondFor Judgements w p = (ss : List TermSection) × AreSections w.lexicon (length w.queries) (lines p.second) ss
-IsSecondFor Calls w p = HasCalls w p
-IsSecondFor c w p = Unit {0}
+pub record IsSecondFor (c : Content) (w : TextWorld) (p : Parts) : Type 0 where
+  pub sections : AreJudgements c → (ss : List TermSection) × AreSections w.lexicon (length w.queries) (lines p.second) ss
+  pub calls : AreCalls c → HasCalls w p
 
 -- The world of a source text is in order for the command: where the command checks machines, each side of each requirement is a type
 -- parameter, and no rounds that are run for it pass a limit; and the second part is one for the command.
 pub record IsInOrder (line : CommandLine) (p : Parts) (w : TextWorld) : Type 0 where
-  pub formed : ChecksMachines line.command → IsWellFormed (facts_of w) (map source_of w.signatures)
-  pub within : ChecksMachines line.command → (which : Which) (trace : List Rule) (told : List Event)
+  pub formed : ChecksMachines line → IsWellFormed (facts_of w) (map source_of w.signatures)
+  pub within : ChecksMachines line → (which : Which) (trace : List Rule) (told : List Event)
       → PassesALimit line w which trace told → ⊥
-  pub second : IsSecondFor (content_of line.command) w p
+  pub second : IsSecondFor (content_of line) w p

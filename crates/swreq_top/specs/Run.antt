@@ -11,8 +11,10 @@ use Rattle.swreq_watch.specs.declared.events.Event.{Event}
 use Rattle.swreq_watch.specs.Told.{GrewBy}
 use Rattle.swreq_words.specs.Form.{Says}
 use Rattle.swreq_words.specs.declared.command.Command.{Command}
-use Rattle.swreq_words.specs.declared.command.Command.TheVariants as command
 use Rattle.swreq_words.specs.declared.command.CommandLine.{CommandLine}
+use Rattle.swreq_words.specs.declared.command.Input.{Input}
+use Rattle.swreq_words.specs.declared.command.Input.TheVariants.{Nothing}
+use Rattle.swreq_words.specs.Commands.{input as reads}
 use Rattle.swreq_reply.specs.declared.outcome.Outcome.{Outcome}
 use Rattle.swreq_reply.specs.Replies.{IsOnlyRefusal, IsToldVerdict, WasToldPart}
 use Rattle.swreq_reply.specs.Verdict.{IsCutShort, IsRefused}
@@ -38,20 +40,24 @@ pub record Run : Type 0 where
 abbrev pub AreWrong : List Text → Type 0
 AreWrong words = (line : CommandLine) → Says words line → ⊥
 
--- The command reads no source.
-abbrev pub IsGen : Command → Type 0
-IsGen c = (n : ℕ) × (c ≡ command.Gen n)
+-- The command reads no source, as `gen`.
+abbrev pub ReadsNothing : Command → Type 0
+ReadsNothing c = reads c ≡ Nothing
 
 -- The words say a command that reads no source.
-abbrev pub SayGen : List Text → Type 0
-SayGen words = (line : CommandLine) × Says words line × IsGen line.command
+abbrev pub ReadNothing : List Text → Type 0
+ReadNothing words = (line : CommandLine) × Says words line × ReadsNothing line.command
 
 -- ---- texts
 
--- The text that the command answers, where it is known: that of the source, and of `gen` the generated one whatever the source has.
-abbrev pub known_text : Command → Option Text → Option Text
-known_text (command.Gen n) left = Some (generated n)
-known_text _ left = left
+-- The text that the command answers, where it is known: that of the source, and of `gen`, which reads nothing, the generated one whatever
+-- the source has.
+abbrev pub known_for : Input → ℕ → Option Text → Option Text
+known_for Nothing n left = Some (generated n)
+known_for _ n left = left
+
+abbrev pub known_text : CommandLine → Option Text → Option Text
+known_text line = known_for (reads line.command) line.count
 
 -- What is left of the text that the source had, once it has a verdict: nothing, or of one that is too long all but the first 1,048,577
 -- bytes, one more than the limit.
@@ -59,10 +65,13 @@ abbrev pub IsRead : Option Text → Option Text → Type 0
 IsRead left rest =
     IfSome left (λ text. ((length text ≤ 1048576) × IsAtEnd rest) ⊎ ((1048576 < length text) × GivesCount left rest 1048577))
 
--- Of a command that reads a source that is left; `gen` leaves the source unchanged.
+-- Of a command that reads a source that is left; one that reads nothing leaves the source unchanged.
+abbrev pub Leaves : Input → Option Text → Option Text → Type 0
+Leaves Nothing left rest = rest ≡ left
+Leaves _ left rest = IsRead left rest
+
 abbrev pub LeavesSource : Command → Option Text → Option Text → Type 0
-LeavesSource (command.Gen n) left rest = rest ≡ left
-LeavesSource _ left rest = IsRead left rest
+LeavesSource c = Leaves (reads c)
 
 -- ---- statuses
 
@@ -95,7 +104,7 @@ module _ (r : Run) where
 
   -- Where the text that the command answers is known, this is true of it.
   abbrev pub HoldsOfText : CommandLine → (Text → Type 0) → Type 0
-  HoldsOfText line P = IfSome (known_text line.command r.before.left) P
+  HoldsOfText line P = IfSome (known_text line r.before.left) P
 
   -- The text has a verdict with this outcome, and what is told with it was told. One that is refused has no other.
   pub record HasVerdict (line : CommandLine) (o : Outcome) : Type 0 where
@@ -118,7 +127,7 @@ module _ (r : Run) where
     -- 2: the words are wrong. Nothing is told.
     wrong_words : AreWrong r.words → Tells [] → NoReadFailed → HasToPrint 2 (refusal_line refusals.Usage)
     -- 4: a read failed, of a command that reads a source. Nothing is told.
-    read_fault : (line : CommandLine) → Says r.words line → (IsGen line.command → ⊥) → Tells [] → ReadFailed
+    read_fault : (line : CommandLine) → Says r.words line → (ReadsNothing line.command → ⊥) → Tells [] → ReadFailed
         → HasToPrint 4 (refusal_line refusals.ReadFault)
     -- 6: memory ran out.
     no_memory : HasToldPart → NoReadFailed → HasToPrint 6 (refusal_line refusals.OutOfMemory)
@@ -133,12 +142,12 @@ module _ (r : Run) where
 
   -- The text is refused with this outcome.
   abbrev pub IsRefusedRun : Outcome → Type 0
-  IsRefusedRun o = (line : CommandLine) × Says r.words line × ((text : Text) × (known_text line.command r.before.left ≡ Some text)
+  IsRefusedRun o = (line : CommandLine) × Says r.words line × ((text : Text) × (known_text line r.before.left ≡ Some text)
       × ((told : List Event) × IsRefused line text o told))
 
   -- The words say a command whose text nothing refuses, and in minimising no completion passes a limit.
   abbrev pub IsAnswerable : Type 0
-  IsAnswerable = (line : CommandLine) × Says r.words line × ((text : Text) × (known_text line.command r.before.left ≡ Some text)
+  IsAnswerable = (line : CommandLine) × Says r.words line × ((text : Text) × (known_text line r.before.left ≡ Some text)
       × ((o : Outcome) (told : List Event) → IsRefused line text o told ⊎ IsCutShort line text o told → ⊥))
 
   -- Neither stream failed.

@@ -11,7 +11,7 @@ use Rattle.swreq_watch.specs.Told.{GrewBy}
 use Rattle.swreq_words.specs.declared.command.CommandLine.{CommandLine}
 use Rattle.swreq_reply.specs.declared.outcome.Outcome.{Outcome}
 use Rattle.swreq_reply.specs.Replies.{IsOnlyRefusal, IsToldVerdict, WasToldPart}
-use Rattle.swreq_top.specs.Run.{IsGen, IsOfVerdict, LeavesSource, known_text}
+use Rattle.swreq_top.specs.Run.{ReadsNothing, IsOfVerdict, LeavesSource, known_text}
 
 -- Of a text that was read: a verdict, and what is told with it; or memory ran out, and a part of that was told.
 abbrev pub AnswersText : CommandLine → Text → Option (List Event) → Option (List Event) → Result Outcome ReadErr → Type 0
@@ -25,11 +25,11 @@ AnswersText line text old new (Err Memory) = WasToldPart line text old new
 abbrev pub Answers : CommandLine → (left rest : Option Text) → (old new : Option (List Event)) → Result Outcome ReadErr → Type 0
 Answers line left rest old new (Ok o) =
     LeavesSource line.command left rest
-    × IfSome (known_text line.command left) (λ text. IsToldVerdict line text old new o × IsOnlyRefusal line text o)
+    × IfSome (known_text line left) (λ text. IsToldVerdict line text old new o × IsOnlyRefusal line text o)
     × IsOfVerdict o.status
-Answers line left rest old new (Err TooLarge) = GivesCount left rest 1048577 × (IsGen line.command → ⊥) × GrewBy old new []
-Answers line left rest old new (Err Fault) = (IsGen line.command → ⊥) × GrewBy old new []
-Answers line left rest old new (Err Memory) = IfSome (known_text line.command left) (λ text. WasToldPart line text old new)
+Answers line left rest old new (Err TooLarge) = GivesCount left rest 1048577 × (ReadsNothing line.command → ⊥) × GrewBy old new []
+Answers line left rest old new (Err Fault) = (ReadsNothing line.command → ⊥) × GrewBy old new []
+Answers line left rest old new (Err Memory) = IfSome (known_text line left) (λ text. WasToldPart line text old new)
 
 -- Of the bytes all were taken, and the status is this; or a write failed, a part of them was taken, and the status is 5.
 abbrev pub IsFinished : (taken new_taken : Option Text) → (faults new_faults : ℕ) → Text → (status result : ℕ) → Type 0

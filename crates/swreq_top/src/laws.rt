@@ -17,7 +17,7 @@ ghost use Rattle.swreq_world.specs.Worlds.{TextWorld};
 ghost use Rattle.swreq_symbols.specs.Meaning.{facts_of};
 ghost use Rattle.swreq_valid.specs.declared.refused.Refused.TheVariants.{NotATypeParameter};
 ghost use Rattle.swreq_print.specs.Names.{Text};
-ghost use Rattle.swreq_output.specs.Ended.{IsWorldOfText};
+ghost use Rattle.swreq_query.specs.Ended.{IsWorldOfText};
 ghost use Rattle.swreq_reply.specs.Inputs.{AreParts, Parts};
 ghost use Rattle.swreq_reply.specs.Machines.{IsBuiltOver, IsChecked};
 ghost use Rattle.swreq_top.specs.Contract.{IsRun};
@@ -37,7 +37,7 @@ pub fn empty_text_is_answerable()
 /// answerable. In order is one whose sides are type parameters, for which no rounds pass a limit, and which has the second part that is read.
 pub fn texts_in_order_are_answerable()
     ensures { (r : Run) (line : CommandLine) (text : Text) (p : Parts) (s : Skeleton)
-        → Says r.words line → known_text line.command r.before.left ≡ Some text
+        → Says r.words line → known_text line r.before.left ≡ Some text
         → AreParts line.command text p
         → StandsFor p.source s → Resolve p.source s
         → ((w : TextWorld) → IsWorldOf p.source s w → IsInOrder line p w)

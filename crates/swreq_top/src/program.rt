@@ -7,7 +7,7 @@ ghost use Rattle.swreq_text.specs.declared.whole.ReadErr.TheVariants.{Fault};
 ghost use Rattle.swreq_reply.specs.Verdict.{answered_text, limits_of};
 ghost use Rattle.swreq_reply.specs.Wanted.{HasCount};
 ghost use Rattle.swreq_top.specs.Contract.{IsRun};
-ghost use Rattle.swreq_top.specs.Run.{AreWrong, IsEnd, IsGen, SayGen};
+ghost use Rattle.swreq_top.specs.Run.{AreWrong, IsEnd, ReadsNothing, ReadNothing};
 ghost use Rattle.swreq_top.specs.Steps.{Answers, AnswersText, IsFinished};
 
 use std::alloc::Global;
@@ -16,7 +16,7 @@ use swreq_reply::{Outcome, reply};
 use swreq_text::{ReadErr, Sink, Source, read_all, write_all};
 use swreq_watch::Watch;
 use swreq_words::laws::numbers_are_in_range;
-use swreq_words::{Command, CommandLine, UsageErr};
+use swreq_words::{CommandLine, Input, UsageErr};
 
 /// The most bytes that a text may have.
 const TEXT_LIMIT: u32 = swreq_lex::TEXT_LIMIT as u32;
@@ -61,7 +61,7 @@ pub fn run<S: Source, K: Sink, W: Watch>(
     }) }
     // At most 1,048,577 bytes are read, one more than a text may have, and none where the words are wrong or say `gen`.
     ensures source { ((n : ℕ) × (n ≤ 1048577) × GivesCount (S.left src.old) (S.left src.new) n)
-        × (AreWrong (map string_bytes words.now) ⊎ SayGen (map string_bytes words.now)
+        × (AreWrong (map string_bytes words.now) ⊎ ReadNothing (map string_bytes words.now)
         → src.new ≡ src.old) }
 {
     carry_out(alloc, words, src, out, watch)
@@ -94,8 +94,8 @@ fn carry_out<S: Source, K: Sink, W: Watch>(
       status = result;
     }) }
     ensures reads { (n : ℕ) × (n ≤ 1048577) × GivesCount (S.left src.old) (S.left src.new) n }
-    ensures unread { AreWrong (map string_bytes words.now) ⊎ SayGen (map string_bytes words.now)
-        → src.new ≡ src.old }
+    ensures unread { AreWrong (map string_bytes words.now)
+        ⊎ ReadNothing (map string_bytes words.now) → src.new ≡ src.old }
 {
     numbers_are_in_range();
     match swreq_words::read(alloc, words) {
@@ -118,16 +118,16 @@ fn answer<S: Source, W: Watch>(
     watch: &mut W,
 ) -> Result<Outcome, ReadErr>
     requires limits { AreInRange (limits_of line.now) }
-    requires count { HasCount line.now.command }
+    requires count { HasCount line.now }
     ensures answer { Answers line.now (S.left src.old) (S.left src.new) (W.told watch.old)
         (W.told watch.new) result }
-    ensures unread { IsGen line.now.command → src.new ≡ src.old }
+    ensures unread { ReadsNothing line.now.command → src.new ≡ src.old }
     ensures reads { (n : ℕ) × (n ≤ 1048577) × GivesCount (S.left src.old) (S.left src.new) n }
     ensures fault { result ≡ Err Fault → HasRisen (S.faults src.old) (S.faults src.new) }
     ensures no_fault { (result ≡ Err Fault) ⊎ (S.faults src.new ≡ S.faults src.old) }
 {
-    match line.command {
-        Command::Gen { .. } => replied(alloc, line, &[], watch),
+    match line.command.input() {
+        Input::Nothing => replied(alloc, line, &[], watch),
         _ => match read_all(alloc, src, TEXT_LIMIT) {
             Ok(text) => replied(alloc, line, &text, watch),
             Err(e) => Err(e),
@@ -143,8 +143,8 @@ fn replied<W: Watch>(
     watch: &mut W,
 ) -> Result<Outcome, ReadErr>
     requires limits { AreInRange (limits_of line.now) }
-    requires count { HasCount line.now.command }
-    ensures { AnswersText line.now (answered_text line.now.command text.now) (W.told watch.old)
+    requires count { HasCount line.now }
+    ensures { AnswersText line.now (answered_text line.now text.now) (W.told watch.old)
         (W.told watch.new) result }
 {
     let outcome = reply(alloc, line, text, watch)?;

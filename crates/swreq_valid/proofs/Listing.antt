@@ -1,6 +1,7 @@
 -- The plan of a list, and the requirements that stand in it.
-use Rattle.std.proofs.Common.{◌≡◌, sym, ap, ap₂, subst, ◌∙◌, ℕ, ◌<◌, ◌≤◌, ◌+◌, List, [], ◌∷◌, ◌++◌, length, map, drop, get_or, append_assoc, Contains, Option, Ok}
-use Rattle.std.proofs.lemmas.List.{append-nil, drop_more, drop_all}
+use Rattle.std.proofs.Common.{◌≡◌, sym, ap, ap₂, subst, ◌∙◌, ℕ, ◌<◌, ◌≤◌, ◌+◌, List, [], ◌∷◌, ◌++◌, length, map, drop, get_or, Contains, Option, Ok}
+use Rattle.std.proofs.lemmas.List.{append-nil, drop_all}
+use Rattle.std.proofs.lemmas.Option.{slice_get-get_or}
 use Rattle.std.proofs.lemmas.Simd.{map-map}
 use Rattle.swreq_param.specs.Terms.{Term}
 use Rattle.swreq_derive.specs.declared.known.Params.{Params}
@@ -28,6 +29,7 @@ use Rattle.swreq_valid.specs.Answers.{Answers}
 use Rattle.swreq_valid.specs.Machines.{AreRulesOf, IsMachineOf, list_of}
 use Rattle.swreq_valid.specs.Plans.{AreKnown, AreWanted, in_signature, item_of, items_of, listed, plan_of, says}
 use Rattle.swreq_valid.specs.Rounds.{RoundView, last_rules}
+use Rattle.swreq_valid.proofs.OfProtocols.{part_at}
 
 -- ---- lists that are made item by item
 
@@ -37,11 +39,7 @@ module _ {A B : Type 0} (of : List A → List B) (part : A → List B) (none : o
   pub part_more : (xs : List A) (k : ℕ) (d : A) (v w all : List B) → k < length xs → w ≡ v ++ part (get_or xs k d)
       → v ++ of (drop k xs) ≡ all
       → w ++ of (drop (k + 1) xs) ≡ all
-  part_more xs k d v w all l f h =
-      ap (λ z. z ++ of (drop (k + 1) xs)) f
-      ∙ append_assoc v (part (get_or xs k d)) (of (drop (k + 1) xs))
-      ∙ ap (λ z. v ++ z) (sym (one (get_or xs k d) (drop (k + 1) xs)) ∙ ap of (sym (drop_more xs k d l)))
-      ∙ h
+  part_more xs k d v w all l f h = part_at of part one xs k (get_or xs k d) v w all (slice_get-get_or xs k d l) f h
 
   pub parts_all : (xs : List A) (k : ℕ) (v all : List B) → length xs ≤ k → v ++ of (drop k xs) ≡ all → v ≡ all
   parts_all xs k v all l h = sym (append-nil v) ∙ ap (λ z. v ++ z) (sym (ap of (drop_all k xs l) ∙ none)) ∙ h

@@ -56,7 +56,7 @@ module _ (w : IdWorld) (terms : List Term) where
   abbrev pub IsToldBy : (Word → Word → Type 0) → RoundRequirement → Type 0
   IsToldBy C x = ShowsUsable m f (source_over x.over) C (requirement_of terms x.requirement)
 
-  -- the rules do
+  -- the rules show it usable
   abbrev pub IsTold : List Rule → RoundRequirement → Type 0
   IsTold rules x = IsToldBy (Links rules) x
 

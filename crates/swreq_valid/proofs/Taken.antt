@@ -42,7 +42,7 @@ module _ (limits : Limits) (plan : Plan) (u : Underway) (due : IsDueNow limits p
 pub due_at_once : (limits : Limits) (plan : Plan) (u : Underway) → u.first ≡ None → IsDueNow limits plan u
 due_at_once limits plan u e = subst (λ o. IsDue limits plan (used_by limits plan u) (first_of o)) (sym e) tt
 
--- one that lets no others join is, too
+-- a round that lets no others join is due, too
 pub due_closed : (limits : Limits) (plan : Plan) (u : Underway) → IsClosed limits plan (used_by limits plan u) → IsDueNow limits plan u
 due_closed limits plan u c = go u.first
   where

@@ -25,24 +25,25 @@ use swreq_word::Symbol;
 use swreq_world::World;
 
 impl Machine<'_> {
-    /// Whether the rules show that t is valid. Where they do, `word` becomes its least word. Both lists of symbols keep their room.
+    /// Whether the rules show that a type is valid. Where they do, `word` becomes its least word. Both lists of symbols keep their room.
     pub(crate) fn walk(
         &self,
         world: &World,
         table: &ParamTable,
-        t: TermId,
+        subject: TermId,
         word: &mut Vec<Symbol>,
         test: &mut Vec<Symbol>,
     ) -> bool
         requires text { IsTextOver table.now world.now }
-        requires t { IsTypeIn table.now world.now.lexicon t }
-        requires fits { member_count (term_at table.now t) + 2 ≤ vec_capacity word.old }
-        requires fits_test { member_count (term_at table.now t) + 2 ≤ vec_capacity test.old }
+        requires t { IsTypeIn table.now world.now.lexicon subject }
+        requires fits { member_count (term_at table.now subject) + 2 ≤ vec_capacity word.old }
+        requires fits_test { member_count (term_at table.now subject) + 2 ≤ vec_capacity test.old }
         ensures valid { IsTrue result
-            ↔ IsShownBy (world_by table.now world.now) self.now (term_at table.now t) }
+            ↔ IsShownBy (world_by table.now world.now) self.now (term_at table.now subject) }
         ensures least { OnTrue result (IsLeastWord (world_by table.now world.now) self.now
-            (term_at table.now t) word.new.items) }
-        ensures short { OnTrue result (vec_len word.new ≤ member_count (term_at table.now t) + 1) }
+            (term_at table.now subject) word.new.items) }
+        ensures short { OnTrue result
+            (vec_len word.new ≤ member_count (term_at table.now subject) + 1) }
         ensures room { vec_capacity word.old ≤ vec_capacity word.new }
         ensures room_test { vec_capacity test.old ≤ vec_capacity test.new }
     {
@@ -52,117 +53,119 @@ impl Machine<'_> {
             rules: self.rules(),
             over: Over::Signature(self.params()),
         };
-        least_word(&reading, t, word, test)
+        least_word(&reading, subject, word, test)
     }
 
-    /// Whether t is a type parameter: whether it is derivable from the list of the machine.
+    /// Whether a type is a type parameter: whether it is derivable from the list of the machine that it is valid.
     pub fn is_valid(
         &self,
         world: &World,
         table: &ParamTable,
-        t: TermId,
+        subject: TermId,
         scratch: &mut Scratch,
     ) -> bool
         requires text { IsTextOver table.now world.now }
-        requires t { IsTypeIn table.now world.now.lexicon t }
-        requires room { 4 * (member_count (term_at table.now t) + 2) ≤ scratch.old.room }
+        requires t { IsTypeIn table.now world.now.lexicon subject }
+        requires room { 4 * (member_count (term_at table.now subject) + 2) ≤ scratch.old.room }
         ensures answer { (list : List TermRequirement)
             → IsMachineOf (world_by table.now world.now) list self.now
             → IsTrue result ↔ IsDerivable (world_by table.now world.now) self.now list
-            (IsValid (term_at table.now t)) }
+            (IsValid (term_at table.now subject)) }
         ensures room { scratch.new.room ≡ scratch.old.room }
     {
-        self.walk(world, table, t, &mut scratch.word, &mut scratch.test)
+        self.walk(world, table, subject, &mut scratch.word, &mut scratch.test)
     }
 
-    /// Whether t is valid, and this symbol vanishes after its word.
+    /// Whether a type is valid, and this symbol vanishes after its word.
     fn is_behind(
         &self,
         world: &World,
         table: &ParamTable,
-        t: TermId,
-        x: Symbol,
+        subject: TermId,
+        symbol: Symbol,
         scratch: &mut Scratch,
     ) -> bool
         requires text { IsTextOver table.now world.now }
-        requires t { IsTypeIn table.now world.now.lexicon t }
-        requires room { 4 * (member_count (term_at table.now t) + 2) ≤ scratch.old.room }
+        requires t { IsTypeIn table.now world.now.lexicon subject }
+        requires room { 4 * (member_count (term_at table.now subject) + 2) ≤ scratch.old.room }
         ensures answer { IsTrue result
-            ↔ IsBehind (world_by table.now world.now) self.now (term_at table.now t) x }
+            ↔ IsBehind (world_by table.now world.now) self.now (term_at table.now subject) symbol }
         ensures room { scratch.new.room ≡ scratch.old.room }
     {
-        if self.walk(world, table, t, &mut scratch.word, &mut scratch.test) {
-            vanishes(self.rules(), &scratch.word, x, &mut scratch.test)
+        if self.walk(world, table, subject, &mut scratch.word, &mut scratch.test) {
+            vanishes(self.rules(), &scratch.word, symbol, &mut scratch.test)
         } else {
             false
         }
     }
 
-    /// Whether `[t : p]` is derivable from the list of the machine.
+    /// Whether `[subject : protocol]` is derivable from the list of the machine.
     pub fn conforms(
         &self,
         world: &World,
         table: &ParamTable,
-        t: TermId,
-        p: ProtoId,
+        subject: TermId,
+        protocol: ProtoId,
         scratch: &mut Scratch,
     ) -> bool
         requires text { IsTextOver table.now world.now }
-        requires t { IsTypeIn table.now world.now.lexicon t }
-        requires room { 4 * (member_count (term_at table.now t) + 2) ≤ scratch.old.room }
+        requires t { IsTypeIn table.now world.now.lexicon subject }
+        requires room { 4 * (member_count (term_at table.now subject) + 2) ≤ scratch.old.room }
         ensures answer { (list : List TermRequirement)
             → IsMachineOf (world_by table.now world.now) list self.now
             → IsTrue result ↔ IsDerivable (world_by table.now world.now) self.now list
-            (Requires (Conforms (term_at table.now t) p)) }
+            (Requires (Conforms (term_at table.now subject) protocol)) }
         ensures room { scratch.new.room ≡ scratch.old.room }
     {
-        self.is_behind(world, table, t, Symbol::Proto(p.rank), scratch)
+        self.is_behind(world, table, subject, Symbol::Proto(protocol.rank), scratch)
     }
 
-    /// Whether `[t : AnyObject]` is derivable from the list of the machine.
+    /// Whether `[subject : AnyObject]` is derivable from the list of the machine.
     pub fn any_object(
         &self,
         world: &World,
         table: &ParamTable,
-        t: TermId,
+        subject: TermId,
         scratch: &mut Scratch,
     ) -> bool
         requires text { IsTextOver table.now world.now }
-        requires t { IsTypeIn table.now world.now.lexicon t }
-        requires room { 4 * (member_count (term_at table.now t) + 2) ≤ scratch.old.room }
+        requires t { IsTypeIn table.now world.now.lexicon subject }
+        requires room { 4 * (member_count (term_at table.now subject) + 2) ≤ scratch.old.room }
         ensures answer { (list : List TermRequirement)
             → IsMachineOf (world_by table.now world.now) list self.now
             → IsTrue result ↔ IsDerivable (world_by table.now world.now) self.now list
-            (Requires (IsAnyObject (term_at table.now t))) }
+            (Requires (IsAnyObject (term_at table.now subject))) }
         ensures room { scratch.new.room ≡ scratch.old.room }
     {
-        self.is_behind(world, table, t, Symbol::Layout, scratch)
+        self.is_behind(world, table, subject, Symbol::Layout, scratch)
     }
 
-    /// Whether a and b are equal; None exactly where one of them is not valid.
+    /// Whether two types are equal; None if and only if one of them is not valid.
     pub fn are_equal(
         &self,
         text: &Text<'_>,
-        a: TermId,
-        b: TermId,
+        left: TermId,
+        right: TermId,
         scratch: &mut Scratch,
     ) -> Option<bool>
         requires text { BelongTogether text.now }
-        requires a { IsTypeIn text.now.table.now text.now.world.now.lexicon a }
-        requires b { IsTypeIn text.now.table.now text.now.world.now.lexicon b }
-        requires room_a { 4 * (member_count (term_at text.now.table.now a) + 2) ≤ scratch.old.room }
-        requires room_b { 4 * (member_count (term_at text.now.table.now b) + 2) ≤ scratch.old.room }
+        requires a { IsTypeIn text.now.table.now text.now.world.now.lexicon left }
+        requires b { IsTypeIn text.now.table.now text.now.world.now.lexicon right }
+        requires room_a { 4 * (member_count (term_at text.now.table.now left) + 2)
+            ≤ scratch.old.room }
+        requires room_b { 4 * (member_count (term_at text.now.table.now right) + 2)
+            ≤ scratch.old.room }
         ensures answer { (list : List TermRequirement)
             → IsMachineOf (world_of text.now) list self.now
             → TellsIfEqual (IsDerivable (world_of text.now) self.now list)
-            (term_at text.now.table.now a)
-            (term_at text.now.table.now b) result }
+            (term_at text.now.table.now left)
+            (term_at text.now.table.now right) result }
         ensures room { scratch.new.room ≡ scratch.old.room }
     {
         if !self.walk(
             text.world,
             text.table,
-            a,
+            left,
             &mut scratch.word,
             &mut scratch.test,
         ) {
@@ -171,7 +174,7 @@ impl Machine<'_> {
         if !self.walk(
             text.world,
             text.table,
-            b,
+            right,
             &mut scratch.other,
             &mut scratch.test,
         ) {
@@ -180,29 +183,29 @@ impl Machine<'_> {
         Some(scratch.word == scratch.other)
     }
 
-    /// Whether `[a == b]` is derivable from the list of the machine.
+    /// Whether `[left == right]` is derivable from the list of the machine.
     pub fn equal(
         &self,
         world: &World,
         table: &ParamTable,
-        a: TermId,
-        b: TermId,
+        left: TermId,
+        right: TermId,
         scratch: &mut Scratch,
     ) -> bool
         requires text { IsTextOver table.now world.now }
-        requires a { IsTypeIn table.now world.now.lexicon a }
-        requires b { IsTypeIn table.now world.now.lexicon b }
-        requires room_a { 4 * (member_count (term_at table.now a) + 2) ≤ scratch.old.room }
-        requires room_b { 4 * (member_count (term_at table.now b) + 2) ≤ scratch.old.room }
+        requires a { IsTypeIn table.now world.now.lexicon left }
+        requires b { IsTypeIn table.now world.now.lexicon right }
+        requires room_a { 4 * (member_count (term_at table.now left) + 2) ≤ scratch.old.room }
+        requires room_b { 4 * (member_count (term_at table.now right) + 2) ≤ scratch.old.room }
         ensures answer { (list : List TermRequirement)
             → IsMachineOf (world_by table.now world.now) list self.now
             → IsTrue result ↔ IsDerivable (world_by table.now world.now) self.now list
-            (Requires (Equals (term_at table.now a)
-            (term_at table.now b))) }
+            (Requires (Equals (term_at table.now left)
+            (term_at table.now right))) }
         ensures room { scratch.new.room ≡ scratch.old.room }
     {
         let text = Text { world, table };
-        match self.are_equal(&text, a, b, scratch) {
+        match self.are_equal(&text, left, right, scratch) {
             Some(equal) => equal,
             None => false,
         }
@@ -213,16 +216,16 @@ impl Machine<'_> {
         &self,
         alloc: Global,
         text: &Text<'_>,
-        r: Requirement,
+        requirement: Requirement,
     ) -> Result<bool, AllocError>
         requires text { BelongTogether text.now }
-        requires r { IsRequirementIn text.now.table.now text.now.world.now.lexicon r }
+        requires r { IsRequirementIn text.now.table.now text.now.world.now.lexicon requirement }
         ensures { IfOk result
             (λ b. (list : List TermRequirement) → IsMachineOf (world_of text.now) list self.now
             → IsTrue b ↔ IsDerivable (world_of text.now) self.now list
-            (Requires (requirement_of text.now.table.now r))) }
+            (Requires (requirement_of text.now.table.now requirement))) }
     {
-        match r {
+        match requirement {
             Requirement::Conf { subject, proto } => {
                 let mut s = Scratch::for_type(alloc, text.table, subject)?;
                 Ok(self.conforms(text.world, text.table, subject, proto, &mut s))

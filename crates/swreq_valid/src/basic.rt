@@ -24,24 +24,35 @@ fn word_of(alloc: Global, symbols: &[Symbol]) -> Result<Word, AllocError>
     Ok(Word::new(symbols))
 }
 
-/// `[P][P] = [P]`
-fn doubled(alloc: Global, p: ProtoId) -> Result<(Word, Word), AllocError>
-    ensures left { IfOk result (λ e. e.0 ≡ (given.doubled p).0) }
-    ensures right { IfOk result (λ e. e.1 ≡ (given.doubled p).1) }
+/// `[P][P] = [P]`, the equation of the symbol of protocol P.
+fn doubled(alloc: Global, protocol: ProtoId) -> Result<(Word, Word), AllocError>
+    ensures left { IfOk result (λ e. e.0 ≡ (given.doubled protocol).0) }
+    ensures right { IfOk result (λ e. e.1 ≡ (given.doubled protocol).1) }
 {
-    let left = word_of(alloc, &[Symbol::Proto(p.rank), Symbol::Proto(p.rank)])?;
-    let right = word_of(alloc, &[Symbol::Proto(p.rank)])?;
+    let left = word_of(
+        alloc,
+        &[Symbol::Proto(protocol.rank), Symbol::Proto(protocol.rank)],
+    )?;
+    let right = word_of(alloc, &[Symbol::Proto(protocol.rank)])?;
     Ok((left, right))
 }
 
-/// `[P]·A = [P:A]`, where `[P:A]` has this rank.
-fn named(alloc: Global, p: ProtoId, a: NameId, rank: u64) -> Result<(Word, Word), AllocError>
+/// `[P]·A = [P:A]`, where the name A is of protocol P and `[P:A]` has this rank.
+fn named(
+    alloc: Global,
+    protocol: ProtoId,
+    name: NameId,
+    rank: u64,
+) -> Result<(Word, Word), AllocError>
     ensures left { IfOk result
-        (λ e. e.0 ≡ (given.named p (record { proto = p; name = a }) rank).0) }
+        (λ e. e.0 ≡ (given.named protocol (record { proto = protocol; name = name }) rank).0) }
     ensures right { IfOk result
-        (λ e. e.1 ≡ (given.named p (record { proto = p; name = a }) rank).1) }
+        (λ e. e.1 ≡ (given.named protocol (record { proto = protocol; name = name }) rank).1) }
 {
-    let left = word_of(alloc, &[Symbol::Proto(p.rank), Symbol::Name(a.rank)])?;
+    let left = word_of(
+        alloc,
+        &[Symbol::Proto(protocol.rank), Symbol::Name(name.rank)],
+    )?;
     let right = word_of(alloc, &[Symbol::Member(rank)])?;
     Ok((left, right))
 }
@@ -50,17 +61,18 @@ fn named(alloc: Global, p: ProtoId, a: NameId, rank: u64) -> Result<(Word, Word)
 fn add_name(
     alloc: Global,
     world: &World,
-    p: ProtoId,
-    a: NameId,
-    v: &mut Vec<(Word, Word)>,
+    protocol: ProtoId,
+    name: NameId,
+    equations: &mut Vec<(Word, Word)>,
 ) -> Result<(), AllocError>
-    ensures { OnOk result (IsNameAdded world.now.lexicon p a v.old.items v.new.items) }
+    ensures { OnOk result
+        (IsNameAdded world.now.lexicon protocol name equations.old.items equations.new.items) }
 {
-    match world.member_rank(p, a) {
+    match world.member_rank(protocol, name) {
         None => Ok(()),
         Some(rank) => {
-            let e = named(alloc, p, a, rank)?;
-            v.push(e)?;
+            let e = named(alloc, protocol, name, rank)?;
+            equations.push(e)?;
             Ok(())
         }
     }
@@ -85,19 +97,19 @@ fn add_names(
     alloc: Global,
     world: &World,
     end: u64,
-    p: ProtoId,
-    v: &mut Vec<(Word, Word)>,
+    protocol: ProtoId,
+    equations: &mut Vec<(Word, Word)>,
 ) -> Result<(), AllocError>
     requires ids { AreIds world.now.lexicon }
     requires above { (k : ℕ) (s : ProtocolName)
         → slice_get world.now.lexicon.symbols k ≡ Some s → s.name.rank < end }
     requires within { end ≤ 4294967296 }
-    ensures { OnOk result
-        (v.new.items ≡ v.old.items ++ given.named_from p 0 (symbols_of world.now.lexicon).members) }
+    ensures { OnOk result (equations.new.items ≡ equations.old.items
+        ++ given.named_from protocol 0 (symbols_of world.now.lexicon).members) }
 {
     for rank in 0..end {
-        let a = NameId { rank: rank as u32 };
-        add_name(alloc, world, p, a, v)?;
+        let name = NameId { rank: rank as u32 };
+        add_name(alloc, world, protocol, name, equations)?;
     }
     Ok(())
 }
@@ -107,19 +119,20 @@ fn add_protocol(
     alloc: Global,
     world: &World,
     end: u64,
-    p: ProtoId,
-    v: &mut Vec<(Word, Word)>,
+    protocol: ProtoId,
+    equations: &mut Vec<(Word, Word)>,
 ) -> Result<(), AllocError>
     requires ids { AreIds world.now.lexicon }
     requires above { (k : ℕ) (s : ProtocolName)
         → slice_get world.now.lexicon.symbols k ≡ Some s → s.name.rank < end }
     requires within { end ≤ 4294967296 }
-    ensures { OnOk result (v.new.items ≡ v.old.items
-        ++ (given.doubled p ∷ given.named_from p 0 (symbols_of world.now.lexicon).members)) }
+    ensures { OnOk result (equations.new.items ≡ equations.old.items
+        ++ (given.doubled protocol
+        ∷ given.named_from protocol 0 (symbols_of world.now.lexicon).members)) }
 {
-    let e = doubled(alloc, p)?;
-    v.push(e)?;
-    add_names(alloc, world, end, p, v)
+    let e = doubled(alloc, protocol)?;
+    equations.push(e)?;
+    add_names(alloc, world, end, protocol, equations)
 }
 
 /// The basic equations: for each protocol in written order the one of its symbol, and then those of its member names.
@@ -160,16 +173,17 @@ pub(crate) fn first_basic(
 
 /// Puts the requirements of the protocol last.
 fn add_requirements(
-    p: ProtoId,
+    protocol: ProtoId,
     list: &[Requirement],
-    v: &mut Vec<RoundRequirement>,
+    wanted: &mut Vec<RoundRequirement>,
 ) -> Result<(), AllocError>
-    ensures { OnOk result (v.new.items ≡ v.old.items ++ map (in_protocol p) list.now) }
+    ensures { OnOk result
+        (wanted.new.items ≡ wanted.old.items ++ map (in_protocol protocol) list.now) }
 {
     for k in 0..list.len() {
         let requirement = list[k];
-        v.push(RoundRequirement {
-            over: Over::Protocol(p),
+        wanted.push(RoundRequirement {
+            over: Over::Protocol(protocol),
             requirement,
         })?;
     }

@@ -33,11 +33,11 @@ pub(crate) struct ByReduction<'a, 'b> {
 fn reduct(
     alloc: Global,
     rules: &RewritingSystem<'_>,
-    w: &[Symbol],
+    word: &[Symbol],
 ) -> Result<Vec<Symbol>, AllocError>
-    ensures { IfOk result (λ v. Reduces rules.now w.now v.items) }
+    ensures { IfOk result (λ v. Reduces rules.now word.now v.items) }
 {
-    let mut v = Vec::from_slice(alloc, w)?;
+    let mut v = Vec::from_slice(alloc, word)?;
     rules.reduce(&mut v);
     Ok(v)
 }
@@ -46,13 +46,13 @@ fn reduct(
 fn reduce_alike(
     alloc: Global,
     rules: &RewritingSystem<'_>,
-    u: &[Symbol],
-    v: &[Symbol],
+    word: &[Symbol],
+    other: &[Symbol],
 ) -> Result<bool, AllocError>
-    ensures { IfOk result (λ b. IsTrue b ↔ ReduceAlike rules.now u.now v.now) }
+    ensures { IfOk result (λ b. IsTrue b ↔ ReduceAlike rules.now word.now other.now) }
 {
-    let first = reduct(alloc, rules, u)?;
-    let last = reduct(alloc, rules, v)?;
+    let first = reduct(alloc, rules, word)?;
+    let last = reduct(alloc, rules, other)?;
     Ok(are_same(&first, &last))
 }
 
@@ -60,17 +60,17 @@ fn reduce_alike(
 fn conforms(
     alloc: Global,
     by: &ByReduction<'_, '_>,
-    t: TermId,
+    subject: TermId,
     proto: ProtoId,
 ) -> Result<bool, AllocError>
     requires text { IsTextOver by.now.table.now by.now.world.now }
-    requires t { IsTypeIn by.now.table.now by.now.world.now.lexicon t }
+    requires t { IsTypeIn by.now.table.now by.now.world.now.lexicon subject }
     requires proto { proto.rank < length by.now.world.now.lexicon.protocols }
     ensures { IfOk result
         (λ b. IsTrue b ↔ ReducesConformance by.now.world.now.lexicon by.now.rules.now by.now.over
-        (term_at by.now.table.now t) proto) }
+        (term_at by.now.table.now subject) proto) }
 {
-    let requirement = Requirement::Conf { subject: t, proto };
+    let requirement = Requirement::Conf { subject, proto };
     let owner = by.over.owner();
     let (left, right) = equation(alloc, by.world, by.table, owner, &requirement)?;
     reduce_alike(alloc, by.rules, left.symbols(), right.symbols())
@@ -80,38 +80,38 @@ fn conforms(
 fn has_assoc(
     alloc: Global,
     by: &ByReduction<'_, '_>,
-    t: TermId,
-    d: AssocId,
+    subject: TermId,
+    assoc: AssocId,
 ) -> Result<bool, AllocError>
     requires text { IsTextOver by.now.table.now by.now.world.now }
-    requires t { IsTypeIn by.now.table.now by.now.world.now.lexicon t }
-    requires d { d.rank < length by.now.world.now.lexicon.associated }
+    requires t { IsTypeIn by.now.table.now by.now.world.now.lexicon subject }
+    requires d { assoc.rank < length by.now.world.now.lexicon.associated }
     ensures { IfOk result
         (λ b. IsTrue b ↔ HasStepOf by.now.world.now.lexicon by.now.rules.now by.now.over
-        (term_at by.now.table.now t) (Bound d)) }
+        (term_at by.now.table.now subject) (Bound assoc)) }
 {
-    let declared = by.world.assoc(d);
-    conforms(alloc, by, t, declared.proto)
+    let declared = by.world.assoc(assoc);
+    conforms(alloc, by, subject, declared.proto)
 }
 
 /// Whether it is an associated type with this name, to whose protocol reduction shows that a type parameter conforms.
 fn is_given(
     alloc: Global,
     by: &ByReduction<'_, '_>,
-    t: TermId,
-    a: NameId,
-    d: AssocId,
+    subject: TermId,
+    name: NameId,
+    assoc: AssocId,
 ) -> Result<bool, AllocError>
     requires text { IsTextOver by.now.table.now by.now.world.now }
-    requires t { IsTypeIn by.now.table.now by.now.world.now.lexicon t }
-    requires d { d.rank < length by.now.world.now.lexicon.associated }
+    requires t { IsTypeIn by.now.table.now by.now.world.now.lexicon subject }
+    requires d { assoc.rank < length by.now.world.now.lexicon.associated }
     ensures { IfOk result
         (λ b. IsTrue b ↔ IsGivenOf by.now.world.now.lexicon by.now.rules.now by.now.over
-        (term_at by.now.table.now t) a d) }
+        (term_at by.now.table.now subject) name assoc) }
 {
-    let declared = by.world.assoc(d);
-    if declared.name.rank == a.rank {
-        conforms(alloc, by, t, declared.proto)
+    let declared = by.world.assoc(assoc);
+    if declared.name.rank == name.rank {
+        conforms(alloc, by, subject, declared.proto)
     } else {
         Ok(false)
     }
@@ -128,17 +128,17 @@ fn associated(world: &World) -> u32
 fn has_name(
     alloc: Global,
     by: &ByReduction<'_, '_>,
-    t: TermId,
-    a: NameId,
+    subject: TermId,
+    name: NameId,
 ) -> Result<bool, AllocError>
     requires text { IsTextOver by.now.table.now by.now.world.now }
-    requires t { IsTypeIn by.now.table.now by.now.world.now.lexicon t }
+    requires t { IsTypeIn by.now.table.now by.now.world.now.lexicon subject }
     ensures { IfOk result
         (λ b. IsTrue b ↔ HasStepOf by.now.world.now.lexicon by.now.rules.now by.now.over
-        (term_at by.now.table.now t) (Name a)) }
+        (term_at by.now.table.now subject) (Name name)) }
 {
     for rank in 0..associated(by.world) {
-        if is_given(alloc, by, t, a, AssocId { rank })? {
+        if is_given(alloc, by, subject, name, AssocId { rank })? {
             return Ok(true);
         }
     }
@@ -149,32 +149,32 @@ fn has_name(
 fn has_step(
     alloc: Global,
     by: &ByReduction<'_, '_>,
-    t: TermId,
+    subject: TermId,
     step: Step,
 ) -> Result<bool, AllocError>
     requires text { IsTextOver by.now.table.now by.now.world.now }
-    requires t { IsTypeIn by.now.table.now by.now.world.now.lexicon t }
+    requires t { IsTypeIn by.now.table.now by.now.world.now.lexicon subject }
     requires step { IsStepOf by.now.world.now.lexicon step }
     ensures { IfOk result
         (λ b. IsTrue b ↔ HasStepOf by.now.world.now.lexicon by.now.rules.now by.now.over
-        (term_at by.now.table.now t) step) }
+        (term_at by.now.table.now subject) step) }
 {
     match step {
-        Step::Bound(d) => has_assoc(alloc, by, t, d),
-        Step::Name(a) => has_name(alloc, by, t, a),
+        Step::Bound(d) => has_assoc(alloc, by, subject, d),
+        Step::Name(a) => has_name(alloc, by, subject, a),
     }
 }
 
 /// Whether reduction shows that a type parameter is valid.
-fn is_valid(alloc: Global, by: &ByReduction<'_, '_>, t: TermId) -> Result<bool, AllocError>
+fn is_valid(alloc: Global, by: &ByReduction<'_, '_>, subject: TermId) -> Result<bool, AllocError>
     requires text { IsTextOver by.now.table.now by.now.world.now }
-    requires t { IsTypeIn by.now.table.now by.now.world.now.lexicon t }
+    requires t { IsTypeIn by.now.table.now by.now.world.now.lexicon subject }
     ensures { IfOk result (λ b. IsTrue b
         ↔ ReducesValid (world_by by.now.table.now by.now.world.now) by.now.rules.now by.now.over
-        (term_at by.now.table.now t)) }
+        (term_at by.now.table.now subject)) }
 {
-    match by.table.split(t) {
-        None => Ok(by.over.has(by.table.head(t))),
+    match by.table.split(subject) {
+        None => Ok(by.over.has(by.table.head(subject))),
         Some((base, step)) => {
             if is_valid(alloc, by, base)? {
                 has_step(alloc, by, base, step)
@@ -189,15 +189,15 @@ fn is_valid(alloc: Global, by: &ByReduction<'_, '_>, t: TermId) -> Result<bool, 
 pub(crate) fn is_usable(
     alloc: Global,
     by: &ByReduction<'_, '_>,
-    r: Requirement,
+    requirement: Requirement,
 ) -> Result<bool, AllocError>
     requires text { IsTextOver by.now.table.now by.now.world.now }
-    requires want { IsRequirementIn by.now.table.now by.now.world.now.lexicon r }
+    requires want { IsRequirementIn by.now.table.now by.now.world.now.lexicon requirement }
     ensures { IfOk result (λ b. IsTrue b
         ↔ ReducesUsable (world_by by.now.table.now by.now.world.now) by.now.rules.now by.now.over
-        (requirement_of by.now.table.now r)) }
+        (requirement_of by.now.table.now requirement)) }
 {
-    match r {
+    match requirement {
         Requirement::Conf { subject, .. } => is_valid(alloc, by, subject),
         Requirement::Layout { subject } => is_valid(alloc, by, subject),
         Requirement::Same { left, right } => {

@@ -36,35 +36,37 @@ pub struct Kept {
 
 /// Puts the requirements of the protocol last whose flags are set.
 fn add_kept(
-    p: ProtoId,
+    protocol: ProtoId,
     list: &[Requirement],
     flags: &[bool],
-    v: &mut Vec<RoundRequirement>,
+    wanted: &mut Vec<RoundRequirement>,
 ) -> Result<(), AllocError>
     requires { length flags.now ≡ length list.now }
     ensures { OnOk result
-        (v.new.items ≡ v.old.items ++ map (in_protocol p) (chosen list.now flags.now)) }
+        (wanted.new.items ≡ wanted.old.items
+        ++ map (in_protocol protocol) (chosen list.now flags.now)) }
 {
     for k in 0..list.len() {
         let requirement = list[k];
-        add_one(p, requirement, flags[k], v)?;
+        add_one(protocol, requirement, flags[k], wanted)?;
     }
     Ok(())
 }
 
 /// Puts the requirement of the protocol last, where its flag is set.
 fn add_one(
-    p: ProtoId,
+    protocol: ProtoId,
     requirement: Requirement,
     kept: bool,
-    v: &mut Vec<RoundRequirement>,
+    wanted: &mut Vec<RoundRequirement>,
 ) -> Result<(), AllocError>
     ensures { OnOk result
-        (v.new.items ≡ v.old.items ++ (if kept then in_protocol p requirement ∷ [] else [])) }
+        (wanted.new.items ≡ wanted.old.items
+        ++ (if kept then in_protocol protocol requirement ∷ [] else [])) }
 {
     if kept {
-        v.push(RoundRequirement {
-            over: Over::Protocol(p),
+        wanted.push(RoundRequirement {
+            over: Over::Protocol(protocol),
             requirement,
         })?;
     }
@@ -157,19 +159,26 @@ fn usable_of(
     world: &World,
     table: &ParamTable,
     rules: &CompleteRules<'_>,
-    p: ProtoId,
+    protocol: ProtoId,
 ) -> Result<Vec<bool>, AllocError>
     requires text { IsTextOver table.now world.now }
-    requires p { p.rank < length world.now.lexicon.protocols }
+    requires p { protocol.rank < length world.now.lexicon.protocols }
     ensures { IfOk result
-        (λ v. Tells (IsUsableBy (world_by table.now world.now) rules.now p) ((facts_of
-        (world_by table.now world.now)).of_protocol p) v.items) }
+        (λ v. Tells (IsUsableBy (world_by table.now world.now) rules.now protocol) ((facts_of
+        (world_by table.now world.now)).of_protocol protocol) v.items) }
 {
     let mut flags = Vec::new(alloc);
-    let list = world.bare_requirements(p);
+    let list = world.bare_requirements(protocol);
     for k in 0..list.len() {
         let requirement = list[k];
-        let shown = is_usable(alloc, world, table, rules, Over::Protocol(p), requirement)?;
+        let shown = is_usable(
+            alloc,
+            world,
+            table,
+            rules,
+            Over::Protocol(protocol),
+            requirement,
+        )?;
         flags.push(shown)?;
     }
     Ok(flags)

@@ -20,12 +20,12 @@ fn least(alloc: Global, rules: &CompleteRules<'_>, word: &Word) -> Result<Vec<Sy
 pub fn are_linked(
     alloc: Global,
     rules: &CompleteRules<'_>,
-    u: &Word,
-    v: &Word,
+    word: &Word,
+    other: &Word,
 ) -> Result<bool, AllocError>
-    ensures { IfOk result (λ b. IsTrue b ↔ Links rules.now u.now v.now) }
+    ensures { IfOk result (λ b. IsTrue b ↔ Links rules.now word.now other.now) }
 {
-    let left = least(alloc, rules, u)?;
-    let right = least(alloc, rules, v)?;
+    let left = least(alloc, rules, word)?;
+    let right = least(alloc, rules, other)?;
     Ok(are_same(&left, &right))
 }

@@ -27,38 +27,40 @@ impl<'b> Machine<'b> {
         alloc: Global,
         text: &Text<'_>,
         protocols: &'b Protocols,
-        f: FuncId,
+        signature: FuncId,
         limits: Limits,
         watch: &mut W,
     ) -> Result<Machine<'b>, Refused>
         requires text { BelongTogether text.now }
         requires protocols { AreRulesOf (world_of text.now) (last_rules protocols.now.rounds) }
-        requires f { f.place < length text.now.world.now.signatures }
+        requires f { signature.place < length text.now.world.now.signatures }
         requires limits { AreInRange limits }
         ensures answer { Builds limits
             (signature_plan (world_of text.now) (last_rules protocols.entry.now.rounds)
-            (signature_at (world_of text.now) f))
-            (facts_of (world_of text.now)) (signature_sides (signature_at (world_of text.now) f))
+            (signature_at (world_of text.now) signature))
+            (facts_of (world_of text.now))
+            (signature_sides (signature_at (world_of text.now) signature))
             (W.told watch.old) (W.told watch.new) (built_rules result) }
         ensures only { IsOnlyBuilt limits
             (signature_plan (world_of text.now) (last_rules protocols.entry.now.rounds)
-            (signature_at (world_of text.now) f))
+            (signature_at (world_of text.now) signature))
             (facts_of (world_of text.now))
-            (signature_sides (signature_at (world_of text.now) f)) (built_rules result) }
+            (signature_sides (signature_at (world_of text.now) signature)) (built_rules result) }
         ensures rounds { IfOk result (λ m. AreRounds limits
             (signature_plan (world_of text.now) (last_rules protocols.entry.now.rounds)
-            (signature_at (world_of text.now) f)) m.rounds) }
+            (signature_at (world_of text.now) signature)) m.rounds) }
         ensures machine { IfOk result (IsMachineOf (world_of text.now)
-            (written_list (signature_at (world_of text.now) f))) }
-        ensures params { IfOk result (λ m. m.params ≡ (signature_at (world_of text.now) f).params) }
+            (written_list (signature_at (world_of text.now) signature))) }
+        ensures params { IfOk result
+            (λ m. m.params ≡ (signature_at (world_of text.now) signature).params) }
     {
-        let list = text.world.signature(alloc, f)?;
+        let list = text.world.signature(alloc, signature)?;
         Machine::build(
             alloc,
             text.world,
             text.table,
             protocols,
-            text.world.params(f),
+            text.world.params(signature),
             &list,
             limits,
             watch,

@@ -60,14 +60,14 @@ impl Protocols {
 
     /// Whether the requirement of the protocol with this number, from 1, is usable: whether its type parameters are derivable by the
     /// requirements of which the rules were made. It is false where there is no such requirement.
-    pub fn usable(&self, p: ProtoId, n: u32) -> bool
-        ensures flag { result ≡ flag_at self.now.usable p n }
+    pub fn usable(&self, protocol: ProtoId, number: u32) -> bool
+        ensures flag { result ≡ flag_at self.now.usable protocol number }
         ensures usable { (w : TextWorld) (f : TermFacts) (r : TermRequirement)
-            → TellUsable w f self.now.usable → HasNumber w p n r
-            → IsTrue result ↔ HasValidSides f (SelfOf p) r }
+            → TellUsable w f self.now.usable → HasNumber w protocol number r
+            → IsTrue result ↔ HasValidSides f (SelfOf protocol) r }
     {
-        match self.usable.items().get(p.rank as usize) {
-            Some(flags) => flag_with(flags.items(), n),
+        match self.usable.items().get(protocol.rank as usize) {
+            Some(flags) => flag_with(flags.items(), number),
             None => false,
         }
     }
@@ -81,10 +81,10 @@ impl Protocols {
 }
 
 /// The flag with this number, from 1, or false where there is none.
-fn flag_with(flags: &[bool], n: u32) -> bool
-    ensures { result ≡ flag_with flags.now n }
+fn flag_with(flags: &[bool], number: u32) -> bool
+    ensures { result ≡ flag_with flags.now number }
 {
-    match n.checked_sub(1) {
+    match number.checked_sub(1) {
         Some(place) => flag_at_place(flags, place as usize),
         None => false,
     }

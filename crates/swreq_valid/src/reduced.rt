@@ -28,13 +28,13 @@ use swreq_word::Symbol;
 use swreq_world::World;
 
 /// The name of a member symbol, or None where the symbol is not one.
-fn member_name(world: &World, x: Symbol) -> Option<NameId>
+fn member_name(world: &World, symbol: Symbol) -> Option<NameId>
     ensures { MatchOption result
-        ((k : ℕ) → x ≡ MemberSymbol k → IsRank (symbols_of world.now.lexicon) k → ⊥)
-        (λ a. (k : ℕ) × (x ≡ MemberSymbol k) × IsRank (symbols_of world.now.lexicon) k
+        ((k : ℕ) → symbol ≡ MemberSymbol k → IsRank (symbols_of world.now.lexicon) k → ⊥)
+        (λ a. (k : ℕ) × (symbol ≡ MemberSymbol k) × IsRank (symbols_of world.now.lexicon) k
         × (name_of (symbols_of world.now.lexicon) k ≡ a)) }
 {
-    match x {
+    match symbol {
         Symbol::Member(rank) => name_at(world, rank),
         _ => None,
     }
@@ -54,14 +54,14 @@ fn add_step(
     world: &World,
     rules: &CompleteRules<'_>,
     before: &[Symbol],
-    x: Symbol,
+    symbol: Symbol,
     steps: &mut Vec<Step>,
     test: &mut Vec<Symbol>,
 )
     requires least { IsLeastBy rules.now before.now }
     requires fits { length before.now + 1 ≤ vec_capacity test.old }
     requires fits_step { vec_len steps.old < vec_capacity steps.old }
-    ensures step { (k : ℕ) (d : AssocId) → x ≡ MemberSymbol k
+    ensures step { (k : ℕ) (d : AssocId) → symbol ≡ MemberSymbol k
         → IsRank (symbols_of world.now.lexicon) k
         → IsFirstBehind world.now.lexicon rules.now before.now
         (name_of (symbols_of world.now.lexicon) k) d → steps.new.items
@@ -70,7 +70,7 @@ fn add_step(
     ensures room { vec_capacity steps.old ≤ vec_capacity steps.new }
     ensures room_test { vec_capacity test.old ≤ vec_capacity test.new }
 {
-    match member_name(world, x) {
+    match member_name(world, symbol) {
         None => {}
         Some(name) => add_first(world, rules, before, name, steps, test),
     }
@@ -139,24 +139,27 @@ fn head_of(word: &[Symbol]) -> ParamId
 }
 
 impl Machine<'_> {
-    /// Whether t is valid. Where it is, its reduced type and the least word congruent to its word are left in the scratch.
-    pub fn reduce(&self, text: &Text<'_>, t: TermId, scratch: &mut Scratch) -> bool
+    /// Whether a type is valid. Where it is, its reduced type and the least word congruent to its word are left in the scratch.
+    pub fn reduce(&self, text: &Text<'_>, subject: TermId, scratch: &mut Scratch) -> bool
         requires text { BelongTogether text.now }
-        requires t { IsTypeIn text.now.table.now text.now.world.now.lexicon t }
-        requires room { 4 * (member_count (term_at text.now.table.now t) + 2) ≤ scratch.old.room }
+        requires t { IsTypeIn text.now.table.now text.now.world.now.lexicon subject }
+        requires room { 4 * (member_count (term_at text.now.table.now subject) + 2)
+            ≤ scratch.old.room }
         ensures valid { (list : List TermRequirement)
             → IsMachineOf (world_of text.now) list self.now
             → IsTrue result ↔ IsDerivable (world_of text.now) self.now list
-            (IsValid (term_at text.now.table.now t)) }
+            (IsValid (term_at text.now.table.now subject)) }
         ensures reduced { (list : List TermRequirement)
             → IsMachineOf (world_of text.now) list self.now
-            → IsDerivable (world_of text.now) self.now list (IsValid (term_at text.now.table.now t))
-            → IsReducedIn (world_of text.now) self.now list (term_at text.now.table.now t)
+            → IsDerivable (world_of text.now) self.now list
+            (IsValid (term_at text.now.table.now subject))
+            → IsReducedIn (world_of text.now) self.now list (term_at text.now.table.now subject)
             (with_steps (Generic scratch.new.head) scratch.new.steps) }
         ensures word { (list : List TermRequirement) → IsMachineOf (world_of text.now) list self.now
-            → IsDerivable (world_of text.now) self.now list (IsValid (term_at text.now.table.now t))
+            → IsDerivable (world_of text.now) self.now list
+            (IsValid (term_at text.now.table.now subject))
             → IsLeastOf (world_of text.now) self.now list
-            (term_at text.now.table.now t) scratch.new.word }
+            (term_at text.now.table.now subject) scratch.new.word }
         ensures room { scratch.new.room ≡ scratch.old.room }
     {
         let rules = self.rules();
@@ -164,7 +167,7 @@ impl Machine<'_> {
         let valid = self.walk(
             text.world,
             text.table,
-            t,
+            subject,
             &mut scratch.word,
             &mut scratch.test,
         );
@@ -181,26 +184,26 @@ impl Machine<'_> {
         valid
     }
 
-    /// Leaves the reduced type of a valid t, and the least word congruent to its word, in the scratch.
-    pub fn reduced(&self, world: &World, table: &ParamTable, t: TermId, scratch: &mut Scratch)
+    /// Leaves the reduced type of a valid type, and the least word congruent to its word, in the scratch.
+    pub fn reduced(&self, world: &World, table: &ParamTable, subject: TermId, scratch: &mut Scratch)
         requires text { IsTextOver table.now world.now }
-        requires t { IsTypeIn table.now world.now.lexicon t }
-        requires room { 4 * (member_count (term_at table.now t) + 2) ≤ scratch.old.room }
+        requires t { IsTypeIn table.now world.now.lexicon subject }
+        requires room { 4 * (member_count (term_at table.now subject) + 2) ≤ scratch.old.room }
         ensures reduced { (list : List TermRequirement)
             → IsMachineOf (world_by table.now world.now) list self.now
             → IsDerivable (world_by table.now world.now) self.now list
-            (IsValid (term_at table.now t))
-            → IsReducedIn (world_by table.now world.now) self.now list (term_at table.now t)
+            (IsValid (term_at table.now subject))
+            → IsReducedIn (world_by table.now world.now) self.now list (term_at table.now subject)
             (with_steps (Generic scratch.new.head) scratch.new.steps) }
         ensures word { (list : List TermRequirement)
             → IsMachineOf (world_by table.now world.now) list self.now
             → IsDerivable (world_by table.now world.now) self.now list
-            (IsValid (term_at table.now t))
+            (IsValid (term_at table.now subject))
             → IsLeastOf (world_by table.now world.now) self.now list
-            (term_at table.now t) scratch.new.word }
+            (term_at table.now subject) scratch.new.word }
         ensures room { scratch.new.room ≡ scratch.old.room }
     {
         let text = Text { world, table };
-        let _valid = self.reduce(&text, t, scratch);
+        let _valid = self.reduce(&text, subject, scratch);
     }
 }

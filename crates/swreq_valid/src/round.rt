@@ -153,11 +153,11 @@ impl<'b> Rounds<'b> {
     }
 
     /// A flag for each requirement, in order: whether the round with this number, counted from 0, used it.
-    pub fn used(&self, k: usize) -> &[bool]
-        requires { k < length self.now }
-        ensures { (r : RoundView) → slice_get self.now k ≡ Some r → result.now ≡ r.used }
+    pub fn used(&self, number: usize) -> &[bool]
+        requires { number < length self.now }
+        ensures { (r : RoundView) → slice_get self.now number ≡ Some r → result.now ≡ r.used }
     {
-        match self.before.items().get(k) {
+        match self.before.items().get(number) {
             Some(round) => round.used(),
             None => self.used.items(),
         }
@@ -165,13 +165,13 @@ impl<'b> Rounds<'b> {
 
     /// Copies of the rules of the round with this number, counted from 0, in order: of those with which it ended, or of those of the short
     /// round.
-    pub fn written_out(&self, alloc: Global, k: usize) -> Result<Vec<Rule>, AllocError>
-        requires { k < length self.now }
-        ensures items { (r : RoundView) → slice_get self.now k ≡ Some r
+    pub fn written_out(&self, alloc: Global, number: usize) -> Result<Vec<Rule>, AllocError>
+        requires { number < length self.now }
+        ensures items { (r : RoundView) → slice_get self.now number ≡ Some r
             → IfOk result (λ v. v.items ≡ r.rules) }
         ensures few { IfOk result (λ v. length v.items < 2 ^ 32 - 1) }
     {
-        match self.before.items().get(k) {
+        match self.before.items().get(number) {
             Some(round) => round.written_out(alloc),
             None => complete_out(alloc, &self.last),
         }

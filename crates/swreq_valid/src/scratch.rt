@@ -52,11 +52,15 @@ impl Scratch {
     }
 
     /// Room for a type parameter of the table.
-    pub fn for_type(alloc: Global, table: &ParamTable, t: TermId) -> Result<Scratch, AllocError>
-        requires { IsOf table.now t }
-        ensures { IfOk result (λ s. 4 * (member_count (term_at table.now t) + 2) ≤ s.room) }
+    pub fn for_type(
+        alloc: Global,
+        table: &ParamTable,
+        subject: TermId,
+    ) -> Result<Scratch, AllocError>
+        requires { IsOf table.now subject }
+        ensures { IfOk result (λ s. 4 * (member_count (term_at table.now subject) + 2) ≤ s.room) }
     {
-        let longer = table.members(t).checked_add(2).ok_or(AllocError)?;
+        let longer = table.members(subject).checked_add(2).ok_or(AllocError)?;
         let room = longer.checked_mul(4).ok_or(AllocError)?;
         Scratch::with_room(alloc, room)
     }
@@ -65,15 +69,15 @@ impl Scratch {
     pub fn for_types(
         alloc: Global,
         table: &ParamTable,
-        a: TermId,
-        b: TermId,
+        left: TermId,
+        right: TermId,
     ) -> Result<Scratch, AllocError>
-        requires a { IsOf table.now a }
-        requires b { IsOf table.now b }
-        ensures a { IfOk result (λ s. 4 * (member_count (term_at table.now a) + 2) ≤ s.room) }
-        ensures b { IfOk result (λ s. 4 * (member_count (term_at table.now b) + 2) ≤ s.room) }
+        requires a { IsOf table.now left }
+        requires b { IsOf table.now right }
+        ensures a { IfOk result (λ s. 4 * (member_count (term_at table.now left) + 2) ≤ s.room) }
+        ensures b { IfOk result (λ s. 4 * (member_count (term_at table.now right) + 2) ≤ s.room) }
     {
-        let longest = table.members(a).max(table.members(b));
+        let longest = table.members(left).max(table.members(right));
         let longer = longest.checked_add(2).ok_or(AllocError)?;
         let room = longer.checked_mul(4).ok_or(AllocError)?;
         Scratch::with_room(alloc, room)

@@ -21,23 +21,23 @@ use swreq_world::{World, Written};
 fn fails_at(
     alloc: Global,
     reading: &Reading<'_, '_>,
-    t: TermId,
+    subject: TermId,
     at: u32,
 ) -> Result<Option<u32>, AllocError>
     requires text { IsTextOver reading.now.table.now reading.now.world.now }
-    requires t { IsTypeIn reading.now.table.now reading.now.world.now.lexicon t }
+    requires t { IsTypeIn reading.now.table.now reading.now.world.now.lexicon subject }
     ensures { (rs : List TermRequirement) → IfOk result (λ r. MatchOption r
         (IsShownIn (world_by reading.now.table.now reading.now.world.now) reading.now.rules.now
         (record {
           source = within rs reading.now.over;
-          term = term_at reading.now.table.now t;
+          term = term_at reading.now.table.now subject;
           at = at;
         }))
         (λ a.
         (IsShownIn (world_by reading.now.table.now reading.now.world.now) reading.now.rules.now
         (record {
           source = within rs reading.now.over;
-          term = term_at reading.now.table.now t;
+          term = term_at reading.now.table.now subject;
           at = at;
         }) → ⊥) × (a ≡ at))) }
 {
@@ -47,7 +47,7 @@ fn fails_at(
         reading.table,
         reading.rules,
         reading.over,
-        t,
+        subject,
     )?;
     if shown { Ok(None) } else { Ok(Some(at)) }
 }
@@ -56,26 +56,28 @@ fn fails_at(
 fn first_of(
     alloc: Global,
     reading: &Reading<'_, '_>,
-    r: &Written,
+    written: &Written,
 ) -> Result<Option<u32>, AllocError>
     requires text { IsTextOver reading.now.table.now reading.now.world.now }
     requires r { IsRequirementIn reading.now.table.now
-        reading.now.world.now.lexicon r.now.requirement }
+        reading.now.world.now.lexicon written.now.requirement }
     ensures { (rs : List TermRequirement) → IfOk result (λ first. MatchOption first
         (HoldsOfEach (IsShownIn (world_by reading.now.table.now reading.now.world.now)
         reading.now.rules.now)
-        (sides_of (within rs reading.now.over) (placed_by reading.now.table.now r.now)))
+        (sides_of (within rs reading.now.over) (placed_by reading.now.table.now written.now)))
         (FailsFirst (IsShownIn (world_by reading.now.table.now reading.now.world.now)
         reading.now.rules.now)
-        (sides_of (within rs reading.now.over) (placed_by reading.now.table.now r.now)))) }
+        (sides_of (within rs reading.now.over) (placed_by reading.now.table.now written.now)))) }
 {
-    match r.requirement {
-        Requirement::Conf { subject, .. } => fails_at(alloc, reading, subject, r.left_at),
-        Requirement::Layout { subject } => fails_at(alloc, reading, subject, r.left_at),
-        Requirement::Same { left, right } => match fails_at(alloc, reading, left, r.left_at)? {
-            Some(at) => Ok(Some(at)),
-            None => fails_at(alloc, reading, right, r.right_at),
-        },
+    match written.requirement {
+        Requirement::Conf { subject, .. } => fails_at(alloc, reading, subject, written.left_at),
+        Requirement::Layout { subject } => fails_at(alloc, reading, subject, written.left_at),
+        Requirement::Same { left, right } => {
+            match fails_at(alloc, reading, left, written.left_at)? {
+                Some(at) => Ok(Some(at)),
+                None => fails_at(alloc, reading, right, written.right_at),
+            }
+        }
     }
 }
 

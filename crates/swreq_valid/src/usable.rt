@@ -29,15 +29,15 @@ pub(crate) fn is_shown(
     table: &ParamTable,
     rules: &CompleteRules<'_>,
     over: Over,
-    t: TermId,
+    subject: TermId,
 ) -> Result<bool, AllocError>
     requires text { IsTextOver table.now world.now }
-    requires t { IsTypeIn table.now world.now.lexicon t }
+    requires t { IsTypeIn table.now world.now.lexicon subject }
     ensures { IfOk result (λ b. IsTrue b
         ↔ ShowsValid (symbols_of world.now.lexicon) (facts_of (world_by table.now world.now))
-        (source_over over) (Links rules.now) (term_at table.now t)) }
+        (source_over over) (Links rules.now) (term_at table.now subject)) }
 {
-    let room = table.members(t).checked_add(2).ok_or(AllocError)?;
+    let room = table.members(subject).checked_add(2).ok_or(AllocError)?;
     let mut word: Vec<Symbol> = Vec::with_capacity(alloc, room)?;
     let mut test: Vec<Symbol> = Vec::with_capacity(alloc, room)?;
     let reading = Reading {
@@ -46,7 +46,7 @@ pub(crate) fn is_shown(
         rules,
         over,
     };
-    Ok(least_word(&reading, t, &mut word, &mut test))
+    Ok(least_word(&reading, subject, &mut word, &mut test))
 }
 
 /// Whether the rules show that the type parameters of a requirement are valid.
@@ -56,15 +56,15 @@ pub fn is_usable(
     table: &ParamTable,
     rules: &CompleteRules<'_>,
     over: Over,
-    r: Requirement,
+    requirement: Requirement,
 ) -> Result<bool, AllocError>
     requires text { IsTextOver table.now world.now }
-    requires want { IsRequirementIn table.now world.now.lexicon r }
+    requires want { IsRequirementIn table.now world.now.lexicon requirement }
     ensures { IfOk result (λ b. IsTrue b
         ↔ ShowsUsable (symbols_of world.now.lexicon) (facts_of (world_by table.now world.now))
-        (source_over over) (Links rules.now) (requirement_of table.now r)) }
+        (source_over over) (Links rules.now) (requirement_of table.now requirement)) }
 {
-    match r {
+    match requirement {
         Requirement::Conf { subject, .. } => is_shown(alloc, world, table, rules, over, subject),
         Requirement::Layout { subject } => is_shown(alloc, world, table, rules, over, subject),
         Requirement::Same { left, right } => {

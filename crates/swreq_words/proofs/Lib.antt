@@ -3,6 +3,7 @@ pub mod Fronts
 pub mod Steps
 pub mod Walks
 pub mod Parts
+pub mod Each
 pub mod TopCommand
 pub mod Told
 pub mod Accepts

@@ -11,8 +11,8 @@ use Rattle.clap.specs.Walk.{Held, Walk, walked, has_row, with_values, without, a
 use Rattle.clap.specs.Takes.{walk_passes, turn_passes}
 use Rattle.clap.specs.declared.parser.matches.ValueSource.TheVariants.{CommandLine, DefaultValue}
 use Rattle.clap.specs.declared.builder.value_parser.ValueParser.TheVariants as vp
-use Rattle.swreq_words.specs.declared.names.Follows.{Follows}
-use Rattle.swreq_words.specs.declared.names.Follows.TheVariants.{Nothing, Options, OptionsAndNumber}
+use Rattle.swreq_words.specs.declared.command.Follows.{Follows}
+use Rattle.swreq_words.specs.declared.command.Follows.TheVariants.{Nothing, Options, OptionsAndNumber}
 use Rattle.swreq_words.specs.Form.{Text, Part, apart, joined, trace, number, limit_name, option_word, words_of, sets}
 use Rattle.swreq_words.specs.Taken.{number_rule}
 use Rattle.swreq_words.proofs.Walks.{shape, value_of, reading, row_of, between, IsOf, built_rules, rows_in, set_row, within, with_value, Settles, IsNew, walked_joined, walked_trace, walked_first, walked_second, walked_number, turn_joined, turn_trace, turn_first, turn_second, turn_number, rows_of_value, settles_value, settles_number, on_shape}

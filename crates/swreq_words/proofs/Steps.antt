@@ -3,7 +3,7 @@ use Rattle.std.proofs.Common.{◌≡◌, ◌∙◌, ◌+◌, ℕ, false, List, [
 use Rattle.std.proofs.lemmas.List.{drop_more, drop_all}
 use Rattle.std.specs.Option.{option_map_or}
 use Rattle.std.specs.Prelude.{option_and_then}
-use Rattle.swreq_words.specs.declared.names.Follows.{Follows}
+use Rattle.swreq_words.specs.declared.command.Follows.{Follows}
 use Rattle.swreq_words.specs.declared.seen.Seen.{Seen}
 use Rattle.swreq_words.specs.Form.{Text}
 use Rattle.swreq_words.specs.Reading.{read_on, with_next, is_done, are_parts, nothing_seen}

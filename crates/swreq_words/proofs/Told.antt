@@ -4,14 +4,14 @@ use Rattle.std.specs.Str.{bytes_eq}
 use Rattle.std.specs.List.{list_all, list_any, flat_map}
 use Rattle.std.proofs.lemmas.List.{append_assoc}
 use Rattle.std.proofs.lemmas.Bool.{and_parts, and_from, or_left, or_right}
-use Rattle.swreq_words.specs.declared.names.Follows.{Follows}
-use Rattle.swreq_words.specs.declared.names.Follows.TheVariants.{Nothing, Options, OptionsAndNumber}
-use Rattle.swreq_words.specs.declared.names.Limit.{Limit}
-use Rattle.swreq_words.specs.declared.names.Limit.TheVariants.{MaxRules, MaxLength}
+use Rattle.swreq_words.specs.declared.command.Follows.{Follows}
+use Rattle.swreq_words.specs.declared.command.Follows.TheVariants.{Nothing, Options, OptionsAndNumber}
+use Rattle.swreq_words.specs.declared.limits.Limit.{Limit}
+use Rattle.swreq_words.specs.declared.limits.Limit.TheVariants.{MaxRules, MaxLength}
 use Rattle.swreq_words.specs.declared.seen.Seen.{Seen}
 use Rattle.swreq_words.specs.Numbers.{is_number}
-use Rattle.swreq_words.specs.Form.{Text, Part, apart, joined, trace, number, limit_name, greatest, greatest_count, option_word, words_of, may_follow, is_in_range, sets, is_each_once, is_set}
-use Rattle.swreq_words.specs.Reading.{after, front_of, Meaning, opens, sets_limit, traces, other, set_or, meaning_of_one, meaning_of, if_new, with_limit, takes_number, with_number, with_meaning, with_word, with_next, read_on}
+use Rattle.swreq_words.specs.Form.{Text, Part, apart, joined, trace, number, limit_name, greatest, greatest_count, option_word, words_of, may_follow, is_in_range, sets, is_each_once, is_set, takes_number}
+use Rattle.swreq_words.specs.Reading.{after, front_of, Meaning, opens, sets_limit, traces, other, set_or, meaning_of_one, meaning_of, if_new, with_limit, with_number, with_meaning, with_word, with_next, read_on}
 use Rattle.swreq_words.proofs.Fronts.{none_some, some_same, bytes_same, after_is}
 
 -- ---- what was set before

@@ -14,12 +14,13 @@ use Rattle.clap.specs.declared.builder.value_parser.ValueParser.TheVariants as v
 use Rattle.clap.specs.declared.parser.matches.ValueSource.TheVariants.{DefaultValue}
 use Rattle.clap.specs.Takes.{walk_passes, turn_passes, settle_passes, level_passes, entered_passes, default_passes, is_valid, is_given}
 use Rattle.clap.proofs.OnLiterals.{clap_on_literals}
-use Rattle.swreq_words.specs.declared.names.CommandName.{CommandName}
-use Rattle.swreq_words.specs.declared.names.CommandName.TheVariants.{Answer, Signatures, Rules, Gen, Explain, Verify, Paths, Calls, Requirements}
-use Rattle.swreq_words.specs.declared.names.Follows.{Follows}
-use Rattle.swreq_words.specs.declared.names.Follows.TheVariants.{Nothing, Options, OptionsAndNumber}
-use Rattle.swreq_words.specs.Form.{Text, Part, words_of, word_of, follows}
+use Rattle.swreq_words.specs.declared.command.Command.{Command}
+use Rattle.swreq_words.specs.declared.command.Follows.{Follows}
+use Rattle.swreq_words.specs.declared.command.Follows.TheVariants.{Nothing, Options, OptionsAndNumber}
+use Rattle.swreq_words.specs.Form.{Text, Part, words_of}
+use Rattle.swreq_words.specs.Commands.{follows, word_of}
 use Rattle.swreq_words.specs.Taken.{genreq}
+use Rattle.swreq_words.proofs.Each.{alike}
 use Rattle.swreq_words.proofs.Walks.{shape, row_of, between, built_rules, same_rules, rows_in, Settles}
 use Rattle.swreq_words.proofs.Parts.{added, AreOf, AreNew, gone, with_trace, no_trace, finished_as}
 
@@ -150,54 +151,30 @@ top_passes : (name : Text) (ws : List Text) → walked top_shape.rules top_names
 unfolding walk_passes
 top_passes name ws step turn = and_from _ _ turn (ap (λ (w : Walk). walk_passes top_shape top_names w ws) step ∙ stays_passes name [] ws)
 
-step_of : (n : CommandName) → walked top_shape.rules top_names (between nothing_held 1) (word_of n) ≡ met_at (word_of n) []
+step_of : (n : Command) → walked top_shape.rules top_names (between nothing_held 1) (word_of n) ≡ met_at (word_of n) []
 unfolding clap_on_literals
-step_of Answer = refl
-step_of Signatures = refl
-step_of Rules = refl
-step_of Gen = refl
-step_of Explain = refl
-step_of Verify = refl
-step_of Paths = refl
-step_of Calls = refl
-step_of Requirements = refl
+step_of = alike (λ n. walked top_shape.rules top_names (between nothing_held 1) (word_of n)) (λ n. met_at (word_of n) []) refl
 
-turn_of : (n : CommandName) → turn_passes top_shape top_names (between nothing_held 1) (word_of n) ≡ true
+turn_of : (n : Command) → turn_passes top_shape top_names (between nothing_held 1) (word_of n) ≡ true
 unfolding clap_on_literals
-turn_of Answer = refl
-turn_of Signatures = refl
-turn_of Rules = refl
-turn_of Gen = refl
-turn_of Explain = refl
-turn_of Verify = refl
-turn_of Paths = refl
-turn_of Calls = refl
-turn_of Requirements = refl
+turn_of = alike (λ n. turn_passes top_shape top_names (between nothing_held 1) (word_of n)) (λ n. true) refl
 
-found_of : (n : CommandName) → find (λ s. answers_to (word_of n) (label_of s)) (built genreq).subs ≡ Some (shape (follows n) (word_of n))
-found_of Answer = refl
-found_of Signatures = refl
-found_of Rules = refl
-found_of Gen = refl
-found_of Explain = refl
-found_of Verify = refl
-found_of Paths = refl
-found_of Calls = refl
-found_of Requirements = refl
+found_of : (n : Command) → find (λ s. answers_to (word_of n) (label_of s)) (built genreq).subs ≡ Some (shape (follows n) (word_of n))
+found_of = alike (λ n. find (λ s. answers_to (word_of n) (label_of s)) (built genreq).subs) (λ n. Some (shape (follows n) (word_of n))) refl
 
 name_of_shape : (may : Follows) (name : Text) → (shape may name).name ≡ name
 name_of_shape Nothing name = refl
 name_of_shape Options name = refl
 name_of_shape OptionsAndNumber name = refl
 
-pub record Taken (n : CommandName) (ps : List Part) : Type 0 where
+pub record Taken (n : Command) (ps : List Part) : Type 0 where
   pub takes_words : takes genreq (word_of n ∷ flat_map words_of ps) ≡ true
   pub finds : subcommand_of genreq (word_of n ∷ flat_map words_of ps) ≡ Some (word_of n, rows_of_parts (follows n) ps)
 
 pub simple_command : is_simple genreq ≡ true
 simple_command = simple
 
-pub taken : (n : CommandName) (ps : List Part) → AreOf (follows n) ps → AreNew [] ps → HasNumber (follows n) ps → Taken n ps
+pub taken : (n : Command) (ps : List Part) → AreOf (follows n) ps → AreNew [] ps → HasNumber (follows n) ps → Taken n ps
 taken n ps of new has_number =
     let name = word_of n in
     let s = shape (follows n) name in

@@ -8,12 +8,11 @@ use Rattle.clap.specs.Words.{Row, first_of}
 use Rattle.clap.specs.Facts.{explicit_source}
 use Rattle.clap.specs.Walk.{has_row}
 use Rattle.clap.specs.Takes.{is_given}
-use Rattle.swreq_words.specs.declared.names.Follows.{Follows}
-use Rattle.swreq_words.specs.declared.names.Follows.TheVariants.{Nothing, Options, OptionsAndNumber}
-use Rattle.swreq_words.specs.declared.names.Limit.TheVariants.{MaxRules, MaxLength}
+use Rattle.swreq_words.specs.declared.command.Follows.{Follows}
+use Rattle.swreq_words.specs.declared.command.Follows.TheVariants.{Nothing, Options, OptionsAndNumber}
+use Rattle.swreq_words.specs.declared.limits.Limit.TheVariants.{MaxRules, MaxLength}
 use Rattle.swreq_words.specs.Form.{Text, Part, apart, joined, trace, number, sets, is_each_once, is_set, text_set, text_of}
 use Rattle.swreq_words.specs.Found.{is_true}
-use Rattle.swreq_words.proofs.Fronts.{none_some}
 use Rattle.swreq_words.proofs.Walks.{row_of}
 use Rattle.swreq_words.proofs.Parts.{AreNew, no_trace}
 use Rattle.swreq_words.proofs.TopCommand.{trace_row, rows_of_parts}
@@ -55,24 +54,6 @@ pub given : (what : Text) (ps : List Part) → is_set what ps ≡ true → is_gi
 given what [] e = absurd (true≢false (sym e))
 given what (p ∷ ps) e =
     given_if (bytes_eq (sets p) what) (row_of p) (find (λ r. bytes_eq r.id what) (map row_of ps)) (is_set what ps) refl (given what ps) e
-
-set_if : (b : Bool) (t u : Text) (rest : Option Text) (set : Bool) → (rest ≡ Some u → set ≡ true)
-    → (if b then Some t else rest) ≡ Some u → (b || set) ≡ true
-set_if true t u rest set more e = refl
-set_if false t u rest set more e = more e
-
-pub text_is_set : (what u : Text) (ps : List Part) → text_set what ps ≡ Some u → is_set what ps ≡ true
-text_is_set what u [] e = absurd (none_some u e)
-text_is_set what u (p ∷ ps) e = set_if (bytes_eq (sets p) what) (text_of p) u (text_set what ps) (is_set what ps) (text_is_set what u ps) e
-
-some_if : (b : Bool) (t : Text) (rest : Option Text) (set : Bool) → (set ≡ true → (u : Text) × (rest ≡ Some u)) → (b || set) ≡ true
-    → (u : Text) × ((if b then Some t else rest) ≡ Some u)
-some_if true t rest set more e = (t, refl)
-some_if false t rest set more e = more e
-
-pub set_text : (what : Text) (ps : List Part) → is_set what ps ≡ true → (u : Text) × (text_set what ps ≡ Some u)
-set_text what [] e = absurd (true≢false (sym e))
-set_text what (p ∷ ps) e = some_if (bytes_eq (sets p) what) (text_of p) (text_set what ps) (is_set what ps) (set_text what ps) e
 
 abbrev value : Row → Option Text
 value r = slice_get r.values 0

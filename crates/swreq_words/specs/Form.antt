@@ -4,44 +4,18 @@ use Rattle.std.specs.List.{list_all, list_any, flat_map}
 use Rattle.std.specs.Option.{option_map_or}
 use Rattle.std.specs.Str.{bytes_eq}
 use Rattle.swreq_words.specs.declared.command.Command.{Command}
-use Rattle.swreq_words.specs.declared.command.Command.TheVariants as command
 use Rattle.swreq_words.specs.declared.command.CommandLine.{CommandLine}
-use Rattle.swreq_words.specs.declared.names.CommandName.{CommandName}
-use Rattle.swreq_words.specs.declared.names.CommandName.TheVariants.{Answer, Signatures, Rules, Gen, Explain, Verify, Paths, Calls, Requirements}
-use Rattle.swreq_words.specs.declared.names.Follows.{Follows}
-use Rattle.swreq_words.specs.declared.names.Follows.TheVariants.{Nothing, Options, OptionsAndNumber}
-use Rattle.swreq_words.specs.declared.names.Limit.{Limit}
-use Rattle.swreq_words.specs.declared.names.Limit.TheVariants.{MaxRules, MaxLength}
+use Rattle.swreq_words.specs.declared.command.Follows.{Follows}
+use Rattle.swreq_words.specs.declared.command.Follows.TheVariants.{Nothing, Options, OptionsAndNumber}
+use Rattle.swreq_words.specs.declared.limits.Limit.{Limit}
+use Rattle.swreq_words.specs.declared.limits.Limit.TheVariants.{MaxRules, MaxLength}
+use Rattle.swreq_words.specs.Commands.{follows, word_of}
 use Rattle.swreq_words.specs.Numbers.{is_number, number_of}
 
 abbrev pub Text : Type 0
 Text = List ℕ
 
--- ---- the tables
-
--- how a command is named
-abbrev pub word_of : CommandName → Text
-word_of Answer = codes "answer"
-word_of Signatures = codes "signatures"
-word_of Rules = codes "rules"
-word_of Gen = codes "gen"
-word_of Explain = codes "explain"
-word_of Verify = codes "verify"
-word_of Paths = codes "paths"
-word_of Calls = codes "calls"
-word_of Requirements = codes "requirements"
-
--- what may follow the name of a command
-abbrev pub follows : CommandName → Follows
-follows Answer = Options
-follows Signatures = Options
-follows Rules = Options
-follows Gen = OptionsAndNumber
-follows Explain = Options
-follows Verify = Nothing
-follows Paths = Options
-follows Calls = Options
-follows Requirements = Options
+-- ---- the numbers
 
 -- how a limit is named
 abbrev pub limit_name : Limit → Text
@@ -58,9 +32,13 @@ abbrev pub preset : Limit → ℕ
 preset MaxRules = 4000
 preset MaxLength = 64
 
--- the greatest number of `gen`
+-- the greatest number of a command that takes one
 abbrev pub greatest_count : ℕ
 greatest_count = 100
+
+-- the number of a command that takes none
+abbrev pub preset_count : ℕ
+preset_count = 1
 
 -- ---- the form
 
@@ -127,33 +105,30 @@ is_set what = list_any (λ part. bytes_eq (sets part) what)
 abbrev pub limit_in : Limit → List Part → ℕ
 limit_in limit parts = option_map_or number_of (text_set (limit_name limit) parts) (preset limit)
 
--- the command; `gen` is a command only with its number
-abbrev pub command_of : CommandName → Option Text → Option Command
-command_of Answer text = Some command.Answer
-command_of Signatures text = Some command.Signatures
-command_of Rules text = Some command.Rules
-command_of Gen None = None
-command_of Gen (Some text) = Some (command.Gen (number_of text))
-command_of Explain text = Some command.Explain
-command_of Verify text = Some command.Verify
-command_of Paths text = Some command.Paths
-command_of Calls text = Some command.Calls
-command_of Requirements text = Some command.Requirements
+abbrev pub count_in : List Part → ℕ
+count_in parts = option_map_or number_of (text_set (codes "number") parts) preset_count
+
+-- a number has to follow the name of the command
+abbrev pub takes_number : Follows → Bool
+takes_number OptionsAndNumber = true
+takes_number _ = false
 
 -- the words are the name of a command and then parts that may follow it; each part has its number in its range, and sets what no part
--- before it sets
+-- before it sets; and the number of the command is there if it takes one
 pub record HasForm (words : List Text) : Type 0 where
-  pub name : CommandName
+  pub command : Command
   pub parts : List Part
-  pub spelled : words ≡ word_of name ∷ flat_map words_of parts
-  pub follow : list_all (may_follow (follows name)) parts ≡ true
+  pub spelled : words ≡ word_of command ∷ flat_map words_of parts
+  pub follow : list_all (may_follow (follows command)) parts ≡ true
   pub in_range : list_all is_in_range parts ≡ true
   pub once : is_each_once [] parts ≡ true
+  pub counted : takes_number (follows command) ≡ true → is_set (codes "number") parts ≡ true
 
 -- the words have the form, and say this command line
 pub record Says (words : List Text) (line : CommandLine) : Type 0 where
   pub form : HasForm words
-  pub command : command_of form.name (text_set (codes "number") form.parts) ≡ Some line.command
+  pub command : line.command ≡ form.command
+  pub count : line.count ≡ count_in form.parts
   pub max_rules : line.max_rules ≡ limit_in MaxRules form.parts
   pub max_length : line.max_length ≡ limit_in MaxLength form.parts
   pub traces : line.trace ≡ is_set (codes "trace") form.parts

@@ -3,13 +3,12 @@ use Rattle.std.specs.Prelude.{ℕ, Bool, false, List, Option, option_and_then, o
 use Rattle.std.specs.Option.{option_map_or}
 use Rattle.std.specs.Str.{bytes_eq}
 use Rattle.clap.specs.Words.{Row, first_of}
-use Rattle.swreq_words.specs.declared.command.Command.{Command}
 use Rattle.swreq_words.specs.declared.command.CommandLine.{CommandLine}
-use Rattle.swreq_words.specs.declared.names.Limit.{Limit}
-use Rattle.swreq_words.specs.declared.names.Limit.TheVariants.{MaxRules, MaxLength}
-use Rattle.swreq_words.specs.declared.names.CommandName.{CommandName}
+use Rattle.swreq_words.specs.declared.limits.Limit.{Limit}
+use Rattle.swreq_words.specs.declared.limits.Limit.TheVariants.{MaxRules, MaxLength}
+use Rattle.swreq_words.specs.declared.command.Command.{Command}
 use Rattle.swreq_words.specs.Numbers.{number_of}
-use Rattle.swreq_words.specs.Form.{Text, command_of, limit_name, preset}
+use Rattle.swreq_words.specs.Form.{Text, limit_name, preset, preset_count}
 use Rattle.swreq_words.specs.Reading.{name_of}
 
 abbrev pub limit_found : Limit → List Row → ℕ
@@ -18,16 +17,17 @@ limit_found limit rows = option_map_or number_of (first_of (limit_name limit) ro
 abbrev pub is_true : Option Text → Bool
 is_true found = option_map_or (λ text. bytes_eq text (codes "true")) found false
 
-abbrev pub line_with : List Row → Command → CommandLine
-line_with rows command = record {
+abbrev pub count_found : List Row → ℕ
+count_found rows = option_map_or number_of (first_of (codes "number") rows) preset_count
+
+abbrev pub line_of : Command → List Row → CommandLine
+line_of command rows = record {
   command = command;
+  count = count_found rows;
   max_rules = limit_found MaxRules rows;
   max_length = limit_found MaxLength rows;
   trace = is_true (first_of (codes "trace") rows);
 }
 
-abbrev pub line_of : CommandName → List Row → Option CommandLine
-line_of name rows = option_map (line_with rows) (command_of name (first_of (codes "number") rows))
-
 abbrev pub line_found : Option (Text × List Row) → Option CommandLine
-line_found found = option_and_then (λ p. option_and_then (λ name. line_of name p.1) (name_of p.0)) found
+line_found found = option_and_then (λ p. option_map (λ command. line_of command p.1) (name_of p.0)) found

@@ -3,19 +3,20 @@ use Rattle.std.specs.Prelude.{◌==◌, Bool, true, false, not, List, [], ◌∷
 use Rattle.std.specs.List.{find}
 use Rattle.std.specs.Str.{bytes_eq}
 use Rattle.std.specs.Option.{option_map_or}
-use Rattle.swreq_words.specs.declared.names.CommandName.{CommandName}
-use Rattle.swreq_words.specs.declared.names.TheConstants.{COMMANDS}
-use Rattle.swreq_words.specs.declared.names.Follows.{Follows}
-use Rattle.swreq_words.specs.declared.names.Follows.TheVariants.{Nothing, Options, OptionsAndNumber}
-use Rattle.swreq_words.specs.declared.names.Limit.{Limit}
-use Rattle.swreq_words.specs.declared.names.Limit.TheVariants.{MaxRules, MaxLength}
+use Rattle.swreq_words.specs.declared.command.Command.{Command}
+use Rattle.swreq_words.specs.declared.command.TheConstants.{COMMANDS}
+use Rattle.swreq_words.specs.declared.command.Follows.{Follows}
+use Rattle.swreq_words.specs.declared.command.Follows.TheVariants.{Nothing, Options, OptionsAndNumber}
+use Rattle.swreq_words.specs.declared.limits.Limit.{Limit}
+use Rattle.swreq_words.specs.declared.limits.Limit.TheVariants.{MaxRules, MaxLength}
 use Rattle.swreq_words.specs.declared.seen.Seen.{Seen}
 use Rattle.swreq_words.specs.Numbers.{is_number}
-use Rattle.swreq_words.specs.Form.{Text, follows, limit_name, greatest, greatest_count, option_word, word_of}
+use Rattle.swreq_words.specs.Form.{Text, limit_name, greatest, greatest_count, option_word, takes_number}
+use Rattle.swreq_words.specs.Commands.{follows, word_of}
 
 -- the command that a word names
-unfoldable pub name_of : Text → Option CommandName
-name_of word = find (λ name. bytes_eq (word_of name) word) COMMANDS
+unfoldable pub name_of : Text → Option Command
+name_of word = find (λ command. bytes_eq (word_of command) word) COMMANDS
 
 -- what follows this front in the text, if the text begins with it
 unfoldable pub after : Text → Text → Option Text
@@ -65,10 +66,6 @@ with_limit seen MaxRules text =
 with_limit seen MaxLength text =
     if_new seen.max_length (is_number (greatest MaxLength) text) (record seen { waiting = None; max_length = true })
 
-abbrev pub takes_number : Follows → Bool
-takes_number OptionsAndNumber = true
-takes_number _ = false
-
 abbrev pub with_number : Follows → Seen → Text → Option Seen
 with_number may seen text = if_new seen.number (takes_number may && is_number greatest_count text) (record seen { number = true })
 
@@ -102,4 +99,4 @@ are_parts may words = option_map_or (is_done may) (read_on may nothing_seen word
 
 abbrev pub has_form : List Text → Bool
 has_form [] = false
-has_form (word ∷ words) = option_map_or (λ name. are_parts (follows name) words) (name_of word) false
+has_form (word ∷ words) = option_map_or (λ command. are_parts (follows command) words) (name_of word) false

@@ -3,7 +3,7 @@
 ghost use Rattle.std.specs.Prelude.{◌≡◌, map, string_bytes};
 ghost use Rattle.swreq_words.specs.Reading.{are_parts, has_form};
 
-use crate::names::{CommandName, Follows};
+use crate::command::{Command, Follows};
 use crate::seen::Seen;
 
 fn are_parts(may: Follows, words: &[String]) -> bool
@@ -25,8 +25,8 @@ pub(crate) fn has_form(words: &[String]) -> bool
 {
     match words {
         [] => false,
-        [first, rest @ ..] => match CommandName::of(first.as_str()) {
-            Some(name) => are_parts(name.follows(), rest),
+        [first, rest @ ..] => match Command::of(first.as_str()) {
+            Some(command) => are_parts(command.follows(), rest),
             None => false,
         },
     }

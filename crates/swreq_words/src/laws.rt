@@ -2,7 +2,6 @@
 
 ghost use Rattle.std.specs.Prelude.{◌≡◌, ◌≤◌, List, ℕ, true};
 ghost use Rattle.clap.specs.Words.{takes};
-ghost use Rattle.swreq_words.specs.declared.command.Command.TheVariants as command;
 ghost use Rattle.swreq_words.specs.declared.command.CommandLine.{CommandLine};
 ghost use Rattle.swreq_words.specs.Form.{Says};
 ghost use Rattle.swreq_words.specs.Taken.{genreq};
@@ -23,6 +22,6 @@ pub fn numbers_are_in_range()
     ensures limits { (words : List (List ℕ)) (line : CommandLine) → Says words line
         → (1 ≤ line.max_rules) × (line.max_rules ≤ 100000) × (1 ≤ line.max_length)
         × (line.max_length ≤ 255) }
-    ensures count { (words : List (List ℕ)) (line : CommandLine) (n : ℕ) → Says words line
-        → line.command ≡ command.Gen n → (1 ≤ n) × (n ≤ 100) }
+    ensures count { (words : List (List ℕ)) (line : CommandLine) → Says words line
+        → (1 ≤ line.count) × (line.count ≤ 100) }
 {}

@@ -4,8 +4,8 @@
 mod command;
 mod form;
 pub mod laws;
+mod limits;
 mod meaning;
-mod names;
 mod numbers;
 mod parse;
 mod reading;

@@ -4,7 +4,7 @@ ghost use Rattle.std.specs.Prelude.{◌≡◌, option_map};
 ghost use Rattle.swreq_words.specs.Meant.{meant};
 ghost use Rattle.swreq_words.specs.Reading.{after, meaning_of, meaning_of_one};
 
-use crate::names::Limit;
+use crate::limits::Limit;
 
 /// The word names a limit whose number comes next, sets a limit, is `--trace`, or is none of these.
 #[derive(Clone, Copy, Debug)]

@@ -3,12 +3,11 @@
 ghost use Rattle.std.specs.Prelude.{◌≡◌, List, Option, Some, true, false, IfErr, IfOk, map, string_bytes, option_map, codes};
 ghost use Rattle.clap.specs.Words.{app_of, kind_of, takes, rows_of, found_of, first_of, one_of, subcommand_rows_of, subcommand_of, with_rule};
 ghost use Rattle.clap.specs.declared.builder.command.Command.TheViews.{out-Command};
-ghost use Rattle.swreq_words.specs.Form.{command_of};
 ghost use Rattle.swreq_words.specs.Taken.{bare, genreq, leaf_of, limit_rule, number_rule, trace_rule, with_leaf, with_options, with_parts};
-ghost use Rattle.swreq_words.specs.Found.{is_true, limit_found, line_found, line_of};
+ghost use Rattle.swreq_words.specs.Found.{count_found, is_true, limit_found, line_found, line_of};
 
-use crate::command::{Command, CommandLine};
-use crate::names::{COMMANDS, CommandName, Follows, Limit};
+use crate::command::{COMMANDS, Command, CommandLine, Follows};
+use crate::limits::{Limit, PRESET_COUNT};
 use crate::numbers::number_of;
 use clap::error::ErrorKind;
 use clap::{Arg, ArgAction, ArgMatches};
@@ -88,13 +87,13 @@ fn with_parts<'a>(
     }
 }
 
-// The command of this name.
-fn leaf<'a>(alloc: Global, name: CommandName) -> Result<clap::Command<'a>, AllocError>
-    ensures app { IfOk result (λ c. app_of c ≡ leaf_of name) }
+// The subcommand of a command.
+fn leaf<'a>(alloc: Global, of: Command) -> Result<clap::Command<'a>, AllocError>
+    ensures app { IfOk result (λ c. app_of c ≡ leaf_of of) }
     ensures globals { IfOk result (λ c. (out-Command c).has_globals ≡ false) }
 {
-    let command = clap::Command::new(alloc, name.word());
-    with_parts(alloc, command, name.follows())
+    let command = clap::Command::new(alloc, of.word());
+    with_parts(alloc, command, of.follows())
 }
 
 // The command without its subcommands.
@@ -106,15 +105,15 @@ fn bare<'a>(alloc: Global) -> clap::Command<'a>
         .no_binary_name(true)
 }
 
-// The command with the subcommand of this name.
+// The whole command with one subcommand more.
 fn with_leaf<'a>(
     alloc: Global,
     command: clap::Command<'a>,
-    name: CommandName,
+    of: Command,
 ) -> Result<clap::Command<'a>, AllocError>
-    ensures { IfOk result (λ c. app_of c ≡ with_leaf (app_of command.entry) name) }
+    ensures { IfOk result (λ c. app_of c ≡ with_leaf (app_of command.entry) of) }
 {
-    let leaf = leaf(alloc, name)?;
+    let leaf = leaf(alloc, of)?;
     command.subcommand(leaf)
 }
 
@@ -123,8 +122,8 @@ fn genreq<'a>(alloc: Global) -> Result<clap::Command<'a>, AllocError>
     ensures { IfOk result (λ c. app_of c ≡ genreq) }
 {
     let mut command = bare(alloc);
-    for name in COMMANDS {
-        command = with_leaf(alloc, command, name)?;
+    for of in COMMANDS {
+        command = with_leaf(alloc, command, of)?;
     }
     Ok(command)
 }
@@ -171,40 +170,25 @@ fn trace_found(matches: &ArgMatches<'_>) -> bool
     }
 }
 
-fn command_of(name: CommandName, number: Option<&str>) -> Option<Command>
-    ensures { result ≡ command_of name (option_map (λ text. text.now) number.entry) }
+// The number of the command.
+fn count_found(matches: &ArgMatches<'_>) -> u32
+    ensures { result ≡ count_found (rows_of (found_of matches.now)) }
 {
-    match name {
-        CommandName::Answer => Some(Command::Answer),
-        CommandName::Signatures => Some(Command::Signatures),
-        CommandName::Rules => Some(Command::Rules),
-        CommandName::Gen => match number {
-            Some(text) => Some(Command::Gen { n: number_of(text) }),
-            None => None,
-        },
-        CommandName::Explain => Some(Command::Explain),
-        CommandName::Verify => Some(Command::Verify),
-        CommandName::Paths => Some(Command::Paths),
-        CommandName::Calls => Some(Command::Calls),
-        CommandName::Requirements => Some(Command::Requirements),
+    match text_found(matches, "number") {
+        Some(text) => number_of(text),
+        None => PRESET_COUNT,
     }
 }
 
-fn line_of(name: CommandName, matches: &ArgMatches<'_>) -> Option<CommandLine>
-    ensures { result ≡ line_of name (rows_of (found_of matches.now)) }
+fn line_of(command: Command, matches: &ArgMatches<'_>) -> CommandLine
+    ensures { result ≡ line_of command (rows_of (found_of matches.now)) }
 {
-    let number = text_found(matches, "number");
-    let max_rules = limit_found(matches, Limit::MaxRules);
-    let max_length = limit_found(matches, Limit::MaxLength);
-    let trace = trace_found(matches);
-    match command_of(name, number) {
-        Some(command) => Some(CommandLine {
-            command,
-            max_rules,
-            max_length,
-            trace,
-        }),
-        None => None,
+    CommandLine {
+        command,
+        count: count_found(matches),
+        max_rules: limit_found(matches, Limit::MaxRules),
+        max_length: limit_found(matches, Limit::MaxLength),
+        trace: trace_found(matches),
     }
 }
 
@@ -212,11 +196,7 @@ fn line_of(name: CommandName, matches: &ArgMatches<'_>) -> Option<CommandLine>
 pub(crate) fn line_found(matches: &ArgMatches<'_>) -> Option<CommandLine>
     ensures { result ≡ line_found (subcommand_rows_of matches.now) }
 {
-    match matches.subcommand() {
-        Some((word, inner)) => match CommandName::of(word) {
-            Some(name) => line_of(name, inner),
-            None => None,
-        },
-        None => None,
-    }
+    let (word, inner) = matches.subcommand()?;
+    let command = Command::of(word)?;
+    Some(line_of(command, inner))
 }

@@ -31,8 +31,6 @@ pub fn read(alloc: Global, words: &[String]) -> Result<CommandLine, UsageErr>
     if !has_form(words) {
         return Err(UsageErr::Usage);
     }
-    match matches_of(alloc, words) {
-        Ok(matches) => line_found(&matches).ok_or(UsageErr::Usage),
-        Err(_) => Err(UsageErr::Memory),
-    }
+    let matches = matches_of(alloc, words).map_err(|_| UsageErr::Memory)?;
+    line_found(&matches).ok_or(UsageErr::Usage)
 }

@@ -2,14 +2,13 @@
 
 ghost use Rattle.std.specs.Prelude.{◌≡◌};
 ghost use Rattle.swreq_words.specs.Meant.{meant};
-ghost use Rattle.swreq_words.specs.Reading.{if_new, is_done, nothing_seen, takes_number, with_limit, with_meaning, with_next, with_number, with_word};
+ghost use Rattle.swreq_words.specs.Form.{takes_number};
+ghost use Rattle.swreq_words.specs.Reading.{if_new, is_done, nothing_seen, with_limit, with_meaning, with_next, with_number, with_word};
 
+use crate::command::Follows;
+use crate::limits::{GREATEST_COUNT, Limit};
 use crate::meaning::{Meaning, meaning_of};
-use crate::names::{Follows, Limit};
 use crate::numbers::is_number;
-
-// The greatest number of `gen`.
-const GREATEST_COUNT: u32 = 100;
 
 /// Which options and numbers were met, and the limit whose number comes next, if one does.
 #[derive(Clone, Copy, Debug)]

@@ -1,5 +1,5 @@
 -- Functions of structs in which nothing of their own is written, by what is kept of them.
-use Rattle.std.proofs.Common.{◌≡◌, ◌∙◌, refl, sym, ap, subst, ◌+◌, arith, List, [], ◌∷◌, ◌++◌, Some, None, length, get_or, map, slice_get, append-nil, length-append}
+use Rattle.std.proofs.Common.{◌≡◌, ◌∙◌, refl, sym, ap, arith, List, [], ◌∷◌, ◌++◌, Some, None, length, get_or, map, slice_get, append-nil, length-append}
 use Rattle.swreq_lowering.specs.declared.ids.FuncId.{FuncId}
 use Rattle.swreq_lowering.specs.declared.ids.Written.{Written}
 use Rattle.swreq_world.specs.Additions.{AddsNothing}

@@ -1,5 +1,5 @@
 -- In the world of a text whose names resolve, written inheritance leads from a protocol to those that it inherits.
-use Rattle.std.proofs.Common.{◌≡◌, ◌↔◌, ℕ, List, [], Some, get_or, map, slice_get, Contains, IsTrue, refl, sym, ap, subst, ◌∙◌}
+use Rattle.std.proofs.Common.{◌≡◌, ◌↔◌, ℕ, [], Some, get_or, map, slice_get, Contains, IsTrue, refl, sym, ap, subst, ◌∙◌}
 use Rattle.std.specs.List.{All}
 use Rattle.std.proofs.lemmas.Option.{same_Some, slice_get-get_or}
 use Rattle.swreq_closure.specs.Chains.{Leads, next}

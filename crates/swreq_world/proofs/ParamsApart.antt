@@ -9,7 +9,6 @@ use Rattle.swreq_lex.specs.Slices.{AreSlices}
 use Rattle.swreq_lex.specs.Tokens.{HasTokens, first_offset}
 use Rattle.swreq_grammar.specs.Grammar.{Matches, Parts, terminal}
 use Rattle.swreq_decl.specs.declared.terminal.Terminal.TheVariants.{Comma}
-use Rattle.swreq_decl.specs.declared.skeleton.Span.{Span}
 use Rattle.swreq_decl.specs.declared.skeleton.FunctionDecl.{FunctionDecl}
 use Rattle.swreq_decl.specs.declared.skeleton.ParamDecl.{ParamDecl}
 use Rattle.swreq_decl.specs.declared.skeleton.StructDecl.{StructDecl}

@@ -1,5 +1,5 @@
 -- What the names of a text refer to, where they resolve.
-use Rattle.std.proofs.Common.{◌≡◌, ℕ, zero, suc, ◌+◌, ◌<◌, ⊎_elim, Bool, true, false, cond, not, ◌&&◌, List, [], ◌∷◌, ◌++◌, Option, Some, None, is_some, length, get_or, map, slice_get, refl, sym, ap, subst, ◌∙◌, arith}
+use Rattle.std.proofs.Common.{◌≡◌, ℕ, ◌+◌, ◌<◌, ⊎_elim, Bool, true, false, cond, not, ◌&&◌, List, [], ◌∷◌, ◌++◌, Option, Some, None, is_some, length, get_or, map, slice_get, refl, sym, ap, subst, ◌∙◌, arith}
 use Rattle.std.proofs.lemmas.Iterator.Adapters.{position_from-zero}
 use Rattle.std.proofs.lemmas.List.Elements.{All-nil, All-weaker, Contains-get_or}
 use Rattle.std.proofs.lemmas.List.Quantifiers.{position-Some}
@@ -28,7 +28,6 @@ use Rattle.swreq_resolve.specs.Resolving.{HasNames}
 use Rattle.swreq_resolve.specs.Refusals.{duplicates, of_spaces, of_protocol, of_primaries, primary_of, of_entity, of_requirement, of_members, begins_in_protocol, of_struct, of_function, of_query, refusals_in, by_place}
 use Rattle.swreq_resolve.proofs.Meaning.{any_to}
 use Rattle.swreq_names.specs.Spaces.{Spaces, spaces, word, declaration, declarations, place, offset_of, is_declared, is_declared_before, refers_to, protocol_of, declares, has_member, any_below}
-use Rattle.swreq_lexicon.specs.declared.pair.ProtocolName.{ProtocolName}
 use Rattle.swreq_lexicon.specs.Lexicons.{pair, proto_by, name_by, assoc_by}
 use Rattle.swreq_rank.specs.Ranks.{Bytes, rank}
 use Rattle.swreq_lexicon.specs.Texts.{IsLexiconOf, protocol_names, declared_by, declared_in}

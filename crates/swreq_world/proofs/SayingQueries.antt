@@ -1,5 +1,5 @@
 -- The queries of a world say what is written in those of its text.
-use Rattle.std.proofs.Common.{◌≡◌, ℕ, Bool, true, false, cond, [], ◌∷◌, Option, Some, None, slice_get, Contains, refl, sym, ap, subst, ◌∙◌}
+use Rattle.std.proofs.Common.{◌≡◌, ℕ, Bool, true, false, cond, [], ◌∷◌, Some, slice_get, Contains, refl, sym, ap, subst, ◌∙◌}
 use Rattle.std.proofs.lemmas.List.Elements.{Contains-append_right}
 use Rattle.std.specs.List.{flat_map}
 use Rattle.std.specs.Option.{option_map}
@@ -10,7 +10,6 @@ use Rattle.swreq_decl.specs.declared.skeleton.Ask.TheVariants as asked_for
 use Rattle.swreq_decl.specs.declared.skeleton.Entity.{Entity}
 use Rattle.swreq_decl.specs.declared.skeleton.QueryDecl.{QueryDecl}
 use Rattle.swreq_decl.specs.declared.skeleton.Skeleton.{Skeleton}
-use Rattle.swreq_decl.specs.declared.skeleton.Span.{Span}
 use Rattle.swreq_decl.specs.declared.skeleton.TypeDecl.{TypeDecl}
 use Rattle.swreq_names.specs.declared.signature.Signature.{Signature}
 use Rattle.swreq_names.specs.Parts as parts
@@ -26,7 +25,7 @@ use Rattle.swreq_lowering.specs.Queries.{TermQuery, asked_of, asked_signature, q
 use Rattle.swreq_lowering.specs.Queries.TermQuery.{AsksConforms, AsksAnyObject}
 use Rattle.swreq_lowering.specs.Signatures.{func_id, in_order}
 use Rattle.swreq_lowering.specs.Types.{type_in}
-use Rattle.swreq_lowering.specs.Words.{WordsView, declared, proto_of}
+use Rattle.swreq_lowering.specs.Words.{WordsView, proto_of}
 use Rattle.swreq_world.specs.Lookups.{IsNamedAt}
 use Rattle.swreq_world.specs.ReadBack.{SaysAsk, SaysIn, SaysProtocol, SaysQuery, SaysType, asked}
 use Rattle.swreq_world.specs.WorldOf.{IsWorldOf, words_of}

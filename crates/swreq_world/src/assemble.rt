@@ -30,20 +30,20 @@ use swreq_resolve::{NameErr, resolve_names};
 fn assemble(
     alloc: Global,
     text: &[u8],
-    s: &Skeleton,
+    skeleton: &Skeleton,
     lexicon: Box<Lexicon>,
     table: &mut ParamTable,
 ) -> Result<World, AllocError>
     requires limit { length text.now ≤ 1048576 }
-    requires stands { StandsFor text.now s.now }
-    requires short { HasShortLists text.now s.now }
-    requires lexicon { IsLexiconOf text.now s.now lexicon.value }
-    ensures world { IfOk result (λ w. IsWorldOf text.now s.now (world_by table.new w)) }
+    requires stands { StandsFor text.now skeleton.now }
+    requires short { HasShortLists text.now skeleton.now }
+    requires lexicon { IsLexiconOf text.now skeleton.now lexicon.value }
+    ensures world { IfOk result (λ w. IsWorldOf text.now skeleton.now (world_by table.new w)) }
     ensures over { IfOk result (IsOverTable table.new) }
     ensures extends { Extends table.old table.new }
 {
     tokens_are_slices(text);
-    let words = words_of(text, s, &lexicon);
+    let words = words_of(text, skeleton, &lexicon);
     let made = lists_of(alloc, table, &words)?;
     Ok(World::of(lexicon, made))
 }
@@ -52,20 +52,20 @@ fn assemble(
 fn with_names(
     alloc: Global,
     text: &[u8],
-    s: &Skeleton,
+    skeleton: &Skeleton,
     names: Names,
     table: &mut ParamTable,
 ) -> Result<World, AllocError>
     requires limit { length text.now ≤ 1048576 }
-    requires stands { StandsFor text.now s.now }
-    requires declared { HasDeclared text.now s.now names }
-    ensures world { IfOk result (λ w. IsWorldOf text.now s.now (world_by table.new w)) }
+    requires stands { StandsFor text.now skeleton.now }
+    requires declared { HasDeclared text.now skeleton.now names }
+    ensures world { IfOk result (λ w. IsWorldOf text.now skeleton.now (world_by table.new w)) }
     ensures over { IfOk result (IsOverTable table.new) }
     ensures extends { Extends table.old table.new }
 {
     lists_are_short(text);
-    let lexicon = Box::new(alloc, Lexicon::of(alloc, text, s, names)?)?;
-    assemble(alloc, text, s, lexicon, table)
+    let lexicon = Box::new(alloc, Lexicon::of(alloc, text, skeleton, names)?)?;
+    assemble(alloc, text, skeleton, lexicon, table)
 }
 
 impl World {
@@ -78,30 +78,27 @@ impl World {
     pub fn resolve(
         alloc: Global,
         text: &[u8],
-        s: &Skeleton,
+        skeleton: &Skeleton,
         table: &mut ParamTable,
     ) -> Result<World, NameErr>
         requires limit { length text.now ≤ 1048576 }
-        requires stands { StandsFor text.now s.now }
-        ensures world { IfOk result (λ w. IsWorldOf text.now s.now (world_by table.new w)) }
+        requires stands { StandsFor text.now skeleton.now }
+        ensures world { IfOk result
+            (λ w. IsWorldOf text.now skeleton.now (world_by table.new w)) }
         ensures over { IfOk result (IsOverTable table.new) }
         ensures text { IfOk result (IsTextOver table.new) }
         ensures short { IfOk result IsShort }
         ensures extends { Extends table.old table.new }
-        ensures ok { IsOk result → Resolve text.now s.now }
-        ensures resolves { Resolve text.now s.now → IsOk result ⊎ (result ≡ Err Memory) }
-        ensures refused { IfErr result (λ e. RefusesSkeleton text.now s.now e ⊎ (e ≡ Memory)) }
-        ensures refuses { (e : NameErr) → RefusesSkeleton text.now s.now e
+        ensures ok { IsOk result → Resolve text.now skeleton.now }
+        ensures resolves { Resolve text.now skeleton.now → IsOk result ⊎ (result ≡ Err Memory) }
+        ensures refused { IfErr result
+            (λ e. RefusesSkeleton text.now skeleton.now e ⊎ (e ≡ Memory)) }
+        ensures refuses { (e : NameErr) → RefusesSkeleton text.now skeleton.now e
             → (result ≡ Err e) ⊎ (result ≡ Err Memory) }
     {
         worlds_are_closed(text);
         worlds_are_short(text);
-        match resolve_names(alloc, text, s) {
-            Ok(names) => match with_names(alloc, text, s, names, table) {
-                Ok(world) => Ok(world),
-                Err(_) => Err(NameErr::Memory),
-            },
-            Err(refusal) => Err(refusal),
-        }
+        let names = resolve_names(alloc, text, skeleton)?;
+        Ok(with_names(alloc, text, skeleton, names, table)?)
     }
 }

@@ -11,15 +11,19 @@ use swreq_param::{AssocId, NameId, ProtoId};
 
 impl<'a> FunctionFacts<'a> {
     /// The list of a signature, `World::bare_signature`.
-    pub fn of(world: &'a World, f: FuncId, written: &'a [Requirement]) -> FunctionFacts<'a>
-        requires f { f.place < length world.now.signatures }
+    pub fn of(world: &'a World, signature: FuncId, written: &'a [Requirement]) -> FunctionFacts<'a>
+        requires f { signature.place < length world.now.signatures }
         requires written { written.now
-            ≡ map (λ r. r.requirement) (signature_at world.now f).requirements }
+            ≡ map (λ r. r.requirement) (signature_at world.now signature).requirements }
         ensures world { result.world.now ≡ world.now }
-        ensures f { result.f ≡ f }
+        ensures f { result.f ≡ signature }
     {
         world.declared_once();
-        FunctionFacts { world, f, written }
+        FunctionFacts {
+            world,
+            f: signature,
+            written,
+        }
     }
 }
 

@@ -49,10 +49,10 @@ fn functions_of(structs: &[StructDecl], place: usize) -> &[FunctionDecl]
 }
 
 /// The name of a signature.
-fn name_of<'a>(words: &Words<'a>, g: Signature) -> &'a [u8]
-    ensures { result.now ≡ name_of (words_by words.now) g }
+fn name_of<'a>(words: &Words<'a>, signature: Signature) -> &'a [u8]
+    ensures { result.now ≡ name_of (words_by words.now) signature }
 {
-    match g {
+    match signature {
         Signature::Struct(place) => struct_name(words, place),
         Signature::Function(place) => function_name(words, words.skeleton.functions.items(), place),
         Signature::Nested { outer, function } => {
@@ -63,10 +63,10 @@ fn name_of<'a>(words: &Words<'a>, g: Signature) -> &'a [u8]
 }
 
 /// The struct around a signature.
-fn outer_of(order: &Order, g: Signature) -> Option<FuncId>
-    ensures { result ≡ outer_of order.now g }
+fn outer_of(order: &Order, signature: Signature) -> Option<FuncId>
+    ensures { result ≡ outer_of order.now signature }
 {
-    match g {
+    match signature {
         Signature::Nested { outer, .. } => Some(order.func_id(Signature::Struct(outer))),
         _ => None,
     }
@@ -133,14 +133,14 @@ fn own_list(
     alloc: Global,
     table: &mut ParamTable,
     words: &Words<'_>,
-    g: Signature,
+    signature: Signature,
 ) -> Result<Vec<Written>, AllocError>
     requires { HasShortLists words.now.text.now words.now.skeleton.now }
     ensures lists { IfOk result
-        (λ v. Lists table.old table.new (own_list (words_by words.now) g) v.items) }
+        (λ v. Lists table.old table.new (own_list (words_by words.now) signature) v.items) }
     ensures extends { Extends table.old table.new }
 {
-    match g {
+    match signature {
         Signature::Struct(place) => list_of_struct(alloc, table, words, place),
         Signature::Function(place) => list_of_function(alloc, table, words, place),
         Signature::Nested { outer, function } => {
@@ -155,21 +155,21 @@ fn entry(
     table: &mut ParamTable,
     words: &Words<'_>,
     order: &Order,
-    g: Signature,
+    signature: Signature,
 ) -> Result<Entry, AllocError>
     requires { HasShortLists words.now.text.now words.now.skeleton.now }
     ensures extends { Extends table.old table.new }
     ensures of { IfOk result (IsEntryOf table.new) }
     ensures means { IfOk result
-        (λ e. entry_meant table.new e ≡ own_signature (words_by words.now) order.now g) }
+        (λ e. entry_meant table.new e ≡ own_signature (words_by words.now) order.now signature) }
 {
-    let own = own_list(alloc, table, words, g)?;
+    let own = own_list(alloc, table, words, signature)?;
     Ok(Entry {
-        signature: g,
-        name: Seq::new(name_of(words, g).to_vec(alloc)?),
-        outer: outer_of(order, g),
-        own_depth: own_depth(words.skeleton, g),
-        params: params_of(words.skeleton, g),
+        signature,
+        name: Seq::new(name_of(words, signature).to_vec(alloc)?),
+        outer: outer_of(order, signature),
+        own_depth: own_depth(words.skeleton, signature),
+        params: params_of(words.skeleton, signature),
         own: Seq::new(own),
     })
 }

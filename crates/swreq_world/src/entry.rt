@@ -45,10 +45,10 @@ pub fn whole(alloc: Global, entries: &[Entry], entry: &Entry) -> Result<Vec<Writ
 }
 
 /// Whether two signatures are in the same struct, or neither is in one.
-fn are_together(a: &Entry, b: &Entry) -> bool
-    ensures { IsTrue result → a.now.outer ≡ b.now.outer }
+fn are_together(one: &Entry, other: &Entry) -> bool
+    ensures { IsTrue result → one.now.outer ≡ other.now.outer }
 {
-    match (a.outer, b.outer) {
+    match (one.outer, other.outer) {
         (None, None) => true,
         (Some(f), Some(g)) => f == g,
         _ => false,
@@ -72,7 +72,8 @@ fn with_end(
     Ok(list)
 }
 
-/// The list of a signature among these without the places of sides, made of the list of another. What a struct around both requires stays.
+/// The list of a signature among these without the places of sides, made of the list of the signature `last`. What a struct around
+/// both requires stays.
 pub fn whole_after(
     alloc: Global,
     entries: &[Entry],
@@ -109,14 +110,15 @@ fn has_no_own(entry: &Entry, outer: &Entry) -> bool
     entry.params == outer.params && entry.own.items().is_empty()
 }
 
-/// Whether the signature at f among these is a function of the struct at `outer` in which nothing of its own is written.
-pub fn adds_nothing(entries: &[Entry], outer: FuncId, f: FuncId) -> bool
+/// Whether the signature `function` among these is a function of the struct at `outer` in which nothing of its own is written.
+pub fn adds_nothing(entries: &[Entry], outer: FuncId, function: FuncId) -> bool
     requires outer { outer.place < length entries.now }
-    requires f { f.place < length entries.now }
-    ensures { IsTrue result ↔ AddsNothing (map (entry_view entries.now) entries.now) outer f }
+    requires f { function.place < length entries.now }
+    ensures { IsTrue result
+        ↔ AddsNothing (map (entry_view entries.now) entries.now) outer function }
 {
     let around = &entries[outer.place as usize];
-    let entry = &entries[f.place as usize];
+    let entry = &entries[function.place as usize];
     match around.outer {
         Some(_) => false,
         None => is_inside(entry, outer) && has_no_own(entry, around),

@@ -15,6 +15,7 @@ mod order;
 mod places;
 mod protocols;
 mod queries;
+mod ranks;
 mod world;
 
 pub use facts::FunctionFacts;

@@ -9,22 +9,22 @@ use swreq_decl::{FunctionDecl, Skeleton, StructDecl};
 use swreq_names::Signature;
 
 /// Whether a function stands before a struct.
-fn stands_before(s: &StructDecl, f: &FunctionDecl) -> bool
-    ensures { result ≡ stands_before s.now f.now }
+fn stands_before(item: &StructDecl, function: &FunctionDecl) -> bool
+    ensures { result ≡ stands_before item.now function.now }
 {
-    f.name.start < s.name.start
+    function.name.start < item.name.start
 }
 
 /// How many functions stand before a struct, from a place on.
-fn count_before(s: &StructDecl, functions: &[FunctionDecl], from: usize) -> usize
+fn count_before(item: &StructDecl, functions: &[FunctionDecl], from: usize) -> usize
     requires { from ≤ length functions.now }
-    ensures count { result ≡ prefix_len (stands_before s.now) (drop from functions.now) }
+    ensures count { result ≡ prefix_len (stands_before item.now) (drop from functions.now) }
     ensures within { from + result ≤ length functions.now }
 {
     let mut at = from;
     while at < functions.len() {
         let f = &functions[at];
-        if !stands_before(s, f) {
+        if !stands_before(item, f) {
             return at - from;
         }
         at += 1;
@@ -58,19 +58,19 @@ fn add_nested(outer: usize, count: usize, order: &mut Vec<Signature>) -> Result<
 }
 
 /// Puts a struct last, and then its functions.
-fn add_struct(place: usize, s: &StructDecl, order: &mut Vec<Signature>) -> Result<(), AllocError>
-    ensures { OnOk result (order.new.items ≡ order.old.items ++ with_nested place s.now) }
+fn add_struct(place: usize, item: &StructDecl, order: &mut Vec<Signature>) -> Result<(), AllocError>
+    ensures { OnOk result (order.new.items ≡ order.old.items ++ with_nested place item.now) }
 {
     order.push(Signature::Struct(place))?;
-    add_nested(place, s.functions.items().len(), order)
+    add_nested(place, item.functions.items().len(), order)
 }
 
 /// The signatures in written order, a struct before its functions.
-pub fn in_order(alloc: Global, s: &Skeleton) -> Result<Vec<Signature>, AllocError>
-    ensures { IfOk result (λ order. order.items ≡ in_order s.now) }
+pub fn in_order(alloc: Global, skeleton: &Skeleton) -> Result<Vec<Signature>, AllocError>
+    ensures { IfOk result (λ order. order.items ≡ in_order skeleton.now) }
 {
-    let structs = s.structs.items();
-    let functions = s.functions.items();
+    let structs = skeleton.structs.items();
+    let functions = skeleton.functions.items();
     let mut order = Vec::new(alloc);
     let mut at = 0;
     let mut i = 0;

@@ -28,16 +28,17 @@ impl Model for Order {
 
     ghost view = { λ o. o.signatures.items };
 
-    ghost invariant = { λ o. ArePlaces o.signatures.items o.places.structs.items o.places.functions.items × (length o.signatures.items ≤ 1048576) };
+    ghost invariant = { λ o. ArePlaces o.signatures.items o.places.structs.items
+        o.places.functions.items × (length o.signatures.items ≤ 1048576) };
 }
 
 impl Order {
     /// The signatures of a skeleton.
-    pub fn of(alloc: Global, s: &Skeleton) -> Result<Order, AllocError>
-        requires { length (in_order s.now) ≤ 1048576 }
-        ensures { IfOk result (λ order. order ≡ in_order s.now) }
+    pub fn of(alloc: Global, skeleton: &Skeleton) -> Result<Order, AllocError>
+        requires { length (in_order skeleton.now) ≤ 1048576 }
+        ensures { IfOk result (λ order. order ≡ in_order skeleton.now) }
     {
-        let signatures = in_order(alloc, s)?;
+        let signatures = in_order(alloc, skeleton)?;
         let places = places_of(alloc, &signatures)?;
         Ok(Order { signatures, places })
     }
@@ -51,27 +52,27 @@ impl Order {
     }
 
     /// The place of a struct, or 0 where it has none.
-    fn struct_place(&self, i: usize) -> usize
-        ensures is { result ≡ unwrap_or (place_in self.now (Struct i)) 0 }
+    fn struct_place(&self, index: usize) -> usize
+        ensures is { result ≡ unwrap_or (place_in self.now (Struct index)) 0 }
         ensures small { result ≤ 1048576 }
     {
-        place_at(&self.places.structs, i)
+        place_at(&self.places.structs, index)
     }
 
     /// The place of a function at the top, or 0 where it has none.
-    fn function_place(&self, i: usize) -> usize
-        ensures is { result ≡ unwrap_or (place_in self.now (Function i)) 0 }
+    fn function_place(&self, index: usize) -> usize
+        ensures is { result ≡ unwrap_or (place_in self.now (Function index)) 0 }
         ensures small { result ≤ 1048576 }
     {
-        place_at(&self.places.functions, i)
+        place_at(&self.places.functions, index)
     }
 
     /// The place of a signature. The functions of a struct follow it.
-    pub fn func_id(&self, g: Signature) -> FuncId
-        requires { IsSmall g }
-        ensures { result ≡ func_id self.now g }
+    pub fn func_id(&self, signature: Signature) -> FuncId
+        requires { IsSmall signature }
+        ensures { result ≡ func_id self.now signature }
     {
-        let place = match g {
+        let place = match signature {
             Signature::Struct(i) => self.struct_place(i),
             Signature::Function(i) => self.function_place(i),
             Signature::Nested { outer, function } => self.struct_place(outer) + (1 + function),
@@ -83,10 +84,10 @@ impl Order {
 }
 
 /// The place that is noted, or 0 where none is.
-fn place_at(places: &[Option<usize>], i: usize) -> usize
-    ensures { result ≡ unwrap_or (slice_index_or places.now i None) 0 }
+fn place_at(places: &[Option<usize>], index: usize) -> usize
+    ensures { result ≡ unwrap_or (slice_index_or places.now index None) 0 }
 {
-    match places.get(i) {
+    match places.get(index) {
         Some(Some(place)) => *place,
         _ => 0,
     }

@@ -15,26 +15,29 @@ pub struct Places {
 }
 
 /// Notes a place, over what was noted before.
-fn note(places: &mut Vec<Option<usize>>, i: usize, place: usize) -> Result<(), AllocError>
+fn note(places: &mut Vec<Option<usize>>, index: usize, place: usize) -> Result<(), AllocError>
     ensures { OnOk result ((k : ℕ) → slice_index_or places.new.items k None
-        ≡ cond (nat_eq k i) (Some place) (slice_index_or places.old.items k None)) }
+        ≡ cond (nat_eq k index) (Some place) (slice_index_or places.old.items k None)) }
 {
-    while places.len() <= i {
+    while places.len() <= index {
         places.push(None)?;
     }
-    places[i] = Some(place);
+    places[index] = Some(place);
     Ok(())
 }
 
 /// Notes the place of a signature.
-fn note_signature(places: &mut Places, g: Signature, place: usize) -> Result<(), AllocError>
-    ensures structs { OnOk result ((k : ℕ) → slice_index_or places.new.structs.items k None ≡ cond
-        (is_signature (Struct k) g) (Some place) (slice_index_or places.old.structs.items k None)) }
+fn note_signature(places: &mut Places, signature: Signature, place: usize) -> Result<(), AllocError>
+    ensures structs { OnOk result ((k : ℕ)
+        → slice_index_or places.new.structs.items k None
+        ≡ cond (is_signature (Struct k) signature) (Some place)
+        (slice_index_or places.old.structs.items k None)) }
     ensures functions { OnOk result ((k : ℕ)
-        → slice_index_or places.new.functions.items k None ≡ cond (is_signature (Function k) g)
-        (Some place) (slice_index_or places.old.functions.items k None)) }
+        → slice_index_or places.new.functions.items k None
+        ≡ cond (is_signature (Function k) signature) (Some place)
+        (slice_index_or places.old.functions.items k None)) }
 {
-    match g {
+    match signature {
         Signature::Struct(i) => note(&mut places.structs, i, place),
         Signature::Function(i) => note(&mut places.functions, i, place),
         Signature::Nested { .. } => Ok(()),

@@ -19,18 +19,18 @@ fn query_of(
     table: &mut ParamTable,
     words: &Words<'_>,
     order: &Order,
-    q: &QueryDecl,
+    asked: &QueryDecl,
 ) -> Result<Query, AllocError>
     requires short { HasShortLists words.now.text.now words.now.skeleton.now }
     requires declared { HasDeclared words.now.text.now words.now.skeleton.now
         words.now.lexicon.now.resolved }
     ensures asks { IfOk result
-        (Asks table.old table.new (query_of (words_by words.now) order.now q.now)) }
+        (Asks table.old table.new (query_of (words_by words.now) order.now asked.now)) }
     ensures extends { Extends table.old table.new }
 {
-    let g = asked_signature(words, q);
-    let f = order.func_id(g);
-    query(table, words, g, f, &q.ask)
+    let signature = asked_signature(words, asked);
+    let function = order.func_id(signature);
+    query(table, words, signature, function, &asked.ask)
 }
 
 /// The queries in written order.

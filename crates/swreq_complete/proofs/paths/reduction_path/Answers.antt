@@ -12,7 +12,7 @@ first_redex-requires c = record { earlier = λ before rest e l. absurd (omega (a
 
 pub take_redex_of-requires-clause-redex : goal.take_redex_of-requires-clause-redex
 take_redex_of-requires-clause-redex c =
-    let rules = c.args.rules.now in let w = c.steps.word.items in let redex = c.in-Some.redex in
+    let rules = c.args.rules.now in let w = c.steps.reached.items in let redex = c.in-Some.redex in
     let first = subst (λ u. FirstRedex rules u redex.at redex.number) c.deref.ensures.value c.in-Some.ensures in
     record {
       rules = rules;
@@ -23,14 +23,14 @@ take_redex_of-requires-clause-redex c =
 
 pub steps-smaller : goal.steps-smaller
 steps-smaller c =
-    let rules = c.args.rules.now in let w = c.steps.word.items in let redex = c.in-Some.redex in
+    let rules = c.args.rules.now in let w = c.steps.reached.items in let redex = c.in-Some.redex in
     let first = subst (λ u. FirstRedex rules u redex.at redex.number) c.deref.ensures.value c.in-Some.ensures in
     left_falls _ _ _ _ _ (c.in_ok-take_redex_of.ensures.ok rules
     (rule_of_redex rules w redex.at redex.number c.rule-rule.result.now first c.rule-rule.ensures) first)
 
 pub steps-preserved : goal.steps-preserved
 steps-preserved c =
-    let rules = c.args.rules.now in let w = c.steps.word.items in let redex = c.in-Some.redex in
+    let rules = c.args.rules.now in let w = c.steps.reached.items in let redex = c.in-Some.redex in
     let first = subst (λ u. FirstRedex rules u redex.at redex.number) c.deref.ensures.value c.in-Some.ensures in
     reduce_more _ _ _ _ _ _ c.steps.invariant
     (c.in_ok-take_redex_of.ensures.ok rules
@@ -39,11 +39,11 @@ steps-preserved c =
 pub returns : goal.returns
 returns c =
     let rules = c.args.rules.now in
-    let v = c.steps.word.items in (
+    let v = c.steps.reached.items in (
       v,
       record {
         start = c.new-start.ensures ∙ c.in_ok-from_slice.ensures.items;
-        steps = subst (λ xs. StepsReduce rules xs c.args.w.now v) (sym c.new.ensures) c.steps.invariant;
+        steps = subst (λ xs. StepsReduce rules xs c.args.word.now v) (sym c.new.ensures) c.steps.invariant;
         irreducible = subst (λ u. IsIrreducible (Step rules) u) c.deref.ensures.value c.in_default.ensures;
       },
     )

@@ -3,7 +3,7 @@ use Rattle.swreq_path.specs.Reductions.{StepsReduce}
 use Rattle.swreq_complete.proofs.paths.reduction_path.Given as goal
 
 abbrev pub invariant-steps : goal.invariant-steps
-invariant-steps l = StepsReduce l.rules l.steps.items l.w l.word.items
+invariant-steps l = StepsReduce l.rules l.steps.items l.word l.reached.items
 
 abbrev pub decreases-steps : goal.decreases-steps
-decreases-steps l = remaining l.rules l.word.items
+decreases-steps l = remaining l.rules l.reached.items

@@ -4,6 +4,6 @@ use Rattle.swreq_complete.proofs.reading.next_redex.Given as goal
 
 abbrev pub invariant-loop-at : goal.invariant-loop-at
 invariant-loop-at l = record {
-  read : AreRead l.rules l.w l.counts.items;
+  read : AreRead l.rules l.word l.counts.items;
   as_many : l.at ≡ length l.counts.items;
 }

@@ -6,9 +6,9 @@ use Rattle.swreq_complete.proofs.reading.reduce.Given as goal
 
 abbrev pub invariant-steps : goal.invariant-steps
 invariant-steps l = record {
-  chain : Chain (ReductionStep l.rules) l.initial.w.items l.w.items;
-  read : AreRead l.rules l.w.items l.counts.items;
+  chain : Chain (ReductionStep l.rules) l.initial.word.items l.word.items;
+  read : AreRead l.rules l.word.items l.counts.items;
 }
 
 abbrev pub decreases-steps : goal.decreases-steps
-decreases-steps l = remaining l.rules l.w.items
+decreases-steps l = remaining l.rules l.word.items

@@ -14,7 +14,7 @@ returns-in-None-clause-end c =
 
 pub returns-in-Some-clause-read : goal.returns-in-Some-clause-read
 returns-in-Some-clause-read c =
-    let rules = c.args.rules.now in let w = c.args.w.now.items in let redex = c.in-Some.redex in
+    let rules = c.args.rules.now in let w = c.args.word.now.items in let redex = c.in-Some.redex in
     let counts = c.next_redex.new.counts.items in
     let first : FirstRedex rules w redex.at redex.number =
     subst (λ u. FirstRedex rules u redex.at redex.number) c.deref.ensures.value (rw c.in-Some.is at c.in_ok-next_redex.ensures.redex) in

@@ -14,7 +14,7 @@ is_minimal-requires c = subst (λ x. 0 < length x) (sym c.symbols.ensures)
 pub returns-then-not-is_minimal : goal.returns-then-not-is_minimal
 returns-then-not-is_minimal c =
     let rules = c.args.rules.now in
-    key_skipped rules c.args.k c.args.keys.now.items c.rule-rule.result.now c.rule-rule.ensures
+    key_skipped rules c.args.place c.args.keys.now.items c.rule-rule.result.now c.rule-rule.ensures
     (λ h. (let t = c.is_minimal.ensures.1 (subst (λ x. EachFactor x (IsIrreducible (Step rules))) (sym c.symbols.ensures) h) in
     let f = c.if-not-is_minimal.true in cc))
     c.requires.so_far
@@ -23,7 +23,7 @@ pub returns : goal.returns
 returns c =
     let rules = c.args.rules.now in
     on_ok_weaker c.push.result
-    (key_added rules c.args.k c.args.keys.now.items c.push.new.keys.items c.rule-rule.result.now _ c.rule-rule.ensures
+    (key_added rules c.args.place c.args.keys.now.items c.push.new.keys.items c.rule-rule.result.now _ c.rule-rule.ensures
     refl (subst (λ x. EachFactor x (IsIrreducible (Step rules))) c.symbols.ensures (c.is_minimal.ensures.0 c.if-not-is_minimal.false))
     c.requires.so_far)
     c.push.ensures

@@ -1,6 +1,6 @@
 use Rattle.std.proofs.Common.{◌≡◌, ◌++◌, List, take}
 use Rattle.swreq_symbols.specs.Meaning.{symbols_of}
-use Rattle.swreq_unfold.specs.declared.book.Equation.{Equation}
+use Rattle.swreq_births.specs.declared.history.Equation.{Equation}
 use Rattle.swreq_valid.specs.Flags.{chosen}
 use Rattle.swreq_explain.specs.Numbering.{AreEquationsOf}
 use Rattle.swreq_explain.specs.Uses.{course_of}

@@ -1,7 +1,7 @@
 use Rattle.std.proofs.Common.{◌≡◌, ◌++◌, drop, map}
 use Rattle.swreq_rounds.specs.Given.{basic_equations, basic_of}
 use Rattle.swreq_symbols.specs.Meaning.{symbols_of}
-use Rattle.swreq_explain.specs.Books.{members_in}
+use Rattle.swreq_explain.specs.Histories.{members_in}
 use Rattle.swreq_explain.specs.Numbering.{AreBasic, sides_of}
 use Rattle.swreq_explain.proofs.equations.basic.Given as goal
 

@@ -10,16 +10,16 @@ use Rattle.swreq_correspondence.specs.Symbols.{left_side}
 use Rattle.swreq_correspondence.specs.Shown.{ShowsUsable}
 use Rattle.swreq_lowering.specs.ByTable.{HasIdsOf}
 use Rattle.swreq_param.specs.Terms.{Term}
-use Rattle.swreq_sheet.specs.Sheets.{AreIdsIn}
+use Rattle.swreq_derivation.specs.UnderWay.{AreIdsIn}
 use Rattle.swreq_symbols.specs.Meaning.{symbols_of}
 use Rattle.swreq_symbols.proofs.Symbols.{symbols_law, text_law}
-use Rattle.swreq_unfold.specs.Systems.{rules_at}
+use Rattle.swreq_births.specs.Systems.{rules_at, systems_of}
 use Rattle.swreq_world.specs.ByTable.{world_by}
 use Rattle.swreq_world.specs.FactsAt.{facts_of, written_list}
 use Rattle.swreq_world.specs.Worlds.{signature_at}
 use Rattle.swreq_explain.specs.declared.numbered.Numbered.{Numbered}
 use Rattle.swreq_explain.proofs.AskedLemmas.{asked_shown}
-use Rattle.swreq_explain.proofs.BookLemmas.{sides_are_shown}
+use Rattle.swreq_explain.proofs.HistoryLemmas.{sides_are_shown}
 use Rattle.swreq_explain.proofs.NumberingLemmas.{left_by, right_by}
 use Rattle.swreq_explain.proofs.explaining.derive.Goals as goal
 
@@ -33,13 +33,13 @@ lines_over-requires c =
     let terms = c.args.table.now in
     let w = world_by terms c.args.world.now in
     let x = c.args.world.now.lexicon in
-    let b = c.args.book.now in
+    let b = c.args.history.now in
     let (f, is, derivable) = c.requires.derivable in
     let closed = c.requires.text.closed in
     let m = symbols_of x in
     let gs = generic_params (signature_at w f).params in
     let rs = written_list (signature_at w f) in
-    let rules = rules_at b (length b.systems - 1) in
+    let rules = rules_at b (length (systems_of b) - 1) in
     let r = requirement_of terms c.args.r in
     let shown =
     asked_shown m (facts_of w) (symbols_law w closed) (text_law w closed) rules gs rs is.rules is.complete is.in_text r derivable in
@@ -51,10 +51,10 @@ lines_over-requires c =
     let left_is = left ∙ left_by m gs rs None r in
     let right_is = right ∙ right_by m gs rs None r in
     record {
-      book = (is.book, is.some);
+      history = (is.history, is.some);
       ids = ids_in terms c.args.r c.requires.ids.0;
       by_itself = c.in_ok-by_itself.ensures;
-      sides = sides_are_shown b.ground m (facts_of w) is.symbols rules rs None terms n c.in_ok-by_itself.by_itself c.symbols.result.now
+      sides = sides_are_shown b.alphabet m (facts_of w) is.symbols rules rs None terms n c.in_ok-by_itself.by_itself c.symbols.result.now
           c.symbols-2.result.now refl
           c.in_ok-by_itself.ensures left right usable;
       alike = subst (λ z. ReduceAlike rules c.symbols-2.result.now z) (sym left_is)

@@ -9,8 +9,8 @@ use Rattle.swreq_symbols.proofs.Growing.{text_stays}
 use Rattle.swreq_world.specs.ByTable.{world_by}
 use Rattle.swreq_world.specs.FactsAt.{facts_at, facts_of, source_of}
 use Rattle.swreq_world.specs.Worlds.{signature_at}
-use Rattle.swreq_explain.specs.Books.{basis_of}
-use Rattle.swreq_explain.proofs.Standing.{asks_one, basis_over, lines_of_text}
+use Rattle.swreq_explain.specs.Histories.{assumptions_of}
+use Rattle.swreq_explain.proofs.Standing.{asks_one, assumptions_over, lines_of_text}
 use Rattle.swreq_explain.proofs.TextLines.{printed_ids}
 use Rattle.swreq_explain.proofs.explaining.explain_by.Goals as goal
 
@@ -48,7 +48,8 @@ returns-clause-derived c = λ f r asks.
     let (g, l, is, answer) = c.requires.yes in
     let same = asks_one c.args.query.now g f answer.requirement r answer.asks asks in
     subst (λ z. AreDerived new (facts_at w z) ls) same
-    (written.derived (basis_of (world_by old w) g) (facts_at w g) is.fits (basis_over old new w g written.extends c.requires.text.table))
+    (written.derived (assumptions_of (world_by old w) g) (facts_at w g) is.fits
+    (assumptions_over old new w g written.extends c.requires.text.table))
 
 pub returns-clause-lines : goal.returns-clause-lines
 returns-clause-lines c = λ f r asks.
@@ -60,7 +61,8 @@ returns-clause-lines c = λ f r asks.
     let (g, l, is, answer) = c.requires.yes in
     let same = asks_one c.args.query.now g f answer.requirement r answer.asks asks in
     let derived =
-    written.derived (basis_of (world_by old w) g) (facts_at w g) is.fits (basis_over old new w g written.extends c.requires.text.table) in
+    written.derived (assumptions_of (world_by old w) g) (facts_at w g) is.fits
+    (assumptions_over old new w g written.extends c.requires.text.table) in
     subst (λ z. AreLinesOf new (facts_at w z) ls) same
     (lines_of_text new w g (text_stays old new written.extends w c.requires.text) l ls derived written.ids)
 
@@ -73,6 +75,7 @@ returns-clause-ids c =
     let written = c.in_ok-lines-in-Some.ensures.written in
     let (g, l, is, answer) = c.requires.yes in
     let derived =
-    written.derived (basis_of (world_by old w) g) (facts_at w g) is.fits (basis_over old new w g written.extends c.requires.text.table) in
+    written.derived (assumptions_of (world_by old w) g) (facts_at w g) is.fits
+    (assumptions_over old new w g written.extends c.requires.text.table) in
     let lines = lines_of_text new w g (text_stays old new written.extends w c.requires.text) l ls derived written.ids in
     printed_ids w.lexicon (facts_at w g) refl refl new ls lines

@@ -1,32 +1,33 @@
 use Rattle.std.proofs.Common.{ap, ◌∙◌}
-use Rattle.swreq_read.specs.Readable.{read}
-use Rattle.swreq_read.proofs.ReadLemmas.{equal_still, is_still, term_still, word_still}
-use Rattle.swreq_sheet.proofs.SheetLemmas.{grows_then}
-use Rattle.swreq_explain.specs.Stating.{ground_at}
+use Rattle.swreq_readings.specs.Readable.{read_word}
+use Rattle.swreq_readings.proofs.ReadingLemmas.{equal_still, is_still, term_still, word_still}
+use Rattle.swreq_derivation.proofs.DerivationLemmas.{grows_then}
+use Rattle.swreq_explain.specs.Stating.{alphabet_at}
 use Rattle.swreq_explain.proofs.sides.read_side.Goals as goal
 
 pub returns-clause-read : goal.returns-clause-read
 returns-clause-read c =
-    let d = c.args.desk in
-    let g = ground_at d in
+    let d = c.args.reader in
+    let g = alphabet_at d in
     let w = c.args.side.word.now in
-    let s0 = c.args.sheet.now in
-    let s1 = c.read_type.new.sheet in
-    let s2 = c.read.new.sheet in
+    let s0 = c.args.derivation.now in
+    let s1 = c.read_type.new.derivation in
+    let s2 = c.read_word.new.derivation in
     let g1 = c.in_ok-itself.ensures.grows in
     let g2 = c.in_ok-word.ensures.grows in
     record {
       itself_of = is_still s1 s2 g2 c.in_ok-itself.itself c.in_ok-itself.ensures.is_of;
       word_of = c.in_ok-word.ensures.is_of;
       itself = term_still s1 s2 g2 c.in_ok-itself.itself c.in_ok-itself.ensures.is_of ∙ c.in_ok-itself.ensures.stands;
-      word = c.in_ok-word.ensures.stands ∙ ap (λ z. read g z w) (term_still s0 s1 g1 d.t c.requires.ready.t);
+      word = c.in_ok-word.ensures.stands ∙ ap (λ z. read_word g z w) (term_still s0 s1 g1 d.t c.requires.ready.t);
       says = word_still g s1 s2 g2 _ w c.in_ok-itself.ensures.word;
       equal = equal_still g s1 s2 g2 _ _ c.in_ok-itself.ensures.equal;
     }
 
 pub returns-clause-grows : goal.returns-clause-grows
 returns-clause-grows c =
-    grows_then c.args.sheet.now c.read_type.new.sheet c.read.new.sheet c.in_ok-itself.ensures.grows c.in_ok-word.ensures.grows
+    grows_then c.args.derivation.now c.read_type.new.derivation c.read_word.new.derivation c.in_ok-itself.ensures.grows
+    c.in_ok-word.ensures.grows
 
 pub returns-in_err-word-clause-grows : goal.returns-in_err-word-clause-grows
 returns-in_err-word-clause-grows c = grows_then _ _ _ c.in_ok-itself.ensures.grows c.in_err-word.ensures.grows

@@ -1,31 +1,31 @@
 use Rattle.std.proofs.Common.{◌≡◌, ◌∙◌, ap, sym}
 use Rattle.swreq_param.specs.Tables.{term_at}
-use Rattle.swreq_sheet.proofs.SheetLemmas.{grows_then}
-use Rattle.swreq_read.specs.Readable.{read}
-use Rattle.swreq_read.proofs.ReadLemmas.{equal_as, equal_ids_now, equal_now, is_still, term_still}
-use Rattle.swreq_explain.specs.Stating.{ground_at}
+use Rattle.swreq_derivation.proofs.DerivationLemmas.{grows_then}
+use Rattle.swreq_readings.specs.Readable.{read_word}
+use Rattle.swreq_readings.proofs.ReadingLemmas.{equal_as, equal_ids_now, equal_now, is_still, term_still}
+use Rattle.swreq_explain.specs.Stating.{alphabet_at}
 use Rattle.swreq_explain.proofs.SideLemmas.{read_ids, read_still}
 use Rattle.swreq_explain.proofs.stating.equate.Goals as goal
 
-pub trans-requires-clause-first : goal.trans-requires-clause-first
-trans-requires-clause-first c =
-    let d = c.args.desk in
-    let s2 = c.read_side-2.new.sheet in
-    let s3 = c.link.new.sheet in
-    let t = term_at c.read_side.new.sheet.table d.t in
+pub add_trans-requires-clause-first : goal.add_trans-requires-clause-first
+add_trans-requires-clause-first c =
+    let d = c.args.reader in
+    let s2 = c.read_side-2.new.derivation in
+    let s3 = c.link.new.derivation in
+    let t = term_at c.read_side.new.derivation.table d.t in
     read_ids d c.args.right t s3 c.in_ok-last.last
     (read_still d c.args.right t s2 s3 c.in_ok-link.ensures.grows c.in_ok-last.last c.in_ok-last.ensures.read)
 
-pub trans-requires-clause-second : goal.trans-requires-clause-second
-trans-requires-clause-second c =
-    let d = c.args.desk in
-    let g = ground_at d in
+pub add_trans-requires-clause-second : goal.add_trans-requires-clause-second
+add_trans-requires-clause-second c =
+    let d = c.args.reader in
+    let g = alphabet_at d in
     let u = c.args.left.word.now in
     let v = c.args.right.word.now in
-    let s0 = c.args.sheet.now in
-    let s1 = c.read_side.new.sheet in
-    let s2 = c.read_side-2.new.sheet in
-    let s3 = c.link.new.sheet in
+    let s0 = c.args.derivation.now in
+    let s1 = c.read_side.new.derivation in
+    let s2 = c.read_side-2.new.derivation in
+    let s3 = c.link.new.derivation in
     let g1 = c.in_ok-first.ensures.grows in
     let g2 = c.in_ok-last.ensures.grows in
     let g3 = c.in_ok-link.ensures.grows in
@@ -38,60 +38,62 @@ trans-requires-clause-second c =
     let same_2 : term_2 ≡ term_1 = term_still s1 s2 g2 d.t (is_still s0 s1 g1 d.t c.requires.ready.t) in (
       last.word_of,
       first.word_of,
-      equal_as s3 _ _ _ _ (last.word ∙ ap (λ z. read g z v) (sym same_2)) (first.word ∙ ap (λ z. read g z u) (sym (same_2 ∙ same_1)))
+      equal_as s3 _ _ _ _ (last.word ∙ ap (λ z. read_word g z v) (sym same_2))
+          (first.word ∙ ap (λ z. read_word g z u) (sym (same_2 ∙ same_1)))
           c.in_ok-link.ensures.both.equal,
     )
 
-pub symm-requires-clause-equal : goal.symm-requires-clause-equal
-symm-requires-clause-equal c =
-    let s1 = c.read_side.new.sheet in
-    let s2 = c.read_side-2.new.sheet in
-    let s3 = c.link.new.sheet in
+pub add_symm-requires-clause-equal : goal.add_symm-requires-clause-equal
+add_symm-requires-clause-equal c =
+    let s1 = c.read_side.new.derivation in
+    let s2 = c.read_side-2.new.derivation in
+    let s3 = c.link.new.derivation in
     let g2 = c.in_ok-last.ensures.grows in
     let g3 = c.in_ok-link.ensures.grows in
-    equal_now s3 c.trans.new.sheet c.in_ok-trans.ensures.grows c.in_ok-last.last.itself c.in_ok-first.first.word
+    equal_now s3 c.add_trans.new.derivation c.in_ok-add_trans.ensures.grows c.in_ok-last.last.itself c.in_ok-first.first.word
     (is_still s2 s3 g3 c.in_ok-last.last.itself c.in_ok-last.ensures.read.itself_of)
-    (is_still s1 s3 (grows_then s1 s2 s3 g2 g3) c.in_ok-first.first.word c.in_ok-first.ensures.read.word_of) c.in_ok-trans.ensures.equal
+    (is_still s1 s3 (grows_then s1 s2 s3 g2 g3) c.in_ok-first.first.word c.in_ok-first.ensures.read.word_of) c.in_ok-add_trans.ensures.equal
 
-pub trans-requires-2-clause-first : goal.trans-requires-2-clause-first
-trans-requires-2-clause-first c =
-    let d = c.args.desk in
-    let s1 = c.read_side.new.sheet in
-    let s2 = c.read_side-2.new.sheet in
-    let s3 = c.link.new.sheet in
-    let s4 = c.trans.new.sheet in
-    let s5 = c.symm.new.sheet in
+pub add_trans-requires-2-clause-first : goal.add_trans-requires-2-clause-first
+add_trans-requires-2-clause-first c =
+    let d = c.args.reader in
+    let s1 = c.read_side.new.derivation in
+    let s2 = c.read_side-2.new.derivation in
+    let s3 = c.link.new.derivation in
+    let s4 = c.add_trans.new.derivation in
+    let s5 = c.add_symm.new.derivation in
     let g = grows_then s1 s3 s5 (grows_then s1 s2 s3 c.in_ok-last.ensures.grows c.in_ok-link.ensures.grows)
-    (grows_then s3 s4 s5 c.in_ok-trans.ensures.grows c.in_ok-symm.ensures.grows) in
-    let t = term_at c.args.sheet.now.table d.t in
+    (grows_then s3 s4 s5 c.in_ok-add_trans.ensures.grows c.in_ok-add_symm.ensures.grows) in
+    let t = term_at c.args.derivation.now.table d.t in
     read_ids d c.args.left t s5 c.in_ok-first.first (read_still d c.args.left t s1 s5 g c.in_ok-first.first c.in_ok-first.ensures.read)
 
-pub trans-requires-2-clause-second : goal.trans-requires-2-clause-second
-trans-requires-2-clause-second c =
-    let s1 = c.read_side.new.sheet in
-    let s2 = c.read_side-2.new.sheet in
-    let s3 = c.link.new.sheet in
-    let s4 = c.trans.new.sheet in
+pub add_trans-requires-2-clause-second : goal.add_trans-requires-2-clause-second
+add_trans-requires-2-clause-second c =
+    let s1 = c.read_side.new.derivation in
+    let s2 = c.read_side-2.new.derivation in
+    let s3 = c.link.new.derivation in
+    let s4 = c.add_trans.new.derivation in
     let g2 = c.in_ok-last.ensures.grows in
-    let g34 = grows_then s2 s3 s4 c.in_ok-link.ensures.grows c.in_ok-trans.ensures.grows in
-    equal_ids_now s4 c.symm.new.sheet c.in_ok-symm.ensures.grows c.in_ok-first.first.word c.in_ok-last.last.itself
+    let g34 = grows_then s2 s3 s4 c.in_ok-link.ensures.grows c.in_ok-add_trans.ensures.grows in
+    equal_ids_now s4 c.add_symm.new.derivation c.in_ok-add_symm.ensures.grows c.in_ok-first.first.word c.in_ok-last.last.itself
     (is_still s1 s4 (grows_then s1 s2 s4 g2 g34) c.in_ok-first.first.word c.in_ok-first.ensures.read.word_of)
-    (is_still s2 s4 g34 c.in_ok-last.last.itself c.in_ok-last.ensures.read.itself_of) c.in_ok-symm.ensures.equal
+    (is_still s2 s4 g34 c.in_ok-last.last.itself c.in_ok-last.ensures.read.itself_of) c.in_ok-add_symm.ensures.equal
 
 pub returns : goal.returns
 returns c =
-    let d = c.args.desk in
-    let s0 = c.args.sheet.now in
-    let s1 = c.read_side.new.sheet in
-    let s2 = c.read_side-2.new.sheet in
-    let s3 = c.link.new.sheet in
-    let s4 = c.trans.new.sheet in
-    let s5 = c.symm.new.sheet in
-    let s6 = c.trans-2.new.sheet in
+    let d = c.args.reader in
+    let s0 = c.args.derivation.now in
+    let s1 = c.read_side.new.derivation in
+    let s2 = c.read_side-2.new.derivation in
+    let s3 = c.link.new.derivation in
+    let s4 = c.add_trans.new.derivation in
+    let s5 = c.add_symm.new.derivation in
+    let s6 = c.add_trans-2.new.derivation in
     let g1 = c.in_ok-first.ensures.grows in
     let g2 = c.in_ok-last.ensures.grows in
-    let g6 = c.in_ok-trans-2.ensures.grows in
-    let g25 = grows_then s2 s4 s5 (grows_then s2 s3 s4 c.in_ok-link.ensures.grows c.in_ok-trans.ensures.grows) c.in_ok-symm.ensures.grows in
+    let g6 = c.in_ok-add_trans-2.ensures.grows in
+    let g25 = grows_then s2 s4 s5 (grows_then s2 s3 s4 c.in_ok-link.ensures.grows c.in_ok-add_trans.ensures.grows)
+    c.in_ok-add_symm.ensures.grows in
     let term_0 = term_at s0.table d.t in
     let term_1 = term_at s1.table d.t in
     let first = read_still d c.args.left term_0 s1 s5 (grows_then s1 s2 s5 g2 g25) c.in_ok-first.first c.in_ok-first.ensures.read in
@@ -102,9 +104,9 @@ returns c =
       ids = (first_now.itself_of, last_now.itself_of);
       first = first_now.itself;
       last = last_now.itself;
-      equal = equal_as s6 _ _ _ _ (sym first.itself) (sym last.itself) c.in_ok-trans-2.ensures.equal;
+      equal = equal_as s6 _ _ _ _ (sym first.itself) (sym last.itself) c.in_ok-add_trans-2.ensures.equal;
       grows = grows_then s0 s5 s6 (grows_then s0 s1 s5 g1 (grows_then s1 s2 s5 g2 g25)) g6;
-      derives = λ b f k. c.in_ok-trans-2.ensures.derives b (c.in_ok-symm.ensures.derives b (c.in_ok-trans.ensures.derives b
+      derives = λ b f k. c.in_ok-add_trans-2.ensures.derives b (c.in_ok-add_symm.ensures.derives b (c.in_ok-add_trans.ensures.derives b
           (c.in_ok-link.ensures.derives b f (c.in_ok-last.ensures.derives b f (c.in_ok-first.ensures.derives b f k)))));
     }
 
@@ -115,18 +117,18 @@ pub returns-in_err-link-clause-grows : goal.returns-in_err-link-clause-grows
 returns-in_err-link-clause-grows c =
     grows_then _ _ _ (grows_then _ _ _ c.in_ok-first.ensures.grows c.in_ok-last.ensures.grows) c.in_err-link.ensures.grows
 
-pub returns-in_err-trans-clause-grows : goal.returns-in_err-trans-clause-grows
-returns-in_err-trans-clause-grows c =
+pub returns-in_err-add_trans-clause-grows : goal.returns-in_err-add_trans-clause-grows
+returns-in_err-add_trans-clause-grows c =
     grows_then _ _ _ (grows_then _ _ _ (grows_then _ _ _ c.in_ok-first.ensures.grows c.in_ok-last.ensures.grows)
-    c.in_ok-link.ensures.grows) c.in_err-trans.ensures.grows
+    c.in_ok-link.ensures.grows) c.in_err-add_trans.ensures.grows
 
-pub returns-in_err-symm-clause-grows : goal.returns-in_err-symm-clause-grows
-returns-in_err-symm-clause-grows c =
+pub returns-in_err-add_symm-clause-grows : goal.returns-in_err-add_symm-clause-grows
+returns-in_err-add_symm-clause-grows c =
     grows_then _ _ _ (grows_then _ _ _ (grows_then _ _ _ (grows_then _ _ _ c.in_ok-first.ensures.grows c.in_ok-last.ensures.grows)
-    c.in_ok-link.ensures.grows) c.in_ok-trans.ensures.grows) c.in_err-symm.ensures.grows
+    c.in_ok-link.ensures.grows) c.in_ok-add_trans.ensures.grows) c.in_err-add_symm.ensures.grows
 
-pub returns-in_err-trans-2-clause-grows : goal.returns-in_err-trans-2-clause-grows
-returns-in_err-trans-2-clause-grows c =
+pub returns-in_err-add_trans-2-clause-grows : goal.returns-in_err-add_trans-2-clause-grows
+returns-in_err-add_trans-2-clause-grows c =
     grows_then _ _ _ (grows_then _ _ _ (grows_then _ _ _ (grows_then _ _ _ (grows_then _ _ _ c.in_ok-first.ensures.grows
-    c.in_ok-last.ensures.grows) c.in_ok-link.ensures.grows) c.in_ok-trans.ensures.grows) c.in_ok-symm.ensures.grows)
-    c.in_err-trans-2.ensures.grows
+    c.in_ok-last.ensures.grows) c.in_ok-link.ensures.grows) c.in_ok-add_trans.ensures.grows) c.in_ok-add_symm.ensures.grows)
+    c.in_err-add_trans-2.ensures.grows

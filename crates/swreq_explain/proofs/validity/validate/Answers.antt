@@ -2,13 +2,13 @@ use Rattle.std.proofs.Common.{◌≡◌, ◌∙◌, ◌-◌, List, Contains, Non
 use Rattle.swreq_param.specs.declared.ids.ParamId.{ParamId}
 use Rattle.swreq_param.specs.Tables.{term_at}
 use Rattle.swreq_derive.specs.Derivation.TermStatement.{IsValid}
-use Rattle.swreq_sheet.specs.Sheets.{Says}
-use Rattle.swreq_sheet.proofs.SheetLemmas.{grows_then}
-use Rattle.swreq_read.specs.Readable.{IsGiven, read}
-use Rattle.swreq_read.proofs.ReadLemmas.{equal_as, equals_still, is_still, term_still}
+use Rattle.swreq_derivation.specs.UnderWay.{States}
+use Rattle.swreq_derivation.proofs.DerivationLemmas.{grows_then}
+use Rattle.swreq_readings.specs.Readable.{IsGiven, read_word}
+use Rattle.swreq_readings.proofs.ReadingLemmas.{equal_as, equals_still, is_still, term_still}
 use Rattle.swreq_param.specs.Owned.{as_term}
 use Rattle.swreq_param.specs.Terms.Term.{Generic, Member}
-use Rattle.swreq_explain.specs.Stating.{ground_at, rules_of}
+use Rattle.swreq_explain.specs.Stating.{alphabet_at, rules_of}
 use Rattle.swreq_explain.proofs.SideLemmas.{base_shown, ready_still, shown_generic, step_shown}
 use Rattle.swreq_explain.proofs.validity.validate.Goals as goal
 
@@ -17,7 +17,7 @@ read_side-requires-clause-side c =
     let t = c.args.side.param.now in
     let is = subst (λ o. MatchOption o (as_term t ≡ Generic t.head) (λ b. as_term t ≡ Member (as_term b.0) b.1)) c.in-Some.is
     c.in_ok-split.ensures in
-    base_shown (ground_at c.args.desk) None (rules_of c.args.desk) (as_term t)
+    base_shown (alphabet_at c.args.reader) None (rules_of c.args.reader) (as_term t)
     (as_term c.in-Some.base) c.in-Some.step c.args.side.word.now is c.requires.side
 
 pub declare-requires-clause-shown : goal.declare-requires-clause-shown
@@ -25,57 +25,59 @@ declare-requires-clause-shown c =
     let t = c.args.side.param.now in
     let is = subst (λ o. MatchOption o (as_term t ≡ Generic t.head) (λ b. as_term t ≡ Member (as_term b.0) b.1)) c.in-Some.is
     c.in_ok-split.ensures in
-    step_shown (ground_at c.args.desk) None (rules_of c.args.desk) (as_term t)
+    step_shown (alphabet_at c.args.reader) None (rules_of c.args.reader) (as_term t)
     (as_term c.in-Some.base) c.in-Some.step c.args.side.word.now is c.requires.side
 
 pub validate_member-requires-clause-ready : goal.validate_member-requires-clause-ready
 validate_member-requires-clause-ready c =
-    let s0 = c.args.sheet.now in
-    let s1 = c.read_side.new.sheet in
-    let s2 = c.declare.new.sheet in
-    ready_still c.args.desk s0 s2
+    let s0 = c.args.derivation.now in
+    let s1 = c.read_side.new.derivation in
+    let s2 = c.declare.new.derivation in
+    ready_still c.args.reader s0 s2
     (grows_then s0 s1 s2 c.in_ok-ids-in-Some.ensures.grows c.in_ok-named-in-Some.ensures.grows) c.requires.ready
 
 pub validate_member-requires-clause-ids : goal.validate_member-requires-clause-ids
 validate_member-requires-clause-ids c =
-    let s1 = c.read_side.new.sheet in
-    let s2 = c.declare.new.sheet in
+    let s1 = c.read_side.new.derivation in
+    let s2 = c.declare.new.derivation in
     let g2 = c.in_ok-named-in-Some.ensures.grows in
     let r = c.in_ok-ids-in-Some.ensures.read in
     (is_still s1 s2 g2 c.in_ok-ids-in-Some.ids.itself r.itself_of, is_still s1 s2 g2 c.in_ok-ids-in-Some.ids.word r.word_of)
 
 pub validate_member-requires-clause-given : goal.validate_member-requires-clause-given
 validate_member-requires-clause-given c =
-    let g = ground_at c.args.desk in
-    let s0 = c.args.sheet.now in
-    let s1 = c.read_side.new.sheet in
-    let s2 = c.declare.new.sheet in
+    let g = alphabet_at c.args.reader in
+    let s0 = c.args.derivation.now in
+    let s1 = c.read_side.new.derivation in
+    let s2 = c.declare.new.derivation in
     let g1 = c.in_ok-ids-in-Some.ensures.grows in
     let g2 = c.in_ok-named-in-Some.ensures.grows in
     let r = c.in_ok-ids-in-Some.ensures.read in
     let id = c.in_ok-ids-in-Some.ids.word in
     let w = take (length c.args.side.word.now - 1) c.args.side.word.now in
-    let stands : term_at s2.table id ≡ read g (term_at s1.table c.args.desk.t) w
-    = term_still s1 s2 g2 id r.word_of ∙ r.word ∙ ap (λ z. read g z w) (sym (term_still s0 s1 g1 c.args.desk.t c.requires.ready.t)) in
+    let stands : term_at s2.table id ≡ read_word g (term_at s1.table c.args.reader.t) w
+    = term_still s1 s2 g2 id r.word_of ∙ r.word ∙ ap (λ z. read_word g z w)
+    (sym (term_still s0 s1 g1 c.args.reader.t c.requires.ready.t)) in
     subst (λ z. IsGiven g s2 z c.in-Some.step c.in_ok-named-in-Some.named) (sym stands) c.in_ok-named-in-Some.ensures.given
 
 pub validate_member-requires-clause-equal : goal.validate_member-requires-clause-equal
 validate_member-requires-clause-equal c =
-    let s1 = c.read_side.new.sheet in
-    let s2 = c.declare.new.sheet in
+    let s1 = c.read_side.new.derivation in
+    let s2 = c.declare.new.derivation in
     let g2 = c.in_ok-named-in-Some.ensures.grows in
     let r = c.in_ok-ids-in-Some.ensures.read in
     equals_still s1 s2 g2 c.in_ok-ids-in-Some.ids.itself c.in_ok-ids-in-Some.ids.word r.itself_of r.word_of
     (equal_as s1 _ _ _ _ r.itself r.word r.equal)
 
-pub returns-in_ok-generic-in-None-clause-derives : goal.returns-in_ok-generic-in-None-clause-derives
-returns-in_ok-generic-in-None-clause-derives c b f k =
+pub returns-in_ok-add_generic-in-None-clause-derives : goal.returns-in_ok-add_generic-in-None-clause-derives
+returns-in_ok-add_generic-in-None-clause-derives c b f k =
     let t = c.args.side.param.now in
     let is = subst (λ o. MatchOption o (as_term t ≡ Generic t.head) (λ b. as_term t ≡ Member (as_term b.0) b.1)) c.in-None.is
     c.in_ok-split.ensures in
-    let has = shown_generic (ground_at c.args.desk) (rules_of c.args.desk) (as_term t) t.head c.args.side.word.now is c.requires.side in
-    c.in_ok-generic-in-None.ensures.derives b t.head c.in_ok-t-in-None.ensures.stands
-    (subst (λ (z : List ParamId). Contains z t.head) (sym f.ground.params) has)
+    let has = shown_generic (alphabet_at c.args.reader) (rules_of c.args.reader) (as_term t) t.head c.args.side.word.now is
+    c.requires.side in
+    c.in_ok-add_generic-in-None.ensures.derives b t.head c.in_ok-t-in-None.ensures.stands
+    (subst (λ (z : List ParamId). Contains z t.head) (sym f.alphabet.params) has)
     (c.in_ok-t-in-None.ensures.derives b k)
 
 pub returns-in_ok-v-in-Some : goal.returns-in_ok-v-in-Some
@@ -83,10 +85,10 @@ returns-in_ok-v-in-Some c =
     let t = c.args.side.param.now in
     let is = subst (λ o. MatchOption o (as_term t ≡ Generic t.head) (λ b. as_term t ≡ Member (as_term b.0) b.1)) c.in-Some.is
     c.in_ok-split.ensures in
-    let s0 = c.args.sheet.now in
-    let s1 = c.read_side.new.sheet in
-    let s2 = c.declare.new.sheet in
-    let s3 = c.validate_member.new.sheet in
+    let s0 = c.args.derivation.now in
+    let s1 = c.read_side.new.derivation in
+    let s2 = c.declare.new.derivation in
+    let s3 = c.validate_member.new.derivation in
     let g1 = c.in_ok-ids-in-Some.ensures.grows in
     let g2 = c.in_ok-named-in-Some.ensures.grows in
     let g3 = c.in_ok-v-in-Some.ensures.grows in
@@ -98,14 +100,15 @@ returns-in_ok-v-in-Some c =
     record {
       is_of = c.in_ok-v-in-Some.ensures.is_of;
       stands = c.in_ok-v-in-Some.ensures.stands ∙ whole;
-      says = subst (λ z. Says s3 (IsValid z)) whole c.in_ok-v-in-Some.ensures.says;
+      says = subst (λ z. States s3 (IsValid z)) whole c.in_ok-v-in-Some.ensures.says;
       grows = grows_then s0 s2 s3 (grows_then s0 s1 s2 g1 g2) g3;
       derives = λ b f k.
           c.in_ok-v-in-Some.ensures.derives b f (c.in_ok-named-in-Some.ensures.derives b f (c.in_ok-ids-in-Some.ensures.derives b f k));
     }
 
-pub returns-in_err-generic-in-None-clause-grows : goal.returns-in_err-generic-in-None-clause-grows
-returns-in_err-generic-in-None-clause-grows c = grows_then _ _ _ c.in_ok-t-in-None.ensures.grows c.in_err-generic-in-None.ensures.grows
+pub returns-in_err-add_generic-in-None-clause-grows : goal.returns-in_err-add_generic-in-None-clause-grows
+returns-in_err-add_generic-in-None-clause-grows c = grows_then _ _ _ c.in_ok-t-in-None.ensures.grows
+    c.in_err-add_generic-in-None.ensures.grows
 
 pub returns-in_err-named-in-Some-clause-grows : goal.returns-in_err-named-in-Some-clause-grows
 returns-in_err-named-in-Some-clause-grows c = grows_then _ _ _ c.in_ok-ids-in-Some.ensures.grows c.in_err-named-in-Some.ensures.grows

@@ -6,6 +6,6 @@ use Rattle.swreq_lexicon.proofs.associated.inherits_name.Goals as goal
 pub returns-else-may_inherit : goal.returns-else-may_inherit
 returns-else-may_inherit c =
     c.if-may_inherit.false
-    ∙ sym (none_passes (inherits_by c.args.protocols.now.places c.args.protocols.now.resolved.inherits c.args.p)
+    ∙ sym (none_passes (inherits_by c.args.protocols.now.places c.args.protocols.now.resolved.inherits c.args.protocol)
     (c.may_inherit.ensures c.if-may_inherit.false)
-    (get_or c.args.lists.now c.args.a.rank []))
+    (get_or c.args.lists.now c.args.name.rank []))

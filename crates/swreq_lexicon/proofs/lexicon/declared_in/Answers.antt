@@ -9,7 +9,7 @@ pub loop-p-preserved : goal.loop-p-preserved
 loop-p-preserved c =
     let text = c.args.text.now in
     let proto = c.id-proto.ensures ∙ ap (proto_by c.args.protocols.now.protocols) c.word.ensures in
-    pieces_more (declared_by text c.args.protocols.now.protocols c.args.names.now) c.args.ps.now c.loop-p.p-index c.p-item.result []
+    pieces_more (declared_by text c.args.protocols.now.protocols c.args.names.now) c.args.written.now c.loop-p.p-index c.p-item.result []
     c.loop-p.pairs.items c.add_declared.new.pairs.items
     c.loop-p-test.true c.p-item.is c.loop-p.invariant
     (c.in_ok-add_declared.ensures

@@ -11,7 +11,7 @@ returns-clause-is c = c.in_ok-pairs.ensures
 
 pub returns-clause-few : goal.returns-clause-few
 returns-clause-few c =
-    let size = declared_length c.args.text.now c.args.s.now c.args.protocols.now.protocols c.args.names.now in
+    let size = declared_length c.args.text.now c.args.skeleton.now c.args.protocols.now.protocols c.args.names.now in
     let small = c.requires.small.associated in
     let is = ap length (c.in_ok-pairs.ensures
     ∙ ap (λ (ps : List ProtocolDecl). declared_in c.args.text.now c.args.protocols.now.protocols c.args.names.now ps) c.items.ensures) in
@@ -22,4 +22,4 @@ returns-clause-within c =
     subst (λ (xs : List ProtocolName). (d : ProtocolName) → Contains xs d → d.name.rank < length c.args.names.now)
     (sym (c.in_ok-pairs.ensures
     ∙ ap (λ (ps : List ProtocolDecl). declared_in c.args.text.now c.args.protocols.now.protocols c.args.names.now ps) c.items.ensures))
-    (named_within c.args.text.now c.args.s.now c.args.protocols.now.protocols c.args.names.now c.requires.names)
+    (named_within c.args.text.now c.args.skeleton.now c.args.protocols.now.protocols c.args.names.now c.requires.names)

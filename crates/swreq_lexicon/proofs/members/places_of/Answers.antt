@@ -6,7 +6,7 @@ use Rattle.swreq_lexicon.proofs.members.places_of.Goals as goal
 
 pub returns-in-None : goal.returns-in-None
 returns-in-None c k p at =
-    let own = nat_eq p.rank c.args.q.rank in
+    let own = nat_eq p.rank c.args.protocol.rank in
     let place = place_by c.args.protocols.now.places p in
     c.in_ok-set.ensures k p at ∙ sym (or-false own)
     ∙ ap (λ b. own || b) (sym (c.in-None.ensures k) ∙ c.requires k c.place.result p at

@@ -5,8 +5,8 @@ abbrev pub invariant-loop-low : goal.invariant-loop-low
 invariant-loop-low l = record {
   ordered : l.low < l.high;
   within : l.high ≤ l.names;
-  from : get_or l.starts l.low 0 ≤ l.m;
-  to : l.m < get_or l.starts l.high 0;
+  from : get_or l.starts l.low 0 ≤ l.rank;
+  to : l.rank < get_or l.starts l.high 0;
 }
 
 abbrev pub decreases-loop-low : goal.decreases-loop-low

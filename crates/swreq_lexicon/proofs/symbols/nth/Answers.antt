@@ -15,8 +15,9 @@ returns-then-left-eq0 c =
     let order = c.args.ordered.now in
     let protos = c.protos-q-items.result.now in
     let i = c.loop-q.q-index in
-    ap (slice_get (having order has c.args.a))
-    (reached c.loop-q.left (length (having (take i order) has c.args.a)) c.args.place c.loop-q.invariant c.if-left-eq0.true)
+    ap (slice_get (having order has c.args.name))
+    (reached c.loop-q.left (length (having (take i order) has c.args.name)) c.args.place c.loop-q.invariant c.if-left-eq0.true)
     ∙ subst (λ (ps : List ProtoId).
-    slice_get (having ps has c.args.a) (length (having (take i ps) has c.args.a)) ≡ Some (get_or protos i first)) c.protos-q-items.ensures
-    (filter_place (λ q. has q c.args.a) protos i first c.loop-q-test.true (sym c.has-here.ensures ∙ c.if-here.true))
+    slice_get (having ps has c.args.name) (length (having (take i ps) has c.args.name)) ≡ Some (get_or protos i first))
+    c.protos-q-items.ensures
+    (filter_place (λ q. has q c.args.name) protos i first c.loop-q-test.true (sym c.has-here.ensures ∙ c.if-here.true))

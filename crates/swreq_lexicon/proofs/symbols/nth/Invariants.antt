@@ -5,4 +5,4 @@ use Rattle.swreq_lexicon.proofs.symbols.nth.Given as goal
 
 abbrev pub invariant-loop-q : goal.invariant-loop-q
 invariant-loop-q l = l.left + length (having (take l.q-index l.ordered)
-    (has_member (inherits_by l.protocols.places l.protocols.resolved.inherits) l.associated) l.a) ≡ l.place
+    (has_member (inherits_by l.protocols.places l.protocols.resolved.inherits) l.associated) l.name) ≡ l.place

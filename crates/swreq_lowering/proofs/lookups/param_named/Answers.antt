@@ -8,16 +8,16 @@ pub overflow_cast-result : goal.overflow_cast-result
 overflow_cast-result c =
     let d = c.args.words.now.lexicon.now.resolved.declared in
     let same = ap (λ (n : NamesView). param_of n.declared c.args.signature c.args.name.now) (sym c.resolved.ensures) in
-    let below = outer_below d c.args.signature c.args.name.now c.in-Some-Outer.place
-    (same ∙ sym c.find_param.ensures ∙ c.in-Some-Outer.is ∙ ap Some c.in-Some-Outer.field-0-is) in
+    let below = outer_below d c.args.signature c.args.name.now c.in-Outer.place
+    (same ∙ sym c.find_param.ensures ∙ c.in_ok-place.was ∙ ap Some c.in-Outer.is) in
     let few = c.args.words.now.few.outer c.args.signature in
     omega arith
 
-pub overflow_cast-result-in-Some-Own : goal.overflow_cast-result-in-Some-Own
-overflow_cast-result-in-Some-Own c =
+pub overflow_cast-result-in-Own : goal.overflow_cast-result-in-Own
+overflow_cast-result-in-Own c =
     let d = c.args.words.now.lexicon.now.resolved.declared in
     let same = ap (λ (n : NamesView). param_of n.declared c.args.signature c.args.name.now) (sym c.resolved.ensures) in
-    let below = own_below d c.args.signature c.args.name.now c.in-Some-Own.place
-    (same ∙ sym c.find_param.ensures ∙ c.in-Some-Own.is ∙ ap Some c.in-Some-Own.field-0-is) in
+    let below = own_below d c.args.signature c.args.name.now c.in-Own.place
+    (same ∙ sym c.find_param.ensures ∙ c.in_ok-place.was ∙ ap Some c.in-Own.is) in
     let few = c.args.words.now.few.own c.args.signature in
     omega arith

@@ -16,7 +16,7 @@ returns-clause-adds c =
     let w = words_by c.args.words.now in
     let p = c.in_ok-base.ensures.ok in
     let q = c.in_ok-term.ensures.ok in
-    let is : term_at c.member.new.self c.in_ok-term.term ≡ Member self (Name (name_of w c.args.m.now.name)) =
+    let is : term_at c.member.new.self c.in_ok-term.term ≡ Member self (Name (name_of w c.args.member.now.name)) =
     q.stands ∙ (λ i. Member (p.stands i) (Name (c.name_of.ensures i))) in
     on_ok c.add_clause.result
     (λ a. adds_same c.args.table.now c.add_clause.new.table c.args.into.now.items c.add_clause.new.into.items _ _
@@ -27,5 +27,5 @@ returns-clause-adds c =
     (extends_interned c.param.new.self c.member.new.self _ c.in_ok-term.term q))
     c.in_ok-add_bounds.ensures.adds)
     a)
-    (λ i. in_bounds w Protocol (is i) c.args.m.now.name.start (c.items.ensures i) ++ in_clause w Protocol (c.items-2.ensures i)))
+    (λ i. in_bounds w Protocol (is i) c.args.member.now.name.start (c.items.ensures i) ++ in_clause w Protocol (c.items-2.ensures i)))
     c.add_clause.ensures.adds

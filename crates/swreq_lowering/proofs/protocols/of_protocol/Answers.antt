@@ -19,6 +19,6 @@ returns-clause-lists c =
     (extends_interned c.args.table.now c.param.new.self _ c.in_ok-base.base p) c.in_ok-add_bounds.ensures.adds)
     (adds_then c.add_bounds.new.table c.add_clause.new.table c.add_members.new.table c.add_bounds.new.into.items c.add_clause.new.into.items
     c.add_members.new.into.items _ _ c.in_ok-add_clause.ensures.adds c.in_ok-add_members.ensures.adds))
-    ((λ i. in_bounds w Protocol (p.stands i) c.args.p.now.name.start (c.items.ensures i)
+    ((λ i. in_bounds w Protocol (p.stands i) c.args.protocol.now.name.start (c.items.ensures i)
     ++ (in_clause w Protocol (c.items-2.ensures i) ++ in_members w (c.items-3.ensures i)))
-    ∙ sym (protocol_walked w c.args.p.now)))
+    ∙ sym (protocol_walked w c.args.protocol.now)))

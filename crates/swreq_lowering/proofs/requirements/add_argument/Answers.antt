@@ -19,10 +19,10 @@ returns-clause-adds c =
     adds_one c.args.table.now c.spell.new.table c.args.into.now.items c.push.new.self.items
     (record {
       requirement = Same c.in_ok-left.left c.in_ok-right.right;
-      left_at = c.args.a.now.at;
-      right_at = c.args.a.now.given.now.head.start;
+      left_at = c.args.written.now.at;
+      right_at = c.args.written.now.given.now.head.start;
     })
-    (argument (words_by c.args.words.now) c.args.context t c.args.a.now.at c.args.a.now.name c.args.a.now.given.now)
+    (argument (words_by c.args.words.now) c.args.context t c.args.written.now.at c.args.written.now.name c.args.written.now.given.now)
     (onward c.args.table.now c.member.new.self c.spell.new.table
     (extends_interned c.args.table.now c.member.new.self _ c.in_ok-left.left p) q.extends)
     c.in_ok-push.ensures.items
@@ -30,6 +30,6 @@ returns-clause-adds c =
     (λ i. record {
       requirement = Equals ((q.extends.stands c.in_ok-left.left p.is_of ∙ p.stands
           ∙ ap (λ (n : NameId). Member t (Name n)) c.name_of.ensures) i) (q.stands i);
-      left_at = c.args.a.now.at;
-      right_at = c.args.a.now.given.now.head.start;
+      left_at = c.args.written.now.at;
+      right_at = c.args.written.now.given.now.head.start;
     })

@@ -23,8 +23,9 @@ loop-k-preserved c =
           c.add_argument.new.into.items _ _ c.loop-k.invariant.added
           (adds_same c.loop-k.table c.add_argument.new.table c.loop-k.into.items c.add_argument.new.into.items _ _
           c.in_ok-add_argument.ensures.adds
-          (λ i. argument w c.args.context (same i) c.args.e.now.span.start n c.index-given-k.result ∷ [])))
-          (arguments_more w c.args.context t c.args.e.now.span.start c.primaries_named-names.result.now c.items-given.result.now c.loop-k.k
+          (λ i. argument w c.args.context (same i) c.args.entity.now.span.start n c.index-given-k.result ∷ [])))
+          (arguments_more w c.args.context t c.args.entity.now.span.start c.primaries_named-names.result.now c.items-given.result.now
+          c.loop-k.k
           n c.index-given-k.result c.loop-k-test.true c.if-k-given.true
           (get_or_default c.primaries_named-names.result.now c.loop-k.k none n c.loop-k-test.true) c.index-given-k.is);
     }
@@ -33,16 +34,18 @@ pub returns-else-k-given-clause-adds : goal.returns-else-k-given-clause-adds
 returns-else-k-given-clause-adds c =
     adds_same c.args.table.now c.loop-k.table c.args.into.now.items c.loop-k.into.items _ _ c.loop-k.invariant.added
     (arguments_all (words_by c.args.words.now) c.args.context
-    (term_at c.args.table.now c.args.subject) c.args.e.now.span.start c.primaries_named-names.result.now c.items-given.result.now c.loop-k.k
+    (term_at c.args.table.now c.args.subject) c.args.entity.now.span.start c.primaries_named-names.result.now c.items-given.result.now
+    c.loop-k.k
     (inr (omega arith)) c.loop-k.invariant.in_names c.loop-k.invariant.in_given
-    ∙ (λ i. arguments (words_by c.args.words.now) c.args.context (term_at c.args.table.now c.args.subject) c.args.e.now.span.start
+    ∙ (λ i. arguments (words_by c.args.words.now) c.args.context (term_at c.args.table.now c.args.subject) c.args.entity.now.span.start
     (c.primaries_named-names.ensures i) (c.items-given.ensures i)))
 
 pub returns-after-loop-k-clause-adds : goal.returns-after-loop-k-clause-adds
 returns-after-loop-k-clause-adds c =
     adds_same c.args.table.now c.loop-k.table c.args.into.now.items c.loop-k.into.items _ _ c.loop-k.invariant.added
     (arguments_all (words_by c.args.words.now) c.args.context
-    (term_at c.args.table.now c.args.subject) c.args.e.now.span.start c.primaries_named-names.result.now c.items-given.result.now c.loop-k.k
+    (term_at c.args.table.now c.args.subject) c.args.entity.now.span.start c.primaries_named-names.result.now c.items-given.result.now
+    c.loop-k.k
     (inl (omega arith)) c.loop-k.invariant.in_names c.loop-k.invariant.in_given
-    ∙ (λ i. arguments (words_by c.args.words.now) c.args.context (term_at c.args.table.now c.args.subject) c.args.e.now.span.start
+    ∙ (λ i. arguments (words_by c.args.words.now) c.args.context (term_at c.args.table.now c.args.subject) c.args.entity.now.span.start
     (c.primaries_named-names.ensures i) (c.items-given.ensures i)))

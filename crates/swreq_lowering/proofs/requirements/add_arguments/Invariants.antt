@@ -10,7 +10,7 @@ invariant-loop-k l = record {
   in_names : l.k ≤ length l.names;
   in_given : l.k ≤ length l.given;
   added : Adds l.fn.table l.table l.fn.into.items l.into.items
-      (arguments (words_by l.words) l.context (term_at l.fn.table l.subject) l.fn.e.span.start (take l.k l.names) (take l.k l.given));
+      (arguments (words_by l.words) l.context (term_at l.fn.table l.subject) l.fn.entity.span.start (take l.k l.names) (take l.k l.given));
 }
 
 abbrev pub decreases-loop-k : goal.decreases-loop-k

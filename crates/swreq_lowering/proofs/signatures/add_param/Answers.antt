@@ -19,5 +19,5 @@ returns-clause-adds c =
     (λ a. adds_same c.args.table.now c.add_bounds.new.table c.args.into.now.items c.add_bounds.new.into.items _ _
     (adds_later c.args.table.now c.param.new.self c.add_bounds.new.table c.args.into.now.items c.add_bounds.new.into.items _
     (extends_interned c.args.table.now c.param.new.self _ c.in_ok-term.term s) a)
-    (λ i. in_bounds w (contexts.Signature c.args.signature) (is i) c.args.p.now.name.start (c.items.ensures i)))
+    (λ i. in_bounds w (contexts.Signature c.args.signature) (is i) c.args.param.now.name.start (c.items.ensures i)))
     c.add_bounds.ensures.adds

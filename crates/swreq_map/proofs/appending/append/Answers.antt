@@ -14,4 +14,4 @@ reduce_from-requires c =
 
 pub returns-clause-congruent : goal.returns-clause-congruent
 returns-clause-congruent c =
-    subst (λ w. Linked (Step c.args.rules.now) w c.reduce_from.new.w.items) c.put.ensures.items c.reduce_from.ensures.congruent
+    subst (λ w. Linked (Step c.args.rules.now) w c.reduce_from.new.word.items) c.put.ensures.items c.reduce_from.ensures.congruent

@@ -6,8 +6,8 @@ use Rattle.swreq_param.proofs.Growing.{onward, unchanged}
 use Rattle.swreq_rule.specs.declared.rules.Rule.{Rule}
 use Rattle.swreq_world.specs.Worlds.{TextWorld}
 use Rattle.swreq_reply.specs.Made.{AreMadeTo, IsPiece}
-use Rattle.swreq_reply.specs.Settings.{HasBook, world_in}
-use Rattle.swreq_reply.specs.Wanted.{count_of, maker}
+use Rattle.swreq_reply.specs.Settings.{HasHistory, world_in}
+use Rattle.swreq_reply.specs.Wanted.{count_of, maker, places_of}
 use Rattle.swreq_reply.proofs.PiecesMade.{begin, go_on, go_through}
 use Rattle.swreq_reply.proofs.Settled.{all_placed, means_on, place_for, ready_on, some_query, world_on}
 use Rattle.swreq_reply.proofs.answering.answer_queries.Goals as goal
@@ -26,8 +26,8 @@ returns-then-is_empty-clause-pieces c =
     (count_of s.world.now s.content) f.place c.args.pieces.now.items c.requires.pieces v.items))
     (all_placed c.args.table.now s f c.index-s-own.result c.requires.ready c.requires.machine.signature)
 
-pub book_for-requires-clause-some : goal.book_for-requires-clause-some
-book_for-requires-clause-some c =
+pub history_for-requires-clause-some : goal.history_for-requires-clause-some
+history_for-requires-clause-some c =
     let s = c.args.s.now in
     let f = c.args.own.now.f in
     let v = get_or s.places.now f.place c.index-s-own.result in
@@ -43,7 +43,7 @@ answer_at-requires-clause-place c =
     (c.loop-j.j, omega (arith, c.loop-j-test.true, c.len-j-end.ensures, v.ok), sym c.index-place.ensures)
 
 pub answer_at-requires-clause-pieces : goal.answer_at-requires-clause-pieces
-answer_at-requires-clause-pieces c = c.loop-j.invariant.0.before.counted ∙ ap (count_of c.args.s.now.world.now) c.requires.answers.1
+answer_at-requires-clause-pieces c = c.loop-j.invariant.0.before.counted ∙ ap (places_of c.args.s.now.world.now) c.requires.answers
 
 pub loop-j-init : goal.loop-j-init
 loop-j-init c =
@@ -59,7 +59,7 @@ loop-j-init c =
           rules = subst (λ (rules : List Rule). IsMapOf rules c.in_ok-map.map) c.rules.ensures c.in_ok-map.ensures.map;
           protocols = c.in_ok-map.ensures.protocols ∙ c.protocols.ensures;
         };
-        book = subst (HasBook c.args.table.now s f) (sym c.as_ref.ensures.value) c.in_ok-book.ensures;
+        history = subst (HasHistory c.args.table.now s f) (sym c.as_ref.ensures.value) c.in_ok-history.ensures;
       },
       unchanged c.args.table.now,
     )

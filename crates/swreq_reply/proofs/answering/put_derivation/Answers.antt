@@ -44,7 +44,7 @@ explain_by-requires-clause-yes c =
     let (x, of, ids, is, heading) = asked_in terms w q r (query_in terms w c.requires.ready.text q c.requires.query) asks in (
       f,
       rw (asked_alike terms q) (asked_within w terms c.requires.ready.text.closed q c.requires.query),
-      c.requires.book,
+      c.requires.history,
       record { requirement = x; asks = of; ids = ids; derivable = rw is holds },
     )
 

@@ -1,58 +1,34 @@
-use Rattle.std.proofs.Common.{◌∙◌, arith, map, ap, sym, subst}
-use Rattle.std.proofs.Math.ListN.{get_or-map}
+use Rattle.std.proofs.Common.{◌≡◌, ◌<◌, ◌∙◌, Some, ap, length, map, ℕ, slice_get, subst, sym}
+use Rattle.std.specs.Option.{option_map}
 use Rattle.std.proofs.lemmas.List.{length-map}
-use Rattle.swreq_param.proofs.Growing.{onward, unchanged}
-use Rattle.swreq_symbols.proofs.Growing.{text_stays, world_stays}
-use Rattle.swreq_subst.specs.Calls.{IsCallIn, call_by}
-use Rattle.swreq_subst.specs.Lines.{AppendsLine}
-use Rattle.swreq_subst.proofs.Staying.{call_stays, calls_in_stay}
-use Rattle.swreq_reply.specs.CallLines.{IsCallerOf}
-use Rattle.swreq_reply.specs.Checks.{HavePassed}
-use Rattle.swreq_reply.specs.Passed.{rules_of, world_of}
-use Rattle.swreq_reply.proofs.Lines.{lines_all, lines_next, lines_none}
+use Rattle.std.proofs.lemmas.Option.{get_or_from_slice_get, slice_get_within}
+use Rattle.std.proofs.lemmas.Result.{IfOk-weaker}
+use Rattle.swreq_orders.proofs.Elements.{get_of_map}
+use Rattle.swreq_subst.specs.declared.calls.Call.{Call}
+use Rattle.swreq_subst.specs.Calls.{TermCall, call_by}
+use Rattle.swreq_subst.specs.Lines.{IsLineOf}
+use Rattle.swreq_reply.specs.CallLines.{AreCallLines, caller_at}
+use Rattle.swreq_reply.specs.Passed.{world_of}
+use Rattle.swreq_reply.specs.Pieces.{text_at, text_or_none}
 use Rattle.swreq_reply.proofs.calling.lines_of_calls.Goals as goal
-
-pub loop-k-init : goal.loop-k-init
-loop-k-init c = (
-  unchanged c.args.table.now,
-  c.requires.text,
-  c.requires.passed,
-  tt,
-  lines_none _ (map (call_by c.args.table.now) c.args.calls.now) _ c.new-out.ensures.items,
-)
-
-pub call_text-requires-clause-call : goal.call_text-requires-clause-call
-call_text-requires-clause-call c =
-    rw c.index-calls-k.is (calls_in_stay c.args.table.now c.loop-k.table c.loop-k.invariant.0 c.args.p.now.world.now c.args.calls.now
-    c.requires.calls c.loop-k.k c.index-calls-k.result c.loop-k-test.true)
-
-pub loop-k-preserved : goal.loop-k-preserved
-loop-k-preserved c =
-    let (more, text, passed, last, lines) = c.loop-k.invariant in
-    let old = c.args.table.now in
-    let mid = c.loop-k.table in
-    let new = c.call_text.new.table in
-    let w = c.args.p.now.world.now in
-    let call = c.index-calls-k.result in
-    let calls = map (call_by old) c.args.calls.now in
-    let onwards = c.call_text.ensures.extends in
-    let stays = sym (world_stays mid new onwards w text.table) in
-    let known : IsCallIn old w call = rw c.index-calls-k.is (c.requires.calls c.loop-k.k call c.loop-k-test.true) in
-    let at = call_stays old mid more w call known ∙ ap (call_by old) c.index-calls-k.is
-    ∙ sym (get_or-map (call_by old) c.args.calls.now c.loop-k.k call) in
-    let (line, is, grown) = subst (λ d. AppendsLine (world_of old c.args.p.now) d c.loop-k.out.items c.call_text.new.out.items) at
-    (subst (λ v. AppendsLine v (call_by mid call) c.loop-k.out.items c.call_text.new.out.items)
-    (world_stays old mid more w c.requires.text.table)
-    c.in_ok-call_text.ensures.line) in (
-      onward old mid new more onwards,
-      text_stays mid new onwards w text,
-      record { passed = subst (λ v. HavePassed c.args.p.now.limits v (rules_of c.args.p.now)) stays passed.passed; limits = passed.limits },
-      subst (λ v. IsCallerOf v c.in_ok-caller.caller) stays c.in_ok-caller.ensures.caller,
-      lines_next _ calls c.loop-k.k _ line _ _
-          (omega (arith, length-map c.args.calls.now (call_by old), c.loop-k-test.true)) lines is grown,
-    )
 
 pub returns : goal.returns
 returns c =
-    lines_all _ (map (call_by c.args.table.now) c.args.calls.now) c.loop-k.k _
-    (omega (arith, length-map c.args.calls.now (call_by c.args.table.now), c.loop-k-test.false)) c.loop-k.invariant.4
+    let terms = c.args.table.now in
+    let w = world_of terms c.args.p.now in
+    let calls = c.args.calls.now in
+    let n = length c.args.p.now.world.now.signatures in
+    let lines = c.deref-2.result.now in
+    let made : AreCallLines w terms calls n lines
+    = subst (AreCallLines w terms calls n) (sym c.deref-2.ensures.value) c.in_ok-lines.ensures in
+    let there : (k : ℕ) (d : TermCall) → slice_get (map (call_by terms) calls) k ≡ Some d → IsLineOf w d (text_at lines k)
+    = λ k d e.
+    (let (call, at, same) = get_of_map (call_by terms) calls k d e in
+    let below : k < length calls = slice_get_within calls k call at in
+    let makes : caller_at calls k ≡ Some call.f = ap (option_map (λ (z : Call). z.f)) at in
+    let within : call.f.place < n
+    = subst (λ (z : Call). z.f.place < n) (get_or_from_slice_get calls k call call at) (c.requires.calls k call below).caller in
+    let (line, filled) = made.filled k call.f below makes within in
+    subst (IsLineOf w d) (sym (ap text_or_none filled)) (made.right k line filled d e)) in
+    IfOk-weaker c.joined.result _ _
+    (λ v h. h w (map (call_by terms) calls) (made.counted ∙ sym (length-map calls (call_by terms))) there) c.joined.ensures

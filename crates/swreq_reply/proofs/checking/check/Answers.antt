@@ -19,6 +19,15 @@ returns-in_err-pieces-clause-check g c =
     (then_failed _ (world_by c.args.table.now c.args.world.now) _ _ _ _ c.in_ok-protocols.ensures.answer Memory
     ([], nothing_yet, grew_none _))
 
+pub base_for-requires-clause-rounds : goal.base_for-requires-clause-rounds
+base_for-requires-clause-rounds g c = (c.args.asked.now.limits, c.in_ok-protocols.ensures.rounds)
+
+pub returns-in_err-base-clause-check : goal.returns-in_err-base-clause-check
+returns-in_err-base-clause-check g c =
+    rw (err_is c.from_residual-in_err-base.result _ c.from_residual-in_err-base.ensures.1)
+    (then_failed _ (world_by c.args.table.now c.args.world.now) _ _ _ _ c.in_ok-protocols.ensures.answer Memory
+    ([], nothing_yet, grew_none _))
+
 pub check_all-requires-clause-ready : goal.check_all-requires-clause-ready
 check_all-requires-clause-ready g c = record {
   text = c.requires.text;
@@ -28,7 +37,7 @@ check_all-requires-clause-ready g c = record {
   rounds = c.in_ok-protocols.ensures.rounds;
   places = c.requires.asked.places;
   limits = c.requires.asked.limits;
-  names = c.requires.asked.names;
+  base = c.in_ok-base.ensures;
 }
 
 pub check_all-requires-clause-pieces : goal.check_all-requires-clause-pieces

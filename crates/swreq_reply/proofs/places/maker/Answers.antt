@@ -2,20 +2,21 @@ use Rattle.std.proofs.Common.{◌∙◌, ◌<◌, ap, arith, get_or, List, lengt
 use Rattle.std.proofs.lemmas.Option.{slice_get-get_or}
 use Rattle.swreq_lowering.specs.declared.ids.Query.{Query}
 use Rattle.swreq_lowering.specs.declared.ids.Query.TheVariants.{Signature}
-use Rattle.swreq_reply.specs.declared.content.Content.{Content}
-use Rattle.swreq_reply.specs.Wanted.{count_of, machine_asked, machine_asked_at, maker}
+use Rattle.swreq_reply.specs.declared.content.Made.{Made}
+use Rattle.swreq_reply.specs.Wanted.{machine_asked, machine_asked_at, made_by, places_of}
 use Rattle.swreq_reply.proofs.places.maker.Goals as goal
 
 pub overflow_cast-result : goal.overflow_cast-result
 overflow_cast-result c =
     let within : c.args.k < length c.args.world.now.signatures =
-    subst (λ (k : Content). c.args.k < count_of c.args.world.now k) c.in-Systems.is c.requires.k in
+    subst (λ (a : Made). c.args.k < places_of c.args.world.now a) (sym c.makes.ensures ∙ c.in-Systems.is) c.requires.k in
     omega (arith, within, c.requires.short.signatures)
 
-pub returns-in-Answers : goal.returns-in-Answers
-returns-in-Answers c =
+pub returns-in-Lines : goal.returns-in-Lines
+returns-in-Lines c =
     let any : Query = Signature (record { place = 0 }) in
-    let within = subst (λ (k : Content). c.args.k < count_of c.args.world.now k) c.in-Answers.is c.requires.k in
+    let is = sym c.makes.ensures ∙ c.in-Lines.is in
+    let within = subst (λ (a : Made). c.args.k < places_of c.args.world.now a) is c.requires.k in
     c.machine_asked.ensures ∙ ap (λ (qs : List Query). machine_asked (get_or qs c.args.k any)) c.queries.ensures
-    ∙ sym (ap (λ (k : Content). maker c.args.world.now k c.args.k) c.in-Answers.is
+    ∙ sym (ap (λ (a : Made). made_by c.args.world.now a c.args.k) is
     ∙ ap machine_asked_at (slice_get-get_or c.args.world.now.queries c.args.k any within))

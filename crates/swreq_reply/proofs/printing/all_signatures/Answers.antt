@@ -1,6 +1,6 @@
 use Rattle.std.proofs.Common.{arith}
 use Rattle.std.proofs.lemmas.List.{length-map}
-use Rattle.swreq_output.specs.Signatures.{IsNamedLine}
+use Rattle.swreq_query.specs.Signatures.{IsNamedLine}
 use Rattle.swreq_world.specs.ByTable.{signature_by}
 use Rattle.swreq_world.specs.Worlds.{no_signature}
 use Rattle.swreq_reply.specs.Pieces.{world_of}

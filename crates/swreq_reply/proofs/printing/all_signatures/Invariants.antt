@@ -1,5 +1,5 @@
 use Rattle.std.proofs.Common.{take}
-use Rattle.swreq_output.specs.Signatures.{IsNamedLine}
+use Rattle.swreq_query.specs.Signatures.{IsNamedLine}
 use Rattle.swreq_reply.specs.Lines.{AreLinesIn}
 use Rattle.swreq_reply.specs.Pieces.{world_of}
 use Rattle.swreq_reply.proofs.printing.all_signatures.Given as goal

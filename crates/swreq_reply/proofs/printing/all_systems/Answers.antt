@@ -1,10 +1,10 @@
 use Rattle.std.proofs.Common.{◌≡◌, ◌∙◌, ◌<◌, ◌++◌, List, ap, arith, length, ℕ}
 use Rattle.std.proofs.lemmas.List.{length-map}
-use Rattle.swreq_output.specs.Systems.{IsSystemText}
+use Rattle.swreq_query.specs.Systems.{IsSystemText}
 use Rattle.swreq_world.specs.ByTable.{signature_by}
 use Rattle.swreq_world.specs.Worlds.{no_signature}
 use Rattle.swreq_reply.specs.Pieces.{world_of}
-use Rattle.swreq_reply.specs.Wanted.{count_of}
+use Rattle.swreq_reply.specs.Wanted.{places_of}
 use Rattle.swreq_reply.proofs.Lines.{lines_all, lines_next, lines_none}
 use Rattle.swreq_reply.proofs.Printed.{system_at}
 use Rattle.swreq_reply.proofs.printing.all_systems.Goals as goal
@@ -16,7 +16,7 @@ pub loop-k-preserved : goal.loop-k-preserved
 loop-k-preserved c =
     let m = c.args.m.now in
     let counted : length m.pieces.now ≡ length m.world.now.signatures =
-    c.requires.whole.pieces.counted ∙ ap (count_of m.world.now) c.requires.systems in
+    c.requires.whole.pieces.counted ∙ ap (places_of m.world.now) c.requires.systems in
     let below : c.loop-k.k < length m.world.now.signatures = omega (arith, counted, c.loop-k-test.true) in
     lines_next (IsSystemText (world_of m)) (world_of m).signatures c.loop-k.k no_signature _ _ _
     (omega (arith, below, length-map m.world.now.signatures (signature_by m.table.now))) c.loop-k.invariant
@@ -27,6 +27,6 @@ pub returns : goal.returns
 returns c =
     let m = c.args.m.now in
     let counted : length m.pieces.now ≡ length m.world.now.signatures =
-    c.requires.whole.pieces.counted ∙ ap (count_of m.world.now) c.requires.systems in
+    c.requires.whole.pieces.counted ∙ ap (places_of m.world.now) c.requires.systems in
     lines_all (IsSystemText (world_of m)) (world_of m).signatures c.loop-k.k _
     (omega (arith, counted, length-map m.world.now.signatures (signature_by m.table.now), c.loop-k-test.false)) c.loop-k.invariant

@@ -1,5 +1,5 @@
 use Rattle.std.proofs.Common.{take}
-use Rattle.swreq_output.specs.Systems.{IsSystemText}
+use Rattle.swreq_query.specs.Systems.{IsSystemText}
 use Rattle.swreq_reply.specs.Lines.{AreLinesIn}
 use Rattle.swreq_reply.specs.Pieces.{world_of}
 use Rattle.swreq_reply.proofs.printing.all_systems.Given as goal

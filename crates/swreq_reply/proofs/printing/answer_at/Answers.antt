@@ -17,22 +17,22 @@ asks qs read k found o same e is =
     sym (e ∙ ap (λ (all : List Query). list_asked (get_or all k (Signature (record { place = 0 })))) same) ∙ is
 
 pub text_at-requires : goal.text_at-requires
-text_at-requires c = (by_list c.args.m.now c.requires.whole c.requires.answers.0 c.requires.answers.1 c.args.k c.requires.k c.in-Some.f
+text_at-requires c = (by_list c.args.m.now c.requires.whole c.requires.answers c.args.k c.requires.k c.in-Some.f
     (asks _ _ _ _ _ c.queries.ensures c.list_asked.ensures c.in-Some.is)).0
 
 pub returns-in-Some : goal.returns-in-Some
 returns-in-Some c =
     subst (IsLineOf (world_of c.args.m.now) true (backing_of c.args.m.now.content) (query_at c.args.m.now c.args.k)) (sym c.text_at.ensures)
-    (by_list c.args.m.now c.requires.whole c.requires.answers.0 c.requires.answers.1 c.args.k c.requires.k c.in-Some.f
+    (by_list c.args.m.now c.requires.whole c.requires.answers c.args.k c.requires.k c.in-Some.f
     (asks _ _ _ _ _ c.queries.ensures c.list_asked.ensures c.in-Some.is)).1
 
 pub text_at-requires-in-None : goal.text_at-requires-in-None
-text_at-requires-in-None c = (by_piece c.args.m.now c.requires.whole c.requires.answers.0 c.requires.answers.1 c.args.k c.requires.k
+text_at-requires-in-None c = (by_piece c.args.m.now c.requires.whole c.requires.answers c.args.k c.requires.k
     (asks _ _ _ _ _ c.queries.ensures c.list_asked.ensures c.in-None.is)).0
 
 pub returns-in-None : goal.returns-in-None
 returns-in-None c =
     subst (IsLineOf (world_of c.args.m.now) true (backing_of c.args.m.now.content) (query_at c.args.m.now c.args.k))
     (sym c.text_at-in-None.ensures)
-    (by_piece c.args.m.now c.requires.whole c.requires.answers.0 c.requires.answers.1 c.args.k c.requires.k
+    (by_piece c.args.m.now c.requires.whole c.requires.answers c.args.k c.requires.k
     (asks _ _ _ _ _ c.queries.ensures c.list_asked.ensures c.in-None.is)).1

@@ -4,11 +4,10 @@ use Rattle.swreq_lowering.specs.ByTable.{query_by}
 use Rattle.swreq_lowering.specs.Queries.{TermQuery}
 use Rattle.swreq_print.specs.Names.{Text}
 use Rattle.swreq_world.specs.Worlds.{TextWorld}
-use Rattle.swreq_reply.specs.Contents.{backing_of}
 use Rattle.swreq_reply.specs.Outputs.{AnswersLast, IsLineOf}
 use Rattle.swreq_reply.specs.Pieces.{query_at, world_of}
+use Rattle.swreq_reply.specs.declared.content.Backing.{Backing}
 use Rattle.swreq_reply.specs.declared.content.Backing.TheVariants.{Nothing}
-use Rattle.swreq_reply.specs.declared.content.Content.{Content}
 use Rattle.swreq_reply.proofs.printing.last_answer.Goals as goal
 
 -- the line of the query at the last place answers the last query
@@ -38,8 +37,8 @@ returns c =
     at_end (world_of m) (world_of m).queries _ c.answer_at.result.now (count - 1)
     (some count (world_of m).queries c.if-count-eq0.false
     (ap length c.queries-count.ensures ∙ sym (length-map m.world.now.queries (query_by m.table.now))))
-    (subst (λ (k : Content). IsLineOf (world_of m) true (backing_of k) (query_at m (count - 1)) c.answer_at.result.now)
-    c.requires.counts.1 c.answer_at.ensures)
+    (subst (λ (b : Backing). IsLineOf (world_of m) true b (query_at m (count - 1)) c.answer_at.result.now)
+    c.requires.plain c.answer_at.ensures)
   where
     some : (n : ℕ) (qs : List TermQuery) → n ≢ 0 → n ≡ length qs → suc (n - 1) ≡ length qs
     some n qs other same = omega (arith, other, same)

@@ -1,6 +1,6 @@
 use Rattle.std.proofs.Common.{◌∙◌, ap, subst, sym, true}
 use Rattle.std.proofs.lemmas.Result.{IfOk-weaker}
-use Rattle.swreq_reply.specs.Contents.{backing_of}
+use Rattle.swreq_reply.specs.Contents.{backed_by, backing_of, makes}
 use Rattle.swreq_reply.specs.Lines.{AreLinesIn}
 use Rattle.swreq_reply.specs.Outputs.{IsLineOf, IsOutput}
 use Rattle.swreq_reply.specs.Pieces.{world_of}
@@ -9,8 +9,14 @@ use Rattle.swreq_reply.specs.declared.content.Content.TheVariants.{Answers}
 use Rattle.swreq_reply.specs.declared.content.Shown.{Shown}
 use Rattle.swreq_reply.proofs.printing.shown_answers.Goals as goal
 
-pub counts-requires-clause-counts : goal.counts-requires-clause-counts
-counts-requires-clause-counts c = c.requires.shown ∙ ap Answers c.in-Counts.is
+pub all_answers-requires-clause-answers : goal.all_answers-requires-clause-answers
+all_answers-requires-clause-answers c = ap makes c.requires.shown
+
+pub counts-requires-clause-answers : goal.counts-requires-clause-answers
+counts-requires-clause-answers c = ap makes c.requires.shown
+
+pub counts-requires-clause-plain : goal.counts-requires-clause-plain
+counts-requires-clause-plain c = ap backing_of c.requires.shown ∙ ap backed_by c.in-Counts.is
 
 pub returns-in-Each : goal.returns-in-Each
 returns-in-Each c =

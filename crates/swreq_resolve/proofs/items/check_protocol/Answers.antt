@@ -10,18 +10,18 @@ use Rattle.swreq_resolve.proofs.items.check_protocol.Goals as goal
 
 pub returns : goal.returns
 returns c =
-    let begins : List ℕ → Bool = begins_in_protocol c.args.d.now (leads c.args.inherits.now) c.args.i in
-    let primaries : List Refusal = of_primaries c.args.d.now (leads c.args.inherits.now) c.args.i in
-    let inherits : List Refusal = flat_map (of_entity c.args.text.now c.args.d.now begins) c.args.p.now.inherits in
-    let clause : List Refusal = flat_map (of_requirement c.args.text.now c.args.d.now begins) c.args.p.now.clause in
-    let members : List Refusal = of_members c.args.text.now c.args.d.now begins c.args.i c.args.p.now.members in
+    let begins : List ℕ → Bool = begins_in_protocol c.args.declared.now (leads c.args.inherits.now) c.args.place in
+    let primaries : List Refusal = of_primaries c.args.declared.now (leads c.args.inherits.now) c.args.place in
+    let inherits : List Refusal = flat_map (of_entity c.args.text.now c.args.declared.now begins) c.args.protocol.now.inherits in
+    let clause : List Refusal = flat_map (of_requirement c.args.text.now c.args.declared.now begins) c.args.protocol.now.clause in
+    let members : List Refusal = of_members c.args.text.now c.args.declared.now begins c.args.place c.args.protocol.now.members in
     then_least c.args.best c.check_all_primaries-best.result c.check_all_members.result primaries
     (inherits ++ (clause ++ members)) c.check_all_primaries-best.ensures
     (then_least c.check_all_primaries-best.result c.check_entities-best.result c.check_all_members.result inherits (clause ++ members)
-    (walked_over (of_entity c.args.text.now c.args.d.now begins) c.check_all_primaries-best.result c.check_entities-best.result
-    c.items.result.now c.args.p.now.inherits c.check_entities-best.ensures c.items.ensures)
+    (walked_over (of_entity c.args.text.now c.args.declared.now begins) c.check_all_primaries-best.result c.check_entities-best.result
+    c.items.result.now c.args.protocol.now.inherits c.check_entities-best.ensures c.items.ensures)
     (then_least c.check_entities-best.result c.check_requirements-best.result c.check_all_members.result clause members
-    (walked_over (of_requirement c.args.text.now c.args.d.now begins) c.check_entities-best.result c.check_requirements-best.result
-    c.items-2.result.now c.args.p.now.clause c.check_requirements-best.ensures c.items-2.ensures)
+    (walked_over (of_requirement c.args.text.now c.args.declared.now begins) c.check_entities-best.result c.check_requirements-best.result
+    c.items-2.result.now c.args.protocol.now.clause c.check_requirements-best.ensures c.items-2.ensures)
     (c.check_all_members.ensures ∙ ap (λ (ms : List AssocDecl).
-    least c.check_requirements-best.result (of_members c.args.text.now c.args.d.now begins c.args.i ms)) c.items-3.ensures)))
+    least c.check_requirements-best.result (of_members c.args.text.now c.args.declared.now begins c.args.place ms)) c.items-3.ensures)))

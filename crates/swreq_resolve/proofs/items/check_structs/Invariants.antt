@@ -5,4 +5,5 @@ use Rattle.swreq_resolve.proofs.items.check_structs.Given as goal
 
 abbrev pub invariant-loop-i : goal.invariant-loop-i
 invariant-loop-i l =
-    least l.best (by_place (of_struct l.text l.d) l.i (drop l.i l.structs)) ≡ least l.fn.best (by_place (of_struct l.text l.d) 0 l.structs)
+    least l.best (by_place (of_struct l.text l.declared) l.i (drop l.i l.structs))
+    ≡ least l.fn.best (by_place (of_struct l.text l.declared) 0 l.structs)

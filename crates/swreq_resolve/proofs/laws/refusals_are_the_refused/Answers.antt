@@ -10,22 +10,24 @@ use Rattle.swreq_resolve.proofs.laws.refusals_are_the_refused.Goals as goal
 
 pub returns-clause-all : goal.returns-clause-all
 returns-clause-all c stands inherits tells r =
-    let order : IsInOrder (spaces c.args.text.now c.args.s.now) =
-    declared_in_order c.args.text.now c.args.s.now c.tokens_are_slices.ensures stands in
-    (refusals_to c.args.text.now c.args.s.now inherits tells order r, refusals_from c.args.text.now c.args.s.now inherits tells order r)
+    let order : IsInOrder (spaces c.args.text.now c.args.skeleton.now) =
+    declared_in_order c.args.text.now c.args.skeleton.now c.tokens_are_slices.ensures stands in (
+      refusals_to c.args.text.now c.args.skeleton.now inherits tells order r,
+      refusals_from c.args.text.now c.args.skeleton.now inherits tells order r,
+    )
 
 pub returns-clause-first : goal.returns-clause-first
 returns-clause-first c stands r n =
-    let order : IsInOrder (spaces c.args.text.now c.args.s.now) =
-    declared_in_order c.args.text.now c.args.s.now c.tokens_are_slices.ensures stands in
+    let order : IsInOrder (spaces c.args.text.now c.args.skeleton.now) =
+    declared_in_order c.args.text.now c.args.skeleton.now c.tokens_are_slices.ensures stands in
     record {
-      is = refusals_to c.args.text.now c.args.s.now n.inherits n.tells order r n.first.is;
-      first = λ q k. n.first.first q (refusals_from c.args.text.now c.args.s.now n.inherits n.tells order q k);
+      is = refusals_to c.args.text.now c.args.skeleton.now n.inherits n.tells order r n.first.is;
+      first = λ q k. n.first.first q (refusals_from c.args.text.now c.args.skeleton.now n.inherits n.tells order q k);
     }
 
 pub returns-clause-none : goal.returns-clause-none
 returns-clause-none c stands h r k =
-    let order : IsInOrder (spaces c.args.text.now c.args.s.now) =
-    declared_in_order c.args.text.now c.args.s.now c.tokens_are_slices.ensures stands in
+    let order : IsInOrder (spaces c.args.text.now c.args.skeleton.now) =
+    declared_in_order c.args.text.now c.args.skeleton.now c.tokens_are_slices.ensures stands in
     no_member r
-    (subst (λ (rs : List Refusal). Contains rs r) h.none (refusals_from c.args.text.now c.args.s.now h.inherits h.tells order r k))
+    (subst (λ (rs : List Refusal). Contains rs r) h.none (refusals_from c.args.text.now c.args.skeleton.now h.inherits h.tells order r k))

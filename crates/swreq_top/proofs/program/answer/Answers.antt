@@ -1,12 +1,12 @@
-use Rattle.std.proofs.Common.{[], refl}
+use Rattle.std.proofs.Common.{◌∙◌, [], refl, sym}
 use Rattle.swreq_top.proofs.Delivering.{answers_text, read_whole}
 use Rattle.swreq_top.proofs.program.answer.Goals as goal
 
-pub returns-in-Gen-clause-answer : goal.returns-in-Gen-clause-answer
-returns-in-Gen-clause-answer g c =
+pub returns-in-Nothing-clause-answer : goal.returns-in-Nothing-clause-answer
+returns-in-Nothing-clause-answer g c =
     let left = g.S.Source.left c.args.src.now in
-    answers_text c.args.line.now left left (g.W.Watch.told c.args.watch.now) (g.W.Watch.told c.replied.new.watch) [] (λ gen. refl)
-    (λ reads. absurd (reads (c.in-Gen.n, c.in-Gen.is))) c.replied.result c.replied.ensures
+    answers_text c.args.line.now left left (g.W.Watch.told c.args.watch.now) (g.W.Watch.told c.replied.new.watch) [] (λ none. refl)
+    (λ some. absurd (some (sym c.input.ensures ∙ c.in-Nothing.is))) c.replied.result c.replied.ensures
 
 pub returns-in-Ok-clause-answer : goal.returns-in-Ok-clause-answer
 returns-in-Ok-clause-answer g c =
@@ -16,5 +16,6 @@ returns-in-Ok-clause-answer g c =
     let old = g.W.Watch.told c.args.watch.now in
     let new = g.W.Watch.told c.replied-in-Ok.new.watch in
     let had = read_whole left rest c.in-Ok.text.items c.in-Ok.ensures.all c.in-Ok.ensures.end c.in-Ok.ensures.within in
-    answers_text line left rest old new c.in-Ok.text.items (λ gen. absurd (c.in_default.not-Gen gen.0 gen.1)) (λ known. had)
+    answers_text line left rest old new c.in-Ok.text.items
+    (λ none. absurd (c.in_default.not-Nothing (c.input.ensures ∙ none))) (λ known. had)
     c.replied-in-Ok.result (rw c.deref.ensures.value at c.replied-in-Ok.ensures)

@@ -2,12 +2,12 @@ use Rattle.std.proofs.Common.{Err, Ok, ap, refl}
 use Rattle.swreq_text.specs.declared.whole.ReadErr.TheVariants.{Fault, Memory, TooLarge}
 use Rattle.swreq_watch.proofs.Told.{grew_none}
 use Rattle.swreq_top.specs.Run.HasToPrint.{no_memory, wrong_words}
-use Rattle.swreq_top.proofs.Delivering.{ended, gen_said, has_count, nothing_told, to_print}
+use Rattle.swreq_top.proofs.Delivering.{ended, nothing_said, nothing_told, to_print}
 use Rattle.swreq_top.proofs.program.carry_out.Goals as goal
 
 pub answer-requires-clause-count : goal.answer-requires-clause-count
 answer-requires-clause-count g c =
-    has_count c.in-Ok.line.command (λ n is. c.numbers_are_in_range.ensures.count _ c.in-Ok.line n c.in-Ok.ensures.ok is)
+    c.numbers_are_in_range.ensures.count _ c.in-Ok.line c.in-Ok.ensures.ok
 
 pub returns-in-Ok-answer-clause-end : goal.returns-in-Ok-answer-clause-end
 returns-in-Ok-answer-clause-end g c =
@@ -16,7 +16,7 @@ returns-in-Ok-answer-clause-end g c =
     (rw c.items.ensures at c.finish.ensures)
 
 pub returns-in-Ok-answer-clause-unread : goal.returns-in-Ok-answer-clause-unread
-returns-in-Ok-answer-clause-unread g c = gen_said _ c.in-Ok.line c.in-Ok.ensures.ok c.answer.ensures.unread
+returns-in-Ok-answer-clause-unread g c = nothing_said _ c.in-Ok.line c.in-Ok.ensures.ok c.answer.ensures.unread
 
 pub returns-in-Err-TooLarge-clause-end : goal.returns-in-Err-TooLarge-clause-end
 returns-in-Err-TooLarge-clause-end g c =
@@ -25,7 +25,7 @@ returns-in-Err-TooLarge-clause-end g c =
     c.finish-in-Err-TooLarge.ensures
 
 pub returns-in-Err-TooLarge-clause-unread : goal.returns-in-Err-TooLarge-clause-unread
-returns-in-Err-TooLarge-clause-unread g c = gen_said _ c.in-Ok.line c.in-Ok.ensures.ok c.answer.ensures.unread
+returns-in-Err-TooLarge-clause-unread g c = nothing_said _ c.in-Ok.line c.in-Ok.ensures.ok c.answer.ensures.unread
 
 pub returns-in-Err-Fault-clause-end : goal.returns-in-Err-Fault-clause-end
 returns-in-Err-Fault-clause-end g c =
@@ -33,7 +33,7 @@ returns-in-Err-Fault-clause-end g c =
     ended _ (to_print _ c.in-Ok.line c.in-Ok.ensures.ok (Err Fault) said.answer said.fault said.no_fault) c.finish-in-Err-Fault.ensures
 
 pub returns-in-Err-Fault-clause-unread : goal.returns-in-Err-Fault-clause-unread
-returns-in-Err-Fault-clause-unread g c = gen_said _ c.in-Ok.line c.in-Ok.ensures.ok c.answer.ensures.unread
+returns-in-Err-Fault-clause-unread g c = nothing_said _ c.in-Ok.line c.in-Ok.ensures.ok c.answer.ensures.unread
 
 pub returns-in-Err-Memory-answer-clause-end : goal.returns-in-Err-Memory-answer-clause-end
 returns-in-Err-Memory-answer-clause-end g c =
@@ -42,7 +42,7 @@ returns-in-Err-Memory-answer-clause-end g c =
     c.finish-in-Err-Memory-answer.ensures
 
 pub returns-in-Err-Memory-answer-clause-unread : goal.returns-in-Err-Memory-answer-clause-unread
-returns-in-Err-Memory-answer-clause-unread g c = gen_said _ c.in-Ok.line c.in-Ok.ensures.ok c.answer.ensures.unread
+returns-in-Err-Memory-answer-clause-unread g c = nothing_said _ c.in-Ok.line c.in-Ok.ensures.ok c.answer.ensures.unread
 
 pub returns-in-Err-Usage-clause-end : goal.returns-in-Err-Usage-clause-end
 returns-in-Err-Usage-clause-end g c =

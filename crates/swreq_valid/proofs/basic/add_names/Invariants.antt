@@ -6,4 +6,5 @@ use Rattle.swreq_valid.proofs.basic.add_names.Given as goal
 
 abbrev pub invariant-loop-rank : goal.invariant-loop-rank
 invariant-loop-rank l =
-    AreNamedTo l.world.lexicon l.p (l.initial.v.items ++ named_from l.p 0 (symbols_of l.world.lexicon).members) l.v.items l.rank
+    AreNamedTo l.world.lexicon l.protocol (l.initial.equations.items ++ named_from l.protocol 0 (symbols_of l.world.lexicon).members)
+    l.equations.items l.rank

@@ -13,7 +13,7 @@ loop-k-preserved c =
     let w = c.args.world.now in
     part_at (in_protocols w) (λ p. map (in_protocol p) (bare (requirements_of w p)))
     (λ p ps. refl) w.lexicon.written_order c.loop-k.k c.proto_at-p.result
-    c.loop-k.v.items c.add_requirements.new.v.items (in_protocols w w.lexicon.written_order) c.proto_at-p.ensures
+    c.loop-k.v.items c.add_requirements.new.wanted.items (in_protocols w w.lexicon.written_order) c.proto_at-p.ensures
     (c.in_ok-add_requirements.ensures ∙ ap (λ z. c.loop-k.v.items ++ map (in_protocol c.proto_at-p.result) z) c.bare_requirements.ensures)
     c.loop-k.invariant
 

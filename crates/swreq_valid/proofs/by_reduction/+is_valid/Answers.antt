@@ -6,6 +6,6 @@ use Rattle.swreq_valid.proofs.by_reduction.+is_valid.Goals as goal
 pub returns-then-branch : goal.returns-then-branch
 returns-then-branch t c =
     let by = c.args.by.now in
-    member_result (world_by by.table.now by.world.now) by.rules.now by.over (term_at by.table.now c.args.t)
+    member_result (world_by by.table.now by.world.now) by.rules.now by.over (term_at by.table.now c.args.subject)
     (term_at by.table.now c.in-Some.base) c.in-Some.step
     c.in-Some.ensures.1 c.has_step.result (c.in_ok-is_valid-in-Some.ensures.0 c.if-branch.true) c.has_step.ensures

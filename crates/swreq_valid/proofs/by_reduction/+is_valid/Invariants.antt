@@ -3,4 +3,4 @@ use Rattle.swreq_param.specs.Terms.{member_count}
 use Rattle.swreq_valid.proofs.by_reduction.+is_valid.Given as goal
 
 abbrev pub decreases-is_valid : goal.decreases-is_valid
-decreases-is_valid l = member_count (term_at l.by.now.table.now l.t)
+decreases-is_valid l = member_count (term_at l.by.now.table.now l.subject)

@@ -4,10 +4,10 @@ use Rattle.swreq_valid.proofs.by_reduction.has_assoc.Goals as goal
 
 pub conforms-requires-clause-proto : goal.conforms-requires-clause-proto
 conforms-requires-clause-proto c =
-    in_text c.args.by.now.world.now.lexicon c.requires.text.closed.ids c.args.d c.assoc-declared.result c.assoc-declared.ensures
+    in_text c.args.by.now.world.now.lexicon c.requires.text.closed.ids c.args.assoc c.assoc-declared.result c.assoc-declared.ensures
 
 pub returns : goal.returns
 returns c =
     assoc_result c.args.by.now.world.now.lexicon c.args.by.now.rules.now c.args.by.now.over
-    (term_at c.args.by.now.table.now c.args.t) c.args.d
+    (term_at c.args.by.now.table.now c.args.subject) c.args.assoc
     c.assoc-declared.result c.conforms.result c.assoc-declared.ensures c.conforms.ensures

@@ -7,7 +7,7 @@ pub returns : goal.returns
 returns c = (
   (λ h. cc),
   λ g. absurd (none_at_all c.args.by.now.world.now.lexicon c.args.by.now.rules.now c.args.by.now.over
-      (term_at c.args.by.now.table.now c.args.t) c.args.a
+      (term_at c.args.by.now.table.now c.args.subject) c.args.name
       c.loop-rank.rank (let a = c.loop-rank-test.false in let b = c.associated-rank-end.ensures in omega (arith, a, b))
       c.loop-rank.invariant g),
 )

@@ -6,11 +6,13 @@ use Rattle.swreq_valid.proofs.kept.add_kept.Goals as goal
 
 pub loop-k-preserved : goal.loop-k-preserved
 loop-k-preserved c =
-    one_kept (in_protocol c.args.p) c.args.list.now c.args.flags.now c.loop-k.k _ false c.loop-k.v.items c.add_one.new.v.items
-    (c.args.v.now.items ++ map (in_protocol c.args.p) (chosen c.args.list.now c.args.flags.now)) c.loop-k-test.true
+    one_kept (in_protocol c.args.protocol) c.args.list.now c.args.flags.now c.loop-k.k _ false c.loop-k.wanted.items
+    c.add_one.new.wanted.items
+    (c.args.wanted.now.items ++ map (in_protocol c.args.protocol) (chosen c.args.list.now c.args.flags.now)) c.loop-k-test.true
     (let a = c.loop-k-test.true in let b = c.requires in omega (arith, a, b)) c.in_ok-add_one.ensures c.loop-k.invariant
 
 pub returns : goal.returns
 returns c =
-    all_kept (in_protocol c.args.p) c.args.list.now c.args.flags.now c.loop-k.k c.loop-k.v.items
-    (c.args.v.now.items ++ map (in_protocol c.args.p) (chosen c.args.list.now c.args.flags.now)) c.loop-k-test.false c.loop-k.invariant
+    all_kept (in_protocol c.args.protocol) c.args.list.now c.args.flags.now c.loop-k.k c.loop-k.wanted.items
+    (c.args.wanted.now.items ++ map (in_protocol c.args.protocol) (chosen c.args.list.now c.args.flags.now)) c.loop-k-test.false
+    c.loop-k.invariant

@@ -5,5 +5,5 @@ use Rattle.swreq_valid.proofs.kept.add_kept.Given as goal
 
 abbrev pub invariant-loop-k : goal.invariant-loop-k
 invariant-loop-k l =
-    l.v.items ++ map (in_protocol l.p) (chosen (drop l.k l.list) (drop l.k l.flags))
-    ≡ l.initial.v.items ++ map (in_protocol l.p) (chosen l.list l.flags)
+    l.wanted.items ++ map (in_protocol l.protocol) (chosen (drop l.k l.list) (drop l.k l.flags))
+    ≡ l.initial.wanted.items ++ map (in_protocol l.protocol) (chosen l.list l.flags)

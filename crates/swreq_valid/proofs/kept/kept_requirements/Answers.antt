@@ -21,7 +21,7 @@ loop-k-preserved c =
     let at : slice_get lists c.loop-k.k ≡ Some c.index-lists-k.result =
     slice_get_read lists (length lists) c.loop-k.k c.index-lists-k.result refl within c.index-lists-k.is in
     one_list w w.lexicon.written_order c.args.keep.now.lists c.loop-k.k c.proto_at-p.result c.items.result.now
-    c.loop-k.v.items c.add_kept.new.v.items
+    c.loop-k.v.items c.add_kept.new.wanted.items
     (kept_in w w.lexicon.written_order c.args.keep.now.lists) c.proto_at-p.ensures
     (subst₂ (λ (xs : List (List Bool)) (f : List Bool). slice_get xs c.loop-k.k ≡ Some f) c.items-lists.ensures (sym c.items.ensures) at)
     (c.in_ok-add_kept.ensures

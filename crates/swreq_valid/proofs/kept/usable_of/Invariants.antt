@@ -7,4 +7,4 @@ use Rattle.swreq_valid.proofs.kept.usable_of.Given as goal
 
 abbrev pub invariant-loop-k : goal.invariant-loop-k
 invariant-loop-k l =
-    Tells (λ r. IsUsableBy (world_by l.table l.world) l.rules l.p (requirement_of l.table r)) (take l.k l.list) l.flags.items
+    Tells (λ r. IsUsableBy (world_by l.table l.world) l.rules l.protocol (requirement_of l.table r)) (take l.k l.list) l.flags.items

@@ -9,7 +9,7 @@ use Rattle.swreq_valid.proofs.sides.fails_at.Goals as goal
 pub returns-then-shown : goal.returns-then-shown
 returns-then-shown c rs =
     valid_to_list (symbols_of c.args.reading.now.world.now.lexicon) (facts_of (world_by c.args.reading.now.table.now
-    c.args.reading.now.world.now)) rs (Links c.args.reading.now.rules.now) (term_at c.args.reading.now.table.now c.args.t)
+    c.args.reading.now.world.now)) rs (Links c.args.reading.now.rules.now) (term_at c.args.reading.now.table.now c.args.subject)
     c.args.reading.now.over (c.in_ok-shown.ensures.0 c.if-shown.true)
 
 pub returns-else-shown : goal.returns-else-shown
@@ -17,7 +17,7 @@ returns-else-shown c rs = (
   (λ h.
       let e = c.in_ok-shown.ensures.1
       (valid_from_list (symbols_of c.args.reading.now.world.now.lexicon) (facts_of (world_by c.args.reading.now.table.now
-      c.args.reading.now.world.now)) rs (Links c.args.reading.now.rules.now) (term_at c.args.reading.now.table.now c.args.t)
+      c.args.reading.now.world.now)) rs (Links c.args.reading.now.rules.now) (term_at c.args.reading.now.table.now c.args.subject)
       c.args.reading.now.over h) in
       let f = c.if-shown.false in cc),
   refl,

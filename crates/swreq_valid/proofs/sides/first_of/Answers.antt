@@ -15,11 +15,12 @@ returns-in-Conf c rs =
     c.args.reading.now.world.now)) c.args.reading.now.rules.now) c.fails_at.result (record {
       source = within rs c.args.reading.now.over;
       term = term_at c.args.reading.now.table.now c.in-Conf.subject;
-      at = c.args.r.now.left_at;
+      at = c.args.written.now.left_at;
     })
-    (sides_of (within rs c.args.reading.now.over) (placed_by c.args.reading.now.table.now c.args.r.now))
+    (sides_of (within rs c.args.reading.now.over) (placed_by c.args.reading.now.table.now c.args.written.now))
     (ap (λ z. sides_at (within rs c.args.reading.now.over)
-    (requirement_of c.args.reading.now.table.now z) c.args.r.now.left_at c.args.r.now.right_at) c.in-Conf.is) (c.fails_at.ensures rs)
+    (requirement_of c.args.reading.now.table.now z) c.args.written.now.left_at c.args.written.now.right_at) c.in-Conf.is)
+    (c.fails_at.ensures rs)
 
 pub returns-in-Layout : goal.returns-in-Layout
 returns-in-Layout c rs =
@@ -27,11 +28,11 @@ returns-in-Layout c rs =
     c.args.reading.now.world.now)) c.args.reading.now.rules.now) c.fails_at-in-Layout.result (record {
       source = within rs c.args.reading.now.over;
       term = term_at c.args.reading.now.table.now c.in-Layout.subject;
-      at = c.args.r.now.left_at;
+      at = c.args.written.now.left_at;
     })
-    (sides_of (within rs c.args.reading.now.over) (placed_by c.args.reading.now.table.now c.args.r.now))
-    (ap (λ z. sides_at (within rs c.args.reading.now.over) (requirement_of c.args.reading.now.table.now z) c.args.r.now.left_at
-    c.args.r.now.right_at) c.in-Layout.is) (c.fails_at-in-Layout.ensures rs)
+    (sides_of (within rs c.args.reading.now.over) (placed_by c.args.reading.now.table.now c.args.written.now))
+    (ap (λ z. sides_at (within rs c.args.reading.now.over) (requirement_of c.args.reading.now.table.now z) c.args.written.now.left_at
+    c.args.written.now.right_at) c.in-Layout.is) (c.fails_at-in-Layout.ensures rs)
 
 pub returns-in-Some : goal.returns-in-Some
 returns-in-Some c rs =
@@ -39,15 +40,15 @@ returns-in-Some c rs =
     (facts_of (world_by c.args.reading.now.table.now c.args.reading.now.world.now)) c.args.reading.now.rules.now) (record {
       source = within rs c.args.reading.now.over;
       term = term_at c.args.reading.now.table.now c.in-Same.left;
-      at = c.args.r.now.left_at;
+      at = c.args.written.now.left_at;
     }) (record {
       source = within rs c.args.reading.now.over;
       term = term_at c.args.reading.now.table.now c.in-Same.right;
-      at = c.args.r.now.right_at;
+      at = c.args.written.now.right_at;
     })
     c.in-Some.at c.in_ok-at-in-Same.field-0 (sides_of (within rs c.args.reading.now.over) (placed_by c.args.reading.now.table.now
-    c.args.r.now)) (ap (λ z. sides_at (within rs c.args.reading.now.over) (requirement_of c.args.reading.now.table.now z)
-    c.args.r.now.left_at c.args.r.now.right_at) c.in-Same.is) c.in-Some.is (c.in_ok-at-in-Same.ensures rs)
+    c.args.written.now)) (ap (λ z. sides_at (within rs c.args.reading.now.over) (requirement_of c.args.reading.now.table.now z)
+    c.args.written.now.left_at c.args.written.now.right_at) c.in-Same.is) c.in-Some.is (c.in_ok-at-in-Same.ensures rs)
 
 pub returns-in-None : goal.returns-in-None
 returns-in-None c rs =
@@ -55,12 +56,12 @@ returns-in-None c rs =
     c.args.reading.now.world.now)) c.args.reading.now.rules.now) c.fails_at-in-None.result (record {
       source = within rs c.args.reading.now.over;
       term = term_at c.args.reading.now.table.now c.in-Same.left;
-      at = c.args.r.now.left_at;
+      at = c.args.written.now.left_at;
     }) (record {
       source = within rs c.args.reading.now.over;
       term = term_at c.args.reading.now.table.now c.in-Same.right;
-      at = c.args.r.now.right_at;
+      at = c.args.written.now.right_at;
     })
-    c.in_ok-at-in-Same.field-0 (sides_of (within rs c.args.reading.now.over) (placed_by c.args.reading.now.table.now c.args.r.now))
-    (ap (λ z. sides_at (within rs c.args.reading.now.over) (requirement_of c.args.reading.now.table.now z) c.args.r.now.left_at
-    c.args.r.now.right_at) c.in-Same.is) c.in-None.is (c.in_ok-at-in-Same.ensures rs) (c.fails_at-in-None.ensures rs)
+    c.in_ok-at-in-Same.field-0 (sides_of (within rs c.args.reading.now.over) (placed_by c.args.reading.now.table.now c.args.written.now))
+    (ap (λ z. sides_at (within rs c.args.reading.now.over) (requirement_of c.args.reading.now.table.now z) c.args.written.now.left_at
+    c.args.written.now.right_at) c.in-Same.is) c.in-None.is (c.in_ok-at-in-Same.ensures rs) (c.fails_at-in-None.ensures rs)

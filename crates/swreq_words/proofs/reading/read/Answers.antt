@@ -1,21 +1,31 @@
-use Rattle.std.proofs.Common.{◌∙◌, map, string_bytes, sym, ap}
+use Rattle.std.proofs.Common.{◌≡◌, ◌∙◌, Err, map, string_bytes, sym, ap, rules, subst}
+use Rattle.std.proofs.lemmas.Result.{err_from_is_err_and}
+use Rattle.clap.specs.Words.{subcommand_of, subcommand_rows_of}
+use Rattle.swreq_words.specs.declared.reading.UsageErr.TheVariants.{Memory}
 use Rattle.swreq_words.specs.Found.{line_found}
-use Rattle.swreq_words.proofs.Lines.{usage_without, usage_memory, ok_found, usage_found}
+use Rattle.swreq_words.specs.Taken.{genreq}
+use Rattle.swreq_words.proofs.Lines.{IsUsage, usage_without, usage_memory, ok_found, usage_found}
 use Rattle.swreq_words.proofs.reading.read.Goals as goal
 
 pub returns-then-not-has_form-clause-usage : goal.returns-then-not-has_form-clause-usage
 returns-then-not-has_form-clause-usage c =
     usage_without (map string_bytes c.args.words.now) (sym c.has_form.ensures ∙ c.if-not-has_form.true)
 
-pub returns-in-Ok-clause-ok : goal.returns-in-Ok-clause-ok
-returns-in-Ok-clause-ok c = ok_found (map string_bytes c.args.words.now) c.ok_or.result c.line_found.result
-    (sym c.has_form.ensures ∙ c.if-not-has_form.false) c.ok_or.ensures.value
-    (c.line_found.ensures ∙ ap line_found c.in-Ok.ensures.found)
+pub returns-in_err-matches-clause-usage : goal.returns-in_err-matches-clause-usage
+returns-in_err-matches-clause-usage c =
+    let memory : c.in_err-matches.field-0.0 ≡ Memory = search rules in
+    let failed = err_from_is_err_and c.from_residual.result c.from_residual.ensures.1 in
+    subst (IsUsage (map string_bytes c.args.words.now)) (sym (failed.1 ∙ ap Err (search (rules, failed, memory))))
+    (usage_memory (map string_bytes c.args.words.now) (sym c.has_form.ensures ∙ c.if-not-has_form.false))
 
-pub returns-in-Ok-clause-usage : goal.returns-in-Ok-clause-usage
-returns-in-Ok-clause-usage c = usage_found (map string_bytes c.args.words.now) c.ok_or.result c.line_found.result
-    (sym c.has_form.ensures ∙ c.if-not-has_form.false) c.ok_or.ensures.value
-    (c.line_found.ensures ∙ ap line_found c.in-Ok.ensures.found)
+pub returns-clause-ok : goal.returns-clause-ok
+returns-clause-ok c =
+    let found : subcommand_rows_of c.in_ok-matches.matches ≡ subcommand_of genreq (map string_bytes c.args.words.now) = search rules in
+    ok_found (map string_bytes c.args.words.now) c.ok_or.result c.line_found.result
+    (sym c.has_form.ensures ∙ c.if-not-has_form.false) c.ok_or.ensures.value (c.line_found.ensures ∙ ap line_found found)
 
 pub returns-clause-usage : goal.returns-clause-usage
-returns-clause-usage c = usage_memory (map string_bytes c.args.words.now) (sym c.has_form.ensures ∙ c.if-not-has_form.false)
+returns-clause-usage c =
+    let found : subcommand_rows_of c.in_ok-matches.matches ≡ subcommand_of genreq (map string_bytes c.args.words.now) = search rules in
+    usage_found (map string_bytes c.args.words.now) c.ok_or.result c.line_found.result
+    (sym c.has_form.ensures ∙ c.if-not-has_form.false) c.ok_or.ensures.value (c.line_found.ensures ∙ ap line_found found)

@@ -17,7 +17,7 @@ pub words_of-words-requires : goal.words_of-words-requires
 words_of-words-requires c = record {
   limit = c.requires.limit;
   stands = c.requires.stands;
-  declared = subst (λ (l : LexiconView). HasDeclared c.args.text.now c.args.s.now l.resolved) (sym c.deref.ensures)
+  declared = subst (λ (l : LexiconView). HasDeclared c.args.text.now c.args.skeleton.now l.resolved) (sym c.deref.ensures)
       c.requires.lexicon.resolved;
 }
 
@@ -28,32 +28,32 @@ lists_of-requires-clause-short c =
 pub lists_of-requires-clause-declared : goal.lists_of-requires-clause-declared
 lists_of-requires-clause-declared c =
     let words : words_by c.words_of-words.result
-    ≡ record { text = c.args.text.now; skeleton = c.args.s.now; lexicon = c.args.lexicon.value } =
-    c.words_of-words.ensures ∙ (λ i. record { text = c.args.text.now; skeleton = c.args.s.now; lexicon = c.deref.ensures i }) in
+    ≡ record { text = c.args.text.now; skeleton = c.args.skeleton.now; lexicon = c.args.lexicon.value } =
+    c.words_of-words.ensures ∙ (λ i. record { text = c.args.text.now; skeleton = c.args.skeleton.now; lexicon = c.deref.ensures i }) in
     subst (λ (w : WordsView). HasDeclared w.text w.skeleton w.lexicon.resolved) (sym words) c.requires.lexicon.resolved
 
 pub of-requires : goal.of-requires
 of-requires c =
     let words : words_by c.words_of-words.result
-    ≡ record { text = c.args.text.now; skeleton = c.args.s.now; lexicon = c.args.lexicon.value } =
-    c.words_of-words.ensures ∙ (λ i. record { text = c.args.text.now; skeleton = c.args.s.now; lexicon = c.deref.ensures i }) in
-    ready c.args.text.now c.args.s.now c.args.lexicon.value c.args.table.now c.lists_of.new.table
+    ≡ record { text = c.args.text.now; skeleton = c.args.skeleton.now; lexicon = c.args.lexicon.value } =
+    c.words_of-words.ensures ∙ (λ i. record { text = c.args.text.now; skeleton = c.args.skeleton.now; lexicon = c.deref.ensures i }) in
+    ready c.args.text.now c.args.skeleton.now c.args.lexicon.value c.args.table.now c.lists_of.new.table
     (words_by c.words_of-words.result) c.in_ok-made.made words c.requires.short c.requires.lexicon
     c.in_ok-made.ensures.lists
 
 pub returns : goal.returns
 returns c =
     let words : words_by c.words_of-words.result
-    ≡ record { text = c.args.text.now; skeleton = c.args.s.now; lexicon = c.args.lexicon.value } =
-    c.words_of-words.ensures ∙ (λ i. record { text = c.args.text.now; skeleton = c.args.s.now; lexicon = c.deref.ensures i }) in
+    ≡ record { text = c.args.text.now; skeleton = c.args.skeleton.now; lexicon = c.args.lexicon.value } =
+    c.words_of-words.ensures ∙ (λ i. record { text = c.args.text.now; skeleton = c.args.skeleton.now; lexicon = c.deref.ensures i }) in
     record {
-      world = subst (λ (w : IdWorld). IsWorldOf c.args.text.now c.args.s.now (world_by c.lists_of.new.table w)) (sym c.of.ensures)
-          (world_is c.args.text.now c.args.s.now c.args.lexicon.value c.args.table.now c.lists_of.new.table
+      world = subst (λ (w : IdWorld). IsWorldOf c.args.text.now c.args.skeleton.now (world_by c.lists_of.new.table w)) (sym c.of.ensures)
+          (world_is c.args.text.now c.args.skeleton.now c.args.lexicon.value c.args.table.now c.lists_of.new.table
           (words_by c.words_of-words.result) c.in_ok-made.made words c.requires.lexicon
-          (all_declared c.args.s.now (first_offset (chars c.args.text.now))
-          (functions_rising c.args.text.now c.args.s.now c.tokens_are_slices.ensures c.requires.stands)) c.in_ok-made.ensures.lists);
+          (all_declared c.args.skeleton.now (first_offset (chars c.args.text.now))
+          (functions_rising c.args.text.now c.args.skeleton.now c.tokens_are_slices.ensures c.requires.stands)) c.in_ok-made.ensures.lists);
       over = subst (IsOverTable c.lists_of.new.table) (sym c.of.ensures)
-          (over_is c.args.text.now c.args.s.now c.args.lexicon.value c.args.table.now c.lists_of.new.table
+          (over_is c.args.text.now c.args.skeleton.now c.args.lexicon.value c.args.table.now c.lists_of.new.table
           (words_by c.words_of-words.result) c.in_ok-made.made c.in_ok-made.ensures.lists);
       extends = c.in_ok-made.ensures.extends;
     }

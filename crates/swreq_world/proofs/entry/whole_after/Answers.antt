@@ -1,4 +1,4 @@
-use Rattle.std.proofs.Common.{◌≡◌, ◌∙◌, sym, ap, arith, ◌++◌, length, map}
+use Rattle.std.proofs.Common.{◌∙◌, sym, ap, arith, ◌++◌, length, map}
 use Rattle.std.proofs.lemmas.Result.{IfOk-weaker}
 use Rattle.swreq_derive.specs.declared.requirements.Requirement.{Requirement}
 use Rattle.swreq_lowering.specs.declared.ids.Written.{Written}

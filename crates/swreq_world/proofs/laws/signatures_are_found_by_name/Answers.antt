@@ -1,9 +1,7 @@
-use Rattle.std.proofs.Common.{List, ℕ, Contains}
 use Rattle.std.specs.Str.{chars}
 use Rattle.swreq_decl.specs.declared.skeleton.Skeleton.{Skeleton}
 use Rattle.swreq_decl.specs.Skeletons.{StandsFor}
 use Rattle.swreq_lex.specs.Tokens.{first_offset}
-use Rattle.swreq_lowering.specs.Words.{WordsView}
 use Rattle.swreq_world.proofs.Apart.{functions_in_order, structs_apart}
 use Rattle.swreq_world.proofs.AsDeclared.{all_declared}
 use Rattle.swreq_world.proofs.Finding.{found_in_text, signature_found}

@@ -1,8 +1,7 @@
-use Rattle.std.proofs.Common.{◌≡◌, ◌∙◌, sym, ap, ap₂, List, ℕ, map}
+use Rattle.std.proofs.Common.{◌≡◌, ◌∙◌, sym, ap, List, ℕ, map}
 use Rattle.swreq_decl.specs.declared.skeleton.Skeleton.{Skeleton}
 use Rattle.swreq_lexicon.specs.Views.{LexiconView}
-use Rattle.swreq_lowering.specs.Queries.{TermQuery, query_of}
-use Rattle.swreq_lowering.specs.Requirements.{PlacedRequirement}
+use Rattle.swreq_lowering.specs.Queries.{query_of}
 use Rattle.swreq_lowering.specs.Signatures.{in_order}
 use Rattle.swreq_lowering.specs.Words.{WordsView}
 use Rattle.swreq_world.specs.Text.{requirements_named, signatures}

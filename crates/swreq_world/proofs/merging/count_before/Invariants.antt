@@ -7,8 +7,8 @@ abbrev pub invariant-loop-at : goal.invariant-loop-at
 invariant-loop-at l = record {
   above : l.from ≤ l.at;
   within : l.at ≤ length l.functions;
-  counted : (l.at - l.from) + prefix_len (stands_before l.s) (drop l.at l.functions)
-      ≡ prefix_len (stands_before l.s) (drop l.from l.functions);
+  counted : (l.at - l.from) + prefix_len (stands_before l.item) (drop l.at l.functions)
+      ≡ prefix_len (stands_before l.item) (drop l.from l.functions);
 }
 
 abbrev pub decreases-loop-at : goal.decreases-loop-at

@@ -5,10 +5,10 @@ use Rattle.swreq_world.specs.Places.{IsSmall}
 use Rattle.swreq_world.proofs.Within.{asked_small}
 use Rattle.swreq_world.proofs.queries.query_of.Goals as goal
 
-pub func_id-f-requires : goal.func_id-f-requires
-func_id-f-requires c =
-    subst IsSmall (sym c.asked_signature-g.ensures)
+pub func_id-function-requires : goal.func_id-function-requires
+func_id-function-requires c =
+    subst IsSmall (sym c.asked_signature-signature.ensures)
     (asked_small (words_by c.args.words.now)
     (λ i.
     subst (λ (d : Spaces). length (get_or d.nested i []) ≤ 1048576) (sym c.requires.declared.declared) (c.requires.short.functions_of i))
-    c.args.q.now.outer c.args.q.now.function)
+    c.args.asked.now.outer c.args.asked.now.function)

@@ -7,5 +7,6 @@ use Rattle.swreq_complete.proofs.complete_rules.CompleteRules.canonical_at.Goals
 pub returns : goal.returns
 returns c =
     IfOk-weaker c.reduced_at.result _ _
-    (λ o h. reduced_in c.args.self.now c.self.inside.list c.self.view_is (subst IsComplete c.self.view_is c.self.invariant) c.args.k o h)
+    (λ o h. reduced_in c.args.self.now c.self.inside.list c.self.view_is (subst IsComplete c.self.view_is c.self.invariant)
+    c.args.place o h)
     c.reduced_at.ensures

@@ -8,7 +8,7 @@ use Rattle.swreq_complete.proofs.complete_rules.CompleteRules.path.Goals as goal
 pub returns-clause-least : goal.returns-clause-least
 returns-clause-least c =
     let rules = c.args.self.now in
-    let w = c.args.w.now in
+    let w = c.args.word.now in
     IfOk-weaker c.reduction_path.result _ _
     (λ path r.
     let p = subst (λ rs. IsReductionPath rs path w r.0) c.indexed.ensures r.1 in

@@ -6,10 +6,10 @@ use Rattle.swreq_complete.proofs.complete_rules.CompleteRules.reduce_from.Goals 
 
 pub returns-clause-congruent : goal.returns-clause-congruent
 returns-clause-congruent c =
-    (reduces_least c.args.self.now (subst IsComplete c.self.view_is c.self.invariant) c.args.w.now.items c.reduce_from.new.w.items
-    (subst (λ r. Reduces r c.args.w.now.items c.reduce_from.new.w.items) c.self.view_is c.reduce_from.ensures.reduced)).0
+    (reduces_least c.args.self.now (subst IsComplete c.self.view_is c.self.invariant) c.args.word.now.items c.reduce_from.new.word.items
+    (subst (λ r. Reduces r c.args.word.now.items c.reduce_from.new.word.items) c.self.view_is c.reduce_from.ensures.reduced)).0
 
 pub returns-clause-least : goal.returns-clause-least
 returns-clause-least c =
-    (reduces_least c.args.self.now (subst IsComplete c.self.view_is c.self.invariant) c.args.w.now.items c.reduce_from.new.w.items
-    (subst (λ r. Reduces r c.args.w.now.items c.reduce_from.new.w.items) c.self.view_is c.reduce_from.ensures.reduced)).1
+    (reduces_least c.args.self.now (subst IsComplete c.self.view_is c.self.invariant) c.args.word.now.items c.reduce_from.new.word.items
+    (subst (λ r. Reduces r c.args.word.now.items c.reduce_from.new.word.items) c.self.view_is c.reduce_from.ensures.reduced)).1

@@ -10,7 +10,7 @@ use Rattle.swreq_complete.proofs.indexed.Indexed.find_at.Goals as goal
 pub returns-in-None : goal.returns-in-None
 returns-in-None c =
     let own = c.self.inside.own in
-    let w = c.args.w.now in
+    let w = c.args.word.now in
     subst (λ (rules : List Rule). MatchResult c.find_at.result (Chosen rules (drop c.args.at w)) (TellNone rules w c.args.at))
     (sym (ap (λ b. rules_below b ++ own.rules) c.in-None.is) ∙ c.self.view_is)
     (alone_found c.index.result.now own.rules

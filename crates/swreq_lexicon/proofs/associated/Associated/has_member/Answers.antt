@@ -9,7 +9,7 @@ use Rattle.swreq_lexicon.proofs.associated.Associated.has_member.Goals as goal
 pub returns : goal.returns
 returns c =
     let inherits = inherits_by c.args.protocols.now.places c.args.protocols.now.resolved.inherits in
-    let test = λ (q : ProtoId). nat_eq c.args.p.rank q.rank || inherits c.args.p q in
+    let test = λ (q : ProtoId). nat_eq c.args.protocol.rank q.rank || inherits c.args.protocol q in
     c.has_name.ensures
-    ∙ any_declarer (map pair_of c.self.inside.ranked) c.self.inside.declarers c.self.invariant.0 test c.args.a
-    ∙ ap (λ ds. has_member inherits ds c.args.p c.args.a) c.self.view_is
+    ∙ any_declarer (map pair_of c.self.inside.ranked) c.self.inside.declarers c.self.invariant.0 test c.args.name
+    ∙ ap (λ ds. has_member inherits ds c.args.protocol c.args.name) c.self.view_is

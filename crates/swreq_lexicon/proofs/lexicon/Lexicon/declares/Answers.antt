@@ -7,5 +7,6 @@ use Rattle.swreq_lexicon.proofs.lexicon.Lexicon.declares.Goals as goal
 
 pub returns : goal.returns
 returns c =
-    declares_by c.args.p c.args.a c.args.self.now.associated c.find.result
-    (c.find.ensures ∙ ap (λ (x : LexiconView). option_map assoc_at (position (is_pair c.args.p c.args.a) x.associated)) c.self.view_is)
+    declares_by c.args.protocol c.args.name c.args.self.now.associated c.find.result
+    (c.find.ensures ∙ ap (λ (x : LexiconView). option_map assoc_at (position (is_pair c.args.protocol c.args.name) x.associated))
+    c.self.view_is)

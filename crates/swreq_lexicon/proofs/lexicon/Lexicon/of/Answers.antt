@@ -30,18 +30,18 @@ invariant_of-result c = (
 pub returns : goal.returns
 returns c =
     let text = c.args.text.now in
-    let s = c.args.s.now in
+    let s = c.args.skeleton.now in
     let ps = c.in_ok-protocols.protocols in
     lexicon_is text s ps c.in_ok-names.names c.in_ok-pairs.pairs.items c.in_ok-associated.associated c.in_ok-symbols.symbols.order
     c.in_ok-pairs.ensures.within c.in_ok-associated.ensures.same c.in_ok-symbols.ensures.order
-    (subst (λ (ds : List ProtocolDecl). IsRanking bytes_cmp (Contains (protocol_names text ds)) ps.protocols) c.items-ps.ensures
+    (subst (λ (ds : List ProtocolDecl). IsRanking bytes_cmp (Contains (protocol_names text ds)) ps.protocols) c.items.ensures
     c.in_ok-protocols.ensures.ranking)
     c.in_ok-names.ensures
     c.in_ok-protocols.ensures.placed
     (c.in_ok-protocols.ensures.written
-    ∙ ap (λ (ds : List ProtocolDecl). map (λ p. proto_by ps.protocols (word text p.name)) ds) c.items-ps.ensures)
+    ∙ ap (λ (ds : List ProtocolDecl). map (λ p. proto_by ps.protocols (word text p.name)) ds) c.items.ensures)
     (subst (λ (ds : List ProtocolDecl). (p : ProtoId) (name : Bytes) → slice_get ps.protocols p.rank ≡ Some name → position_from
-    (bytes_eq name) 0 (protocol_names text ds) ≡ Some (place_by ps.places p)) c.items-ps.ensures c.in_ok-protocols.ensures.places)
+    (bytes_eq name) 0 (protocol_names text ds) ≡ Some (place_by ps.places p)) c.items.ensures c.in_ok-protocols.ensures.places)
     (subst (HasDeclared text s) (sym c.in_ok-protocols.ensures.resolved) c.requires.declared)
     c.in_ok-pairs.ensures.is
     c.in_ok-associated.ensures.sorted

@@ -7,6 +7,6 @@ use Rattle.swreq_lexicon.proofs.members.Members.count_before.Goals as goal
 
 pub returns-in-None : goal.returns-in-None
 returns-in-None c =
-    let none = ap (λ (rows : List (List ℕ)). row_of rows c.args.a) (sym (c.deref.ensures.value ∙ c.self.view_is)) ∙ c.in-None.ensures in
-    sym (count_none (has (row_of c.args.self.now c.args.a)) c.args.place
+    let none = ap (λ (rows : List (List ℕ)). row_of rows c.args.name) (sym (c.deref.ensures.value ∙ c.self.view_is)) ∙ c.in-None.ensures in
+    sym (count_none (has (row_of c.args.self.now c.args.name)) c.args.place
     (λ k. ap (λ (row : List ℕ). has row k) none ∙ none_without_words k))

@@ -10,19 +10,19 @@ pub returns-then-not-walk-clause-answer : goal.returns-then-not-walk-clause-answ
 returns-then-not-walk-clause-answer c list is =
     inl (λ v.
     (let shown = c.if-not-walk.ensures.valid.1 (derivable_shown (world_of c.args.text.now) c.requires.text.closed c.args.self.now list is
-    (term_at c.args.text.now.table.now c.args.a) v) in cc))
+    (term_at c.args.text.now.table.now c.args.left) v) in cc))
 
 pub returns-then-not-walk-2-clause-answer : goal.returns-then-not-walk-2-clause-answer
 returns-then-not-walk-2-clause-answer c list is =
     inr (λ v.
     (let shown = c.if-not-walk-2.ensures.valid.1 (derivable_shown (world_of c.args.text.now) c.requires.text.closed c.args.self.now list is
-    (term_at c.args.text.now.table.now c.args.b) v) in cc))
+    (term_at c.args.text.now.table.now c.args.right) v) in cc))
 
 pub returns-clause-answer : goal.returns-clause-answer
 returns-clause-answer c list is =
     let w = world_of c.args.text.now in
-    let a = term_at c.args.text.now.table.now c.args.a in
-    let b = term_at c.args.text.now.table.now c.args.b in
+    let a = term_at c.args.text.now.table.now c.args.left in
+    let b = term_at c.args.text.now.table.now c.args.right in
     let m = c.args.self.now in (
       (valid_answer w c.requires.text.closed m list is a c.walk.result c.walk.ensures.valid).0 c.if-not-walk.false,
       (valid_answer w c.requires.text.closed m list is b c.walk-2.result c.walk-2.ensures.valid).0 c.if-not-walk-2.false,

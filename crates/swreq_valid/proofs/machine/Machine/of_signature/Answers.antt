@@ -19,12 +19,13 @@ returns-in_err-list-clause-answer g c =
     let p = err_from_is_err_and c.from_residual.result c.from_residual.ensures.1 in
     rw (p.1, p.2)
     (nothing_told c.args.limits
-    (signature_plan (world_of c.args.text.now) (last_rules c.args.protocols.now.rounds) (signature_at (world_of c.args.text.now) c.args.f))
+    (signature_plan (world_of c.args.text.now) (last_rules c.args.protocols.now.rounds)
+    (signature_at (world_of c.args.text.now) c.args.signature))
     (g.W.Watch.told c.args.watch.now))
 
 pub build-requires-clause-written : goal.build-requires-clause-written
 build-requires-clause-written g c =
-    list_written c.args.text.now.table.now c.args.text.now.world.now c.args.f _ _ c.params.ensures
+    list_written c.args.text.now.table.now c.args.text.now.world.now c.args.signature _ _ c.params.ensures
     (c.deref.ensures.value ∙ c.in_ok-list.ensures)
     c.requires.text c.requires.f
 
@@ -34,9 +35,9 @@ returns g c =
     let w = c.args.text.now.world.now in
     let all = world_of c.args.text.now in
     let base = last_rules c.args.protocols.now.rounds in
-    let meant = as_meant terms w c.args.f _ _ c.params.ensures (c.deref.ensures.value ∙ c.in_ok-list.ensures) in
+    let meant = as_meant terms w c.args.signature _ _ c.params.ensures (c.deref.ensures.value ∙ c.in_ok-list.ensures) in
     record {
-      answer = builds terms w c.args.f _ _ c.params.ensures (c.deref.ensures.value ∙ c.in_ok-list.ensures) c.args.limits base
+      answer = builds terms w c.args.signature _ _ c.params.ensures (c.deref.ensures.value ∙ c.in_ok-list.ensures) c.args.limits base
           (g.W.Watch.told c.args.watch.now) (g.W.Watch.told c.build.new.watch) (built_rules c.build.result) c.build.ensures.answer;
       only =
           meant (λ p rs qs. IsOnlyBuilt c.args.limits (list_of all base p rs) (facts_of all) (sides (WrittenList (generic_params p) rs) qs)

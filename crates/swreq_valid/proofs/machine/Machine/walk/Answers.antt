@@ -15,13 +15,14 @@ pub returns-clause-valid : goal.returns-clause-valid
 returns-clause-valid c =
     let w = world_by c.args.table.now c.args.world.now in
     subst₂ (λ r p. IsTrue c.least_word.result
-    ↔ ShowsValid (symbols_of w.lexicon) (facts_of w) (source_over (Signature p)) (Links r) (term_at c.args.table.now c.args.t))
+    ↔ ShowsValid (symbols_of w.lexicon) (facts_of w) (source_over (Signature p)) (Links r) (term_at c.args.table.now c.args.subject))
     c.rules.ensures c.params.ensures c.least_word.ensures.valid
 
 pub returns-clause-least : goal.returns-clause-least
 returns-clause-least c =
     let w = world_by c.args.table.now c.args.world.now in
     subst₂ (λ r p. OnTrue c.least_word.result (IsLeastBy r c.least_word.new.word.items
-    × Links r (word_of (symbols_of w.lexicon) (source_over (Signature p)) (term_at c.args.table.now c.args.t)) c.least_word.new.word.items))
+    × Links r (word_of (symbols_of w.lexicon) (source_over (Signature p)) (term_at c.args.table.now c.args.subject))
+    c.least_word.new.word.items))
     c.rules.ensures c.params.ensures
     (on_true c.least_word.result (λ read. (read.least, read.linked)) c.least_word.ensures.read)

@@ -7,8 +7,8 @@ use Rattle.swreq_world.proofs.order.Order.struct_place.Goals as goal
 pub returns-clause-small : goal.returns-clause-small
 returns-clause-small c =
     let order = c.self.inside.signatures.items in
-    let e : c.place_at.result ≡ unwrap_or (place_in order (Struct c.args.i)) 0 =
-    c.place_at.ensures ∙ (λ j. unwrap_or (get_or (c.deref.ensures.value j) c.args.i None) 0)
-    ∙ ap (λ (o : Option ℕ). unwrap_or o 0) (c.self.invariant.0.structs c.args.i) in
-    let w = place_within order (Struct c.args.i) 1048576 c.self.invariant.1 in
+    let e : c.place_at.result ≡ unwrap_or (place_in order (Struct c.args.index)) 0 =
+    c.place_at.ensures ∙ (λ j. unwrap_or (get_or (c.deref.ensures.value j) c.args.index None) 0)
+    ∙ ap (λ (o : Option ℕ). unwrap_or o 0) (c.self.invariant.0.structs c.args.index) in
+    let w = place_within order (Struct c.args.index) 1048576 c.self.invariant.1 in
     omega arith

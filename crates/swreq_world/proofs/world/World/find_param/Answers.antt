@@ -11,18 +11,18 @@ overflow_cast-result c =
     let d = c.self.inside.lexicon.value.resolved.declared in
     let same = ap (λ (n : NamesView). param_of n.declared g c.args.name.now)
     (sym (c.resolved.ensures ∙ ap (λ (l : LexiconView). l.resolved) c.deref.ensures)) in
-    let below = outer_below d g c.args.name.now c.in-Some-Outer.place
-    (same ∙ sym c.find_param.ensures ∙ c.in-Some-Outer.is ∙ ap Some c.in-Some-Outer.field-0-is) in
+    let below = outer_below d g c.args.name.now c.in-Outer.place
+    (same ∙ sym c.find_param.ensures ∙ c.in_ok-place.was ∙ ap Some c.in-Outer.is) in
     let few = c.self.invariant.params.outer g in
     omega arith
 
-pub overflow_cast-result-in-Some-Own : goal.overflow_cast-result-in-Some-Own
-overflow_cast-result-in-Some-Own c =
+pub overflow_cast-result-in-Own : goal.overflow_cast-result-in-Own
+overflow_cast-result-in-Own c =
     let g = c.entry-entry.result.now.signature in
     let d = c.self.inside.lexicon.value.resolved.declared in
     let same = ap (λ (n : NamesView). param_of n.declared g c.args.name.now)
     (sym (c.resolved.ensures ∙ ap (λ (l : LexiconView). l.resolved) c.deref.ensures)) in
-    let below = own_below d g c.args.name.now c.in-Some-Own.place
-    (same ∙ sym c.find_param.ensures ∙ c.in-Some-Own.is ∙ ap Some c.in-Some-Own.field-0-is) in
+    let below = own_below d g c.args.name.now c.in-Own.place
+    (same ∙ sym c.find_param.ensures ∙ c.in_ok-place.was ∙ ap Some c.in-Own.is) in
     let few = c.self.invariant.params.own g in
     omega arith

@@ -1,0 +1,10 @@
+pub mod Alike
+pub mod Asking
+pub mod Births
+pub mod Ends
+pub mod Equations
+pub mod Headed
+pub mod PairParts
+pub mod PathSteps
+pub mod Readings
+pub mod ShownSteps

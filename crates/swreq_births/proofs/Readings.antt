@@ -1,0 +1,76 @@
+-- What lines say of type parameters with their words, as a derivation grows.
+use Rattle.std.proofs.Common.{◌≡◌, List, sym, ap, subst, ◌∙◌}
+use Rattle.swreq_param.specs.declared.ids.Step.{Step}
+use Rattle.swreq_param.specs.declared.ids.TermId.{TermId}
+use Rattle.swreq_param.specs.Tables.{IsOf, term_at}
+use Rattle.swreq_param.specs.Terms.{Term}
+use Rattle.swreq_word.specs.declared.symbols.Symbol.{Symbol}
+use Rattle.swreq_derivation.specs.declared.derivation.Derivation.{Derivation}
+use Rattle.swreq_derivation.specs.UnderWay.{AddsLines, AreStatedEqual}
+use Rattle.swreq_derivation.proofs.DerivationLemmas.{grows_then}
+use Rattle.swreq_readings.specs.declared.alphabet.Alphabet.{Alphabet}
+use Rattle.swreq_readings.specs.declared.alphabet.Named.{Named}
+use Rattle.swreq_readings.specs.Readable.{AllowsWord, IsGiven, read_word}
+use Rattle.swreq_readings.proofs.ReadingLemmas.{equal_as, equal_still, is_still, term_still, word_still}
+use Rattle.swreq_births.specs.declared.giving.Origin.{Origin}
+use Rattle.swreq_births.specs.Readings.{IsOrigin, IsReadBy}
+use Rattle.swreq_births.proofs.Equations.{asked_now}
+
+pub origin_still : (s u : Derivation) → AddsLines s u → (o : Origin) → IsOrigin s o → IsOrigin u o
+origin_still s u grows o w = record {
+  for_self = is_still s u grows o.for_self w.for_self;
+  owner = asked_now s u grows o.for_self o.owner w.for_self w.owner;
+}
+
+pub side_still : (g : Alphabet) (s u : Derivation) → AddsLines s u → (t v : TermId) (w : List Symbol) → IsOf s.table t → IsReadBy g s t v w
+    → IsReadBy g u t v w
+side_still g s u grows t v w h side =
+    let now = sym (term_still s u grows t h) in record {
+      id = is_still s u grows v side.id;
+      word = subst (λ z. AllowsWord g u z w) now (word_still g s u grows (term_at s.table t) w side.word);
+      equal = equal_as u _ _ _ _ (term_still s u grows v side.id) (ap (λ z. read_word g z w) (sym now))
+          (equal_still g s u grows _ _ side.equal);
+    }
+
+-- A type parameter is read by its word in the next derivation if lines of that derivation allow the word and state the equality.
+pub side_read : (g : Alphabet) (s u : Derivation) → AddsLines s u → (t v : TermId) (x : Term) (w : List Symbol) → IsOf s.table t → IsOf
+    u.table v
+    → term_at u.table v ≡ x → AllowsWord g u (term_at s.table t) w → AreStatedEqual u x (read_word g (term_at s.table t) w) → IsReadBy g u t
+    v w
+side_read g s u grows t v x w h id stands says equal =
+    let now = term_still s u grows t h in record {
+      id = id;
+      word = subst (λ z. AllowsWord g u z w) (sym now) says;
+      equal = equal_as u _ _ _ _ stands (ap (λ z. read_word g z w) now) equal;
+    }
+
+-- A side after lines were added. Its word was read after lines were added for the other side.
+pub record IsOnSide (g : Alphabet) (s u : Derivation) (t v last : TermId) (w : List Symbol) : Type 0 where
+  pub grows : AddsLines s u
+  pub stands : term_at u.table last ≡ read_word g (term_at s.table t) w
+  pub word : AllowsWord g u (term_at s.table t) w
+  pub equal : AreStatedEqual u (term_at u.table v) (term_at u.table last)
+
+pub on_side : (g : Alphabet) (s n u : Derivation) → AddsLines s n → AddsLines n u → (t v last : TermId) (w : List Symbol) → IsOf s.table t
+    → IsReadBy g s t v w → term_at u.table last ≡ read_word g (term_at n.table t) w → IsOnSide g s u t v last w
+on_side g s n u first second t v last w h side e =
+    let grows = grows_then s n u first second in
+    let stands = e ∙ ap (λ z. read_word g z w) (term_still s n first t h) in record {
+      grows = grows;
+      stands = stands;
+      word = word_still g s u grows (term_at s.table t) w side.word;
+      equal = equal_as u _ _ _ _ (term_still s u grows v side.id) stands (equal_still g s u grows _ _ side.equal);
+    }
+
+-- A part of a word, read once lines state that an associated type is declared after it.
+module _ (g : Alphabet) (s0 s s1 s2 : Derivation) (g0 : AddsLines s0 s) (g1 : AddsLines s s1) (t : TermId) (h : IsOf s0.table t)
+    (last : TermId)
+    (part w : List Symbol) (e : part ≡ w) where
+  pub part_read : term_at s2.table last ≡ read_word g (term_at s1.table t) part → term_at s2.table last ≡ read_word g (term_at s0.table t) w
+  part_read stands = stands ∙ ap (read_word g (term_at s1.table t)) e ∙ ap (λ z. read_word g z w)
+      (term_still s0 s1 (grows_then s0 s s1 g0 g1) t h)
+
+  pub part_given : (x : Step) (n : Named) → IsGiven g s1 (read_word g (term_at s.table t) part) x n
+      → IsGiven g s1 (read_word g (term_at s0.table t) w) x n
+  part_given x n = subst (λ z. IsGiven g s1 z x n)
+      (ap (read_word g (term_at s.table t)) e ∙ ap (λ z. read_word g z w) (term_still s0 s g0 t h))

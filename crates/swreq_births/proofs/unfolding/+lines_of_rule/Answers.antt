@@ -1,0 +1,340 @@
+-- The answers. The long ones stand in the folder `Answers`, in one file for each subject.
+pub mod Paths
+pub mod Rules
+pub mod Requirements
+pub mod TypeParameters
+use Rattle.std.proofs.Common.{◌≤◌, IfSome, length, refl, sym, subst, arith}
+use Rattle.swreq_param.specs.Tables.{term_at}
+use Rattle.swreq_pair.specs.Pairs.{IsPair}
+use Rattle.swreq_derivation.proofs.DerivationLemmas.{grows_then}
+use Rattle.swreq_readings.specs.Readable.{IsGiven, read_word}
+use Rattle.swreq_readings.proofs.ReadingLemmas.{is_still}
+use Rattle.swreq_births.specs.Systems.{IsWritten, rules_at}
+use Rattle.swreq_births.proofs.Alike.{both_as}
+use Rattle.swreq_births.proofs.Equations.{sides_as}
+use Rattle.swreq_births.proofs.Headed.{pair_here, paired_at, within_first}
+use Rattle.swreq_births.proofs.unfolding.+lines_of_rule.Answers.Paths as paths
+use Rattle.swreq_births.proofs.unfolding.+lines_of_rule.Answers.Rules as rules
+use Rattle.swreq_births.proofs.unfolding.+lines_of_rule.Answers.Requirements as requirements
+use Rattle.swreq_births.proofs.unfolding.+lines_of_rule.Answers.TypeParameters as type_parameters
+use Rattle.swreq_births.proofs.unfolding.+lines_of_rule.Goals as goal
+
+-- ---- along a path
+
+pub walk_along-rule_of-rule-requires : goal.walk_along-rule_of-rule-requires
+walk_along-rule_of-rule-requires = paths.walk_along-rule_of-rule-requires
+
+pub walk_along-lines_of_rule-requires : goal.walk_along-lines_of_rule-requires
+walk_along-lines_of_rule-requires = paths.walk_along-lines_of_rule-requires
+
+pub walk_along-take_step-requires : goal.walk_along-take_step-requires
+walk_along-take_step-requires = paths.walk_along-take_step-requires
+
+pub walk_along-join-requires : goal.walk_along-join-requires
+walk_along-join-requires = paths.walk_along-join-requires
+
+pub walk_along-loop-k-preserved : goal.walk_along-loop-k-preserved
+walk_along-loop-k-preserved = paths.walk_along-loop-k-preserved
+
+-- ---- a rule by its two ends
+
+pub settle-walk_along-requires : goal.settle-walk_along-requires
+settle-walk_along-requires = rules.settle-walk_along-requires
+
+pub settle-walk_along-requires-2 : goal.settle-walk_along-requires-2
+settle-walk_along-requires-2 = rules.settle-walk_along-requires-2
+
+pub settle-close-requires : goal.settle-close-requires
+settle-close-requires = rules.settle-close-requires
+
+pub settle-returns : goal.settle-returns
+settle-returns = rules.settle-returns
+
+-- ---- a rule by its birth
+
+pub lines_of_rule-lines_of_rule-requires : goal.lines_of_rule-lines_of_rule-requires
+lines_of_rule-lines_of_rule-requires = rules.lines_of_rule-lines_of_rule-requires
+
+pub lines_of_rule-returns-then-said-clause-both : goal.lines_of_rule-returns-then-said-clause-both
+lines_of_rule-returns-then-said-clause-both t c =
+    both_as c.args.history.now.alphabet c.are_read_equal.new.derivation _ _ _ _ _ _ refl c.symbols.ensures c.symbols-2.ensures
+    (c.in_ok-said.ensures.told.0 c.if-said.true)
+
+pub lines_of_rule-from_equation-requires : goal.lines_of_rule-from_equation-requires
+lines_of_rule-from_equation-requires = rules.lines_of_rule-from_equation-requires
+
+pub lines_of_rule-from_pair-requires : goal.lines_of_rule-from_pair-requires
+lines_of_rule-from_pair-requires = rules.lines_of_rule-from_pair-requires
+
+pub lines_of_rule-returns-in_ok-from_equation-in-Given : goal.lines_of_rule-returns-in_ok-from_equation-in-Given
+lines_of_rule-returns-in_ok-from_equation-in-Given = rules.lines_of_rule-returns-in_ok-from_equation-in-Given
+
+pub lines_of_rule-returns-in_ok-from_pair-in-Pair : goal.lines_of_rule-returns-in_ok-from_pair-in-Pair
+lines_of_rule-returns-in_ok-from_pair-in-Pair = rules.lines_of_rule-returns-in_ok-from_pair-in-Pair
+
+-- ---- a rule born of an equation
+
+pub from_equation-equation_at-equation-requires : goal.from_equation-equation_at-equation-requires
+from_equation-equation_at-equation-requires = rules.from_equation-equation_at-equation-requires
+
+pub from_equation-give_equation-requires : goal.from_equation-give_equation-requires
+from_equation-give_equation-requires = rules.from_equation-give_equation-requires
+
+pub from_equation-settle-requires : goal.from_equation-settle-requires
+from_equation-settle-requires = rules.from_equation-settle-requires
+
+pub from_equation-returns : goal.from_equation-returns
+from_equation-returns = rules.from_equation-returns
+
+-- ---- a rule born of a pair
+
+pub from_pair-rule_of-first-requires : goal.from_pair-rule_of-first-requires
+from_pair-rule_of-first-requires = rules.from_pair-rule_of-first-requires
+
+pub from_pair-rule_of-second-requires : goal.from_pair-rule_of-second-requires
+from_pair-rule_of-second-requires = rules.from_pair-rule_of-second-requires
+
+pub from_pair-lines_of_rule-requires : goal.from_pair-lines_of_rule-requires
+from_pair-lines_of_rule-requires = rules.from_pair-lines_of_rule-requires
+
+pub from_pair-first_symbols-part-requires : goal.from_pair-first_symbols-part-requires
+from_pair-first_symbols-part-requires t c =
+    let place = c.args.place in
+    let p = pair_here c.requires.rule place c.requires.born c.all_rules-rules.ensures c.rule_of-first.ensures c.rule_of-second.ensures in
+    subst (λ z. place.at ≤ length z) (sym c.symbols.ensures) (within_first c.requires.rule p)
+
+pub from_pair-lines_of_rule-requires-2 : goal.from_pair-lines_of_rule-requires-2
+from_pair-lines_of_rule-requires-2 = rules.from_pair-lines_of_rule-requires-2
+
+pub from_pair-read_pair-requires : goal.from_pair-read_pair-requires
+from_pair-read_pair-requires = rules.from_pair-read_pair-requires
+
+pub from_pair-pair_sides-requires : goal.from_pair-pair_sides-requires
+from_pair-pair_sides-requires t c =
+    let p = paired_at c.requires.rule c.args.place c.requires.born in
+    (p.left, p.right, subst (λ z. IsPair z c.args.place p.left p.right) (sym c.all_rules-rules.ensures) p.pair)
+
+pub from_pair-settle-requires : goal.from_pair-settle-requires
+from_pair-settle-requires = rules.from_pair-settle-requires
+
+pub from_pair-returns : goal.from_pair-returns
+from_pair-returns = rules.from_pair-returns
+
+-- ---- equations
+
+pub give_equation-returns-in-Doubled-clause-both : goal.give_equation-returns-in-Doubled-clause-both
+give_equation-returns-in-Doubled-clause-both = requirements.give_equation-returns-in-Doubled-clause-both
+
+pub give_equation-give_member-requires : goal.give_equation-give_member-requires
+give_equation-give_member-requires = requirements.give_equation-give_member-requires
+
+pub give_equation-returns-in_ok-give_member-in-Named-clause-both : goal.give_equation-returns-in_ok-give_member-in-Named-clause-both
+give_equation-returns-in_ok-give_member-in-Named-clause-both = requirements.give_equation-returns-in_ok-give_member-in-Named-clause-both
+
+pub give_equation-give_required-requires : goal.give_equation-give_required-requires
+give_equation-give_required-requires = requirements.give_equation-give_required-requires
+
+pub give_equation-returns-in_ok-give_required-in-Required-clause-both
+    : goal.give_equation-returns-in_ok-give_required-in-Required-clause-both
+give_equation-returns-in_ok-give_required-in-Required-clause-both t c =
+    both_as c.args.history.now.alphabet c.give_required.new.derivation _ _ _ _ _ _ refl c.symbols.ensures c.symbols-in-Required.ensures
+    c.in_ok-give_required-in-Required.ensures.both
+
+pub give_equation-returns-in_ok-give_required-in-Required-clause-derives
+    : goal.give_equation-returns-in_ok-give_required-in-Required-clause-derives
+give_equation-returns-in_ok-give_required-in-Required-clause-derives t c b f d =
+    let there = c.requires.equation.there in
+    c.in_ok-give_required-in-Required.ensures.derives b f (subst (IsWritten b) c.in-Required.is
+    (f.written c.args.system there.0 c.args.equation.now c.requires.equation.system.within there.1)) d
+
+-- ---- requirements
+
+pub give_required-read_type-requires : goal.give_required-read_type-requires
+give_required-read_type-requires t c =
+    let shown = sides_as c.args.history.now.alphabet c.args.scope.owner (rules_at c.args.history.now c.args.scope.system) _ _
+    c.args.words.from.now c.args.words.to.now c.in-Conf.is c.requires.shown in
+    (omega (arith, c.decreases), (c.requires.system, (c.requires.derivation, (c.requires.for_self, (c.requires.owner, shown.0)))))
+
+pub give_required-read_type-requires-in-Layout : goal.give_required-read_type-requires-in-Layout
+give_required-read_type-requires-in-Layout t c =
+    let shown = sides_as c.args.history.now.alphabet c.args.scope.owner (rules_at c.args.history.now c.args.scope.system) _ _
+    c.args.words.from.now c.args.words.to.now c.in-Layout.is c.requires.shown in
+    (omega (arith, c.decreases), (c.requires.system, (c.requires.derivation, (c.requires.for_self, (c.requires.owner, shown.0)))))
+
+pub give_required-read_type-requires-in-Same : goal.give_required-read_type-requires-in-Same
+give_required-read_type-requires-in-Same t c =
+    let shown = sides_as c.args.history.now.alphabet c.args.scope.owner (rules_at c.args.history.now c.args.scope.system) _ _
+    c.args.words.from.now c.args.words.to.now c.in-Same.is c.requires.shown in
+    (omega (arith, c.decreases), (c.requires.system, (c.requires.derivation, (c.requires.for_self, (c.requires.owner, shown.0)))))
+
+pub give_required-read_type-requires-in-Same-2 : goal.give_required-read_type-requires-in-Same-2
+give_required-read_type-requires-in-Same-2 = requirements.give_required-read_type-requires-in-Same-2
+
+pub give_required-give_conf-requires : goal.give_required-give_conf-requires
+give_required-give_conf-requires = requirements.give_required-give_conf-requires
+
+pub give_required-returns-in_ok-give_conf-in-Conf : goal.give_required-returns-in_ok-give_conf-in-Conf
+give_required-returns-in_ok-give_conf-in-Conf = requirements.give_required-returns-in_ok-give_conf-in-Conf
+
+pub give_required-give_layout-requires : goal.give_required-give_layout-requires
+give_required-give_layout-requires = requirements.give_required-give_layout-requires
+
+pub give_required-returns-in_ok-give_layout-in-Layout : goal.give_required-returns-in_ok-give_layout-in-Layout
+give_required-returns-in_ok-give_layout-in-Layout = requirements.give_required-returns-in_ok-give_layout-in-Layout
+
+pub give_required-give_same-requires : goal.give_required-give_same-requires
+give_required-give_same-requires = requirements.give_required-give_same-requires
+
+pub give_required-returns-in_ok-give_same-in-Same : goal.give_required-returns-in_ok-give_same-in-Same
+give_required-returns-in_ok-give_same-in-Same = requirements.give_required-returns-in_ok-give_same-in-Same
+
+-- ---- type parameters
+
+pub read_type-loop-k-init : goal.read_type-loop-k-init
+read_type-loop-k-init = type_parameters.read_type-loop-k-init
+
+pub read_type-first_symbols-part-requires : goal.read_type-first_symbols-part-requires
+read_type-first_symbols-part-requires = type_parameters.read_type-first_symbols-part-requires
+
+pub read_type-declare-requires : goal.read_type-declare-requires
+read_type-declare-requires = type_parameters.read_type-declare-requires
+
+pub read_type-read_word-requires-clause-subject : goal.read_type-read_word-requires-clause-subject
+read_type-read_word-requires-clause-subject t c =
+    let s0 = c.args.derivation.now in
+    let s1 = c.declare.new.derivation in
+    is_still s0 s1 (grows_then s0 c.loop-k.derivation s1 c.loop-k.invariant.grows c.in_ok-named.ensures.grows) c.args.scope.for_self
+    c.requires.for_self
+
+pub read_type-equal_member-requires : goal.read_type-equal_member-requires
+read_type-equal_member-requires = type_parameters.read_type-equal_member-requires
+
+pub read_type-loop-k-preserved : goal.read_type-loop-k-preserved
+read_type-loop-k-preserved = type_parameters.read_type-loop-k-preserved
+
+pub read_type-returns : goal.read_type-returns
+read_type-returns = type_parameters.read_type-returns
+
+-- ---- steps of type parameters
+
+pub declare-shown_step-requires : goal.declare-shown_step-requires
+declare-shown_step-requires = type_parameters.declare-shown_step-requires
+
+pub declare-walk_along-requires : goal.declare-walk_along-requires
+declare-walk_along-requires = type_parameters.declare-walk_along-requires
+
+pub declare-returns-in-Some-clause-given : goal.declare-returns-in-Some-clause-given
+declare-returns-in-Some-clause-given t c =
+    let g = c.args.history.now.alphabet in
+    let s1 = c.known_step.new.derivation in
+    let last = term_at c.read_word.new.derivation.table c.in_ok-last.last in
+    subst (λ z. IsGiven g s1 z c.args.step c.in-Some.named) c.in_ok-last.ensures.stands
+    (subst (λ o. IfSome o (IsGiven g s1 last c.args.step)) c.in-Some.is c.in_ok-named.ensures.given)
+
+pub declare-returns-in-Some-clause-grows : goal.declare-returns-in-Some-clause-grows
+declare-returns-in-Some-clause-grows t c = grows_then _ _ _ c.in_ok-last.ensures.grows c.in_ok-named.ensures.grows
+
+pub declare-returns-in_ok-walk_along-in-None : goal.declare-returns-in_ok-walk_along-in-None
+declare-returns-in_ok-walk_along-in-None = type_parameters.declare-returns-in_ok-walk_along-in-None
+
+-- ---- where memory runs out
+
+pub walk_along-returns-in_err-v-clause-grows : goal.walk_along-returns-in_err-v-clause-grows
+walk_along-returns-in_err-v-clause-grows t c = grows_then _ _ _ c.loop-k.invariant.grows c.in_err-v.ensures.grows
+
+pub walk_along-returns-in_err-lines_of_rule-clause-grows : goal.walk_along-returns-in_err-lines_of_rule-clause-grows
+walk_along-returns-in_err-lines_of_rule-clause-grows t c =
+    grows_then _ _ _ (grows_then _ _ _ c.loop-k.invariant.grows c.in_ok-v.ensures.grows) c.in_err-lines_of_rule.ensures.grows
+
+pub walk_along-returns-in_err-take_step-clause-grows : goal.walk_along-returns-in_err-take_step-clause-grows
+walk_along-returns-in_err-take_step-clause-grows t c =
+    grows_then _ _ _ (grows_then _ _ _ (grows_then _ _ _ c.loop-k.invariant.grows c.in_ok-v.ensures.grows)
+    c.in_ok-lines_of_rule.ensures.grows) c.in_err-take_step.ensures.grows
+
+pub walk_along-returns-in_err-next-clause-grows : goal.walk_along-returns-in_err-next-clause-grows
+walk_along-returns-in_err-next-clause-grows t c =
+    grows_then _ _ _ (grows_then _ _ _ (grows_then _ _ _ c.loop-k.invariant.grows c.in_ok-v.ensures.grows)
+    c.in_ok-lines_of_rule.ensures.grows) c.in_ok-take_step.ensures.grows
+
+pub walk_along-returns-in_err-join-clause-grows : goal.walk_along-returns-in_err-join-clause-grows
+walk_along-returns-in_err-join-clause-grows t c =
+    grows_then _ _ _ (grows_then _ _ _ (grows_then _ _ _ (grows_then _ _ _ c.loop-k.invariant.grows c.in_ok-v.ensures.grows)
+    c.in_ok-lines_of_rule.ensures.grows) c.in_ok-take_step.ensures.grows) c.in_err-join.ensures.grows
+
+pub settle-returns-in_err-last-clause-grows : goal.settle-returns-in_err-last-clause-grows
+settle-returns-in_err-last-clause-grows t c = grows_then _ _ _ c.in_ok-first.ensures.grows c.in_err-last.ensures.grows
+
+pub settle-returns-in_err-close-clause-grows : goal.settle-returns-in_err-close-clause-grows
+settle-returns-in_err-close-clause-grows t c =
+    grows_then _ _ _ (grows_then _ _ _ c.in_ok-first.ensures.grows c.in_ok-last.ensures.grows) c.in_err-close.ensures.grows
+
+pub lines_of_rule-returns-in_err-from_equation-in-Given-clause-grows : goal.lines_of_rule-returns-in_err-from_equation-in-Given-clause-grows
+lines_of_rule-returns-in_err-from_equation-in-Given-clause-grows t c =
+    grows_then _ _ _ c.in_ok-said.ensures.grows c.in_err-from_equation-in-Given.ensures.grows
+
+pub lines_of_rule-returns-in_err-from_pair-in-Pair-clause-grows : goal.lines_of_rule-returns-in_err-from_pair-in-Pair-clause-grows
+lines_of_rule-returns-in_err-from_pair-in-Pair-clause-grows t c =
+    grows_then _ _ _ c.in_ok-said.ensures.grows c.in_err-from_pair-in-Pair.ensures.grows
+
+pub from_equation-returns-in_err-settle-clause-grows : goal.from_equation-returns-in_err-settle-clause-grows
+from_equation-returns-in_err-settle-clause-grows t c = grows_then _ _ _ c.in_ok-give_equation.ensures.grows c.in_err-settle.ensures.grows
+
+pub from_pair-returns-in_err-v-clause-grows : goal.from_pair-returns-in_err-v-clause-grows
+from_pair-returns-in_err-v-clause-grows t c = grows_then _ _ _ c.in_ok-lines_of_rule.ensures.grows c.in_err-v.ensures.grows
+
+pub from_pair-returns-in_err-lines_of_rule-2-clause-grows : goal.from_pair-returns-in_err-lines_of_rule-2-clause-grows
+from_pair-returns-in_err-lines_of_rule-2-clause-grows t c =
+    grows_then _ _ _ (grows_then _ _ _ c.in_ok-lines_of_rule.ensures.grows c.in_ok-v.ensures.grows) c.in_err-lines_of_rule-2.ensures.grows
+
+pub from_pair-returns-in_err-read_pair-clause-grows : goal.from_pair-returns-in_err-read_pair-clause-grows
+from_pair-returns-in_err-read_pair-clause-grows t c =
+    grows_then _ _ _ (grows_then _ _ _ (grows_then _ _ _ c.in_ok-lines_of_rule.ensures.grows c.in_ok-v.ensures.grows)
+    c.in_ok-lines_of_rule-2.ensures.grows) c.in_err-read_pair.ensures.grows
+
+pub from_pair-returns-in_err-left-clause-grows : goal.from_pair-returns-in_err-left-clause-grows
+from_pair-returns-in_err-left-clause-grows t c =
+    grows_then _ _ _ (grows_then _ _ _ (grows_then _ _ _ c.in_ok-lines_of_rule.ensures.grows c.in_ok-v.ensures.grows)
+    c.in_ok-lines_of_rule-2.ensures.grows) c.in_ok-read_pair.ensures.grows
+
+pub from_pair-returns-in_err-settle-clause-grows : goal.from_pair-returns-in_err-settle-clause-grows
+from_pair-returns-in_err-settle-clause-grows t c =
+    grows_then _ _ _ (grows_then _ _ _ (grows_then _ _ _ (grows_then _ _ _ c.in_ok-lines_of_rule.ensures.grows c.in_ok-v.ensures.grows)
+    c.in_ok-lines_of_rule-2.ensures.grows) c.in_ok-read_pair.ensures.grows) c.in_err-settle.ensures.grows
+
+pub give_required-returns-in_err-give_conf-in-Conf-clause-grows : goal.give_required-returns-in_err-give_conf-in-Conf-clause-grows
+give_required-returns-in_err-give_conf-in-Conf-clause-grows t c =
+    grows_then _ _ _ c.in_ok-u-in-Conf.ensures.grows c.in_err-give_conf-in-Conf.ensures.grows
+
+pub give_required-returns-in_err-give_layout-in-Layout-clause-grows : goal.give_required-returns-in_err-give_layout-in-Layout-clause-grows
+give_required-returns-in_err-give_layout-in-Layout-clause-grows t c =
+    grows_then _ _ _ c.in_ok-u-in-Layout.ensures.grows c.in_err-give_layout-in-Layout.ensures.grows
+
+pub give_required-returns-in_err-v-in-Same-clause-grows : goal.give_required-returns-in_err-v-in-Same-clause-grows
+give_required-returns-in_err-v-in-Same-clause-grows t c = grows_then _ _ _ c.in_ok-u-in-Same.ensures.grows c.in_err-v-in-Same.ensures.grows
+
+pub give_required-returns-in_err-give_same-in-Same-clause-grows : goal.give_required-returns-in_err-give_same-in-Same-clause-grows
+give_required-returns-in_err-give_same-in-Same-clause-grows t c =
+    grows_then _ _ _ (grows_then _ _ _ c.in_ok-u-in-Same.ensures.grows c.in_ok-v-in-Same.ensures.grows)
+    c.in_err-give_same-in-Same.ensures.grows
+
+pub read_type-returns-in_err-named-clause-grows : goal.read_type-returns-in_err-named-clause-grows
+read_type-returns-in_err-named-clause-grows t c = grows_then _ _ _ c.loop-k.invariant.grows c.in_err-named.ensures.grows
+
+pub read_type-returns-in_err-last-clause-grows : goal.read_type-returns-in_err-last-clause-grows
+read_type-returns-in_err-last-clause-grows t c =
+    grows_then _ _ _ (grows_then _ _ _ c.loop-k.invariant.grows c.in_ok-named.ensures.grows) c.in_err-last.ensures.grows
+
+pub read_type-returns-in_err-at-2-clause-grows : goal.read_type-returns-in_err-at-2-clause-grows
+read_type-returns-in_err-at-2-clause-grows t c =
+    grows_then _ _ _ (grows_then _ _ _ (grows_then _ _ _ c.loop-k.invariant.grows c.in_ok-named.ensures.grows)
+    c.in_ok-last.ensures.grows) c.in_err-at-2.ensures.grows
+
+pub declare-returns-in_err-walk_along-in-None-clause-grows : goal.declare-returns-in_err-walk_along-in-None-clause-grows
+declare-returns-in_err-walk_along-in-None-clause-grows t c =
+    grows_then _ _ _ (grows_then _ _ _ c.in_ok-last.ensures.grows c.in_ok-named.ensures.grows) c.in_err-walk_along-in-None.ensures.grows
+
+pub declare-returns-in_err-named-clause-grows : goal.declare-returns-in_err-named-clause-grows
+declare-returns-in_err-named-clause-grows t c = grows_then _ _ _ c.in_ok-last.ensures.grows c.in_err-named.ensures.grows
+
+pub declare-returns-in_err-shown-in-None-clause-grows : goal.declare-returns-in_err-shown-in-None-clause-grows
+declare-returns-in_err-shown-in-None-clause-grows t c = grows_then _ _ _ c.in_ok-last.ensures.grows c.in_ok-named.ensures.grows

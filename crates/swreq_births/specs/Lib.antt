@@ -1,0 +1,5 @@
+pub mod Heads
+pub mod Members
+pub mod Readings
+pub mod Systems
+pub mod Types

@@ -1,0 +1,34 @@
+-- What lines say of type parameters with their words, and of words with one another.
+use Rattle.std.specs.Prelude.{List}
+use Rattle.swreq_param.specs.declared.ids.TermId.{TermId}
+use Rattle.swreq_param.specs.Tables.{IsOf, term_at}
+use Rattle.swreq_param.specs.Terms.{Term}
+use Rattle.swreq_word.specs.declared.symbols.Symbol.{Symbol}
+use Rattle.swreq_derivation.specs.declared.derivation.Derivation.{Derivation}
+use Rattle.swreq_derivation.specs.UnderWay.{AreStatedEqual}
+use Rattle.swreq_readings.specs.declared.alphabet.Alphabet.{Alphabet}
+use Rattle.swreq_readings.specs.declared.putting.Sides.{Sides}
+use Rattle.swreq_readings.specs.Readable.{AllowsWord, AreReadEqual, read_word}
+use Rattle.swreq_births.specs.declared.giving.Origin.{Origin}
+use Rattle.swreq_births.specs.Heads.{ConformsIfAny}
+
+-- The type parameter after which the requirement is read is of the table. A line states that it conforms to the owner, if there is one.
+pub record IsOrigin (s : Derivation) (o : Origin) : Type 0 where
+  pub for_self : IsOf s.table o.for_self
+  pub owner : ConformsIfAny s (term_at s.table o.for_self) o.owner
+
+-- Lines allow the word after T, and state that the type parameter of the id equals what the word is read as.
+pub record IsReadBy (g : Alphabet) (s : Derivation) (t u : TermId) (w : List Symbol) : Type 0 where
+  pub id : IsOf s.table u
+  pub word : AllowsWord g s (term_at s.table t) w
+  pub equal : AreStatedEqual s (term_at s.table u) (read_word g (term_at s.table t) w)
+
+-- Each of the two words is read alike with the word that it reduces to.
+pub record AreReadEqualToEnds (g : Alphabet) (s : Derivation) (t : Term) (words ends : Sides) : Type 0 where
+  pub first : AreReadEqual g s t words.from.now ends.from.now
+  pub last : AreReadEqual g s t words.to.now ends.to.now
+
+-- Lines allow the word w after T, and the two words u and v are read alike after what w is read as.
+pub record AreReadEqualAfter (g : Alphabet) (s : Derivation) (t : Term) (w u v : List Symbol) : Type 0 where
+  pub before : AllowsWord g s t w
+  pub both : AreReadEqual g s (read_word g t w) u v

@@ -1,0 +1,191 @@
+//! Conformances of members that one written requirement of a protocol gives, without rules.
+ghost use Rattle.std.specs.Prelude.{◌≡◌, ◌<◌, ℕ, false, IfOk, IfSome, IsTrue, None, OnOk, length};
+ghost use Rattle.swreq_param.specs.Tables.{IsOf, term_at};
+ghost use Rattle.swreq_param.specs.Terms.{self};
+ghost use Rattle.swreq_param.specs.Terms.Term.{Member};
+ghost use Rattle.swreq_derive.specs.Derivation.TermRequirement.{Conforms};
+ghost use Rattle.swreq_derive.specs.Derivation.TermStatement.{Requires};
+ghost use Rattle.swreq_derivation.specs.UnderWay.{AddsLines, Assumptions, IsUnderWay, States, StaysDerived};
+ghost use Rattle.swreq_readings.specs.Readable.{IsGiven};
+ghost use Rattle.swreq_births.specs.Members.{AreWritten, IsMemberRequirement, IsWrittenOfMember};
+ghost use Rattle.swreq_births.specs.Systems.{FitsHistory, requirement_by};
+
+use crate::history::{Equation, History, OwnedRequirement, Reason, system_at};
+use std::alloc::AllocError;
+use swreq_derivation::{Derivation, add_assoc_conf, conf_statement, is_stated};
+use swreq_param::{ParamId, ProtoId, Step, TermId};
+use swreq_readings::{Named, declared_at, given_step, is_of_step};
+
+/// A written requirement of a protocol, by its number, counted from 1.
+#[derive(Clone, Copy, Debug)]
+pub(crate) struct Written {
+    pub owner: ProtoId,
+    pub number: u32,
+}
+
+/// Whether the requirement is `[Self.B : P]`, of this member and this protocol.
+fn is_of_member(requirement: &OwnedRequirement, member: Step, protocol: ProtoId) -> bool
+    ensures { IsTrue result → requirement_by requirement.now ≡ Conforms
+        (Member self member) protocol }
+{
+    match requirement {
+        OwnedRequirement::Conf { subject, proto } => {
+            let steps = subject.steps.items();
+            *proto == protocol
+                && subject.head == (ParamId { depth: 0, index: 0 })
+                && steps.len() == 1
+                && steps[0] == member
+        }
+        OwnedRequirement::Layout { .. } | OwnedRequirement::Same { .. } => false,
+    }
+}
+
+/// The requirement `[Self.B : P]` of a protocol, of this member and this protocol, if the reason is one.
+fn written_of_member(reason: &Reason, member: Step, protocol: ProtoId) -> Option<Written>
+    ensures { IfSome result (IsWrittenOfMember reason.now member protocol) }
+{
+    match reason {
+        Reason::Required {
+            owner,
+            number,
+            requirement,
+            ..
+        } => match owner {
+            Some(owner) if is_of_member(requirement, member, protocol) => Some(Written {
+                owner: *owner,
+                number: *number,
+            }),
+            _ => None,
+        },
+        Reason::Doubled { .. } | Reason::Named { .. } => None,
+    }
+}
+
+/// The equations of the last round of the protocols, which uses all their requirements.
+fn protocols_given<'a>(history: &'a History<'_>) -> &'a [Equation]
+    ensures { AreWritten history.now result.now }
+{
+    match history.below.len() {
+        0 => &[],
+        count => system_at(history, count - 1).given.items(),
+    }
+}
+
+/// A written requirement `[Self.B : P]` of this member and this protocol, of a protocol Q such that a line states `[U : Q]`, where U has
+/// the id `base`.
+fn requirement_of_member(
+    history: &History<'_>,
+    derivation: &Derivation,
+    base: TermId,
+    member: Step,
+    protocol: ProtoId,
+) -> Option<Written>
+    requires derivation { IsUnderWay derivation.now }
+    requires base { IsOf derivation.now.table base }
+    ensures says { IfSome result
+        (λ w. States derivation.now
+        (Requires (Conforms (term_at derivation.now.table base) w.owner))) }
+    ensures written { IfSome result (IsMemberRequirement history.now member protocol) }
+{
+    let given = protocols_given(history);
+    for k in 0..given.len() {
+        if let Some(written) = written_of_member(&given[k].reason, member, protocol) {
+            if is_stated(derivation, conf_statement(base, written.owner)) {
+                return Some(written);
+            }
+        }
+    }
+    None
+}
+
+/// States `[U.B : P]` for the id of U.B, if a line states `[U : Q]` for a protocol Q that writes `[Self.B : P]`, and answers whether it
+/// does.
+pub fn conform_by_member(
+    history: &History<'_>,
+    derivation: &mut Derivation,
+    t: TermId,
+    protocol: ProtoId,
+) -> Result<bool, AllocError>
+    requires derivation { IsUnderWay derivation.old }
+    requires t { IsOf derivation.old.table t }
+    ensures says { IfOk result (λ done. IsTrue done
+        → States derivation.new (Requires (Conforms (term_at derivation.old.table t) protocol))) }
+    ensures unchanged { IfOk result (λ done. done ≡ false → derivation.new ≡ derivation.old) }
+    ensures grows { AddsLines derivation.old derivation.new }
+    ensures derives { OnOk result
+        ((b : Assumptions) → FitsHistory history.now b
+        → StaysDerived b derivation.old derivation.new) }
+{
+    let Some((base, member)) = derivation.table.split(t) else {
+        return Ok(false);
+    };
+    match requirement_of_member(history, derivation, base, member, protocol) {
+        Some(written) => {
+            add_assoc_conf(
+                derivation,
+                base,
+                (written.owner, written.number),
+                t,
+                protocol,
+            )?;
+            Ok(true)
+        }
+        None => Ok(false),
+    }
+}
+
+/// The associated type with this rank, if the step names it and one written requirement gives that T conforms to its protocol. Then lines
+/// state this.
+fn written_step(
+    history: &History<'_>,
+    derivation: &mut Derivation,
+    t: TermId,
+    step: Step,
+    k: usize,
+) -> Result<Option<Named>, AllocError>
+    requires derivation { IsUnderWay derivation.old }
+    requires t { IsOf derivation.old.table t }
+    requires k { k < length history.now.alphabet.associated }
+    ensures given { IfOk result (λ o. IfSome o
+        (IsGiven history.now.alphabet derivation.new (term_at derivation.old.table t) step)) }
+    ensures unchanged { IfOk result (λ o. o ≡ None → derivation.new ≡ derivation.old) }
+    ensures grows { AddsLines derivation.old derivation.new }
+    ensures derives { OnOk result
+        ((b : Assumptions) → FitsHistory history.now b
+        → StaysDerived b derivation.old derivation.new) }
+{
+    let named = declared_at(&history.alphabet, k);
+    if is_of_step(step, k, named) && conform_by_member(history, derivation, t, named.proto)? {
+        Ok(Some(named))
+    } else {
+        Ok(None)
+    }
+}
+
+/// An associated type that the step names, such that lines state that T conforms to its protocol: they do already, or by one written
+/// requirement now. None if there is none.
+pub(crate) fn known_step(
+    history: &History<'_>,
+    derivation: &mut Derivation,
+    t: TermId,
+    step: Step,
+) -> Result<Option<Named>, AllocError>
+    requires derivation { IsUnderWay derivation.old }
+    requires t { IsOf derivation.old.table t }
+    ensures given { IfOk result (λ o. IfSome o
+        (IsGiven history.now.alphabet derivation.new (term_at derivation.old.table t) step)) }
+    ensures grows { AddsLines derivation.old derivation.new }
+    ensures derives { OnOk result
+        ((b : Assumptions) → FitsHistory history.now b
+        → StaysDerived b derivation.old derivation.new) }
+{
+    if let Some(named) = given_step(&history.alphabet, derivation, t, step) {
+        return Ok(Some(named));
+    }
+    for k in 0..history.alphabet.associated.items().len() {
+        if let Some(named) = written_step(history, derivation, t, step, k)? {
+            return Ok(Some(named));
+        }
+    }
+    Ok(None)
+}

@@ -1,0 +1,185 @@
+//! If the two sides of each of two rules are read alike, so are the two sides of their pairs.
+ghost use Rattle.std.specs.Prelude.{◌≡◌, ◌++◌, IfOk, OnOk};
+ghost use Rattle.swreq_param.specs.Tables.{IsOf, term_at};
+ghost use Rattle.swreq_rule.specs.Oriented.{IsOriented};
+ghost use Rattle.swreq_pair.specs.Pairs.{HasPair, IsPair};
+ghost use Rattle.swreq_derivation.specs.UnderWay.{AddsLines, IsStillDerived, IsUnderWay};
+ghost use Rattle.swreq_readings.specs.Alphabets.{IsStillDerivedOver};
+ghost use Rattle.swreq_readings.specs.Readable.{AreReadEqual, read_word};
+ghost use Rattle.swreq_births.specs.Readings.{AreReadEqualAfter, AreReadEqualToEnds};
+
+use std::alloc::{AllocError, Global};
+use swreq_derivation::Derivation;
+use swreq_pair::write_sides;
+use swreq_param::TermId;
+use swreq_readings::{Alphabet, Sides, join, put_side, replace, turn};
+use swreq_rule::{Place, Rule};
+use swreq_word::Symbol;
+
+/// What stands before a part of a word, and what stands after it.
+#[derive(Clone, Copy)]
+pub(crate) struct Around<'a> {
+    pub before: &'a [Symbol],
+    pub after: &'a [Symbol],
+}
+
+/// The two words, one after the other.
+fn joined(alloc: Global, first: &[Symbol], second: &[Symbol]) -> Result<Vec<Symbol>, AllocError>
+    ensures { IfOk result (λ v. v.items ≡ first.now ++ second.now) }
+{
+    let mut word = Vec::from_slice(alloc, first)?;
+    word.extend_from_slice(second)?;
+    Ok(word)
+}
+
+/// If two words are each read alike with a third, the two are read alike.
+fn join_at(
+    alphabet: &Alphabet,
+    derivation: &mut Derivation,
+    subject: TermId,
+    via: &[Symbol],
+    from: &[Symbol],
+    to: &[Symbol],
+) -> Result<(), AllocError>
+    requires derivation { IsUnderWay derivation.old }
+    requires subject { IsOf derivation.old.table subject }
+    requires first { AreReadEqual alphabet.now derivation.old
+        (term_at derivation.old.table subject) via.now from.now }
+    requires second { AreReadEqual alphabet.now derivation.old
+        (term_at derivation.old.table subject) via.now to.now }
+    ensures both { OnOk result
+        (AreReadEqual alphabet.now derivation.new
+        (term_at derivation.old.table subject) from.now to.now) }
+    ensures grows { AddsLines derivation.old derivation.new }
+    ensures derives { OnOk result (IsStillDerived derivation.old derivation.new) }
+{
+    turn(alphabet, derivation, subject, via, from)?;
+    join(alphabet, derivation, subject, from, via, to)?;
+    Ok(())
+}
+
+/// If one left side stands in the other, the two sides of the pair are read alike. They are `reduct`, which the rule of the longer left
+/// side makes of it, and the longer left side with the right side of the other rule in place of the shorter one.
+pub(crate) fn read_inside(
+    alphabet: &Alphabet,
+    derivation: &mut Derivation,
+    subject: TermId,
+    reduct: &[Symbol],
+    around: Around,
+    sides: Sides,
+) -> Result<(), AllocError>
+    requires derivation { IsUnderWay derivation.old }
+    requires subject { IsOf derivation.old.table subject }
+    requires first { AreReadEqual alphabet.now derivation.old (term_at derivation.old.table subject)
+        (around.before.now ++ (sides.from.now ++ around.after.now)) reduct.now }
+    requires second { AreReadEqual alphabet.now derivation.old
+        (read_word alphabet.now (term_at derivation.old.table subject) around.before.now)
+        sides.from.now sides.to.now }
+    ensures both { OnOk result (AreReadEqual alphabet.now derivation.new
+        (term_at derivation.old.table subject)
+        reduct.now
+        (around.entry.before.now ++ (sides.entry.to.now ++ around.entry.after.now))) }
+    ensures grows { AddsLines derivation.old derivation.new }
+    ensures derives { OnOk result (IsStillDerivedOver alphabet.now derivation.old derivation.new) }
+{
+    replace(
+        alphabet,
+        derivation,
+        subject,
+        around.before,
+        sides,
+        around.after,
+    )?;
+    let from = joined(derivation.alloc, sides.from, around.after)?;
+    let to = joined(derivation.alloc, sides.to, around.after)?;
+    let w = joined(derivation.alloc, around.before, &from)?;
+    let v = joined(derivation.alloc, around.before, &to)?;
+    join_at(alphabet, derivation, subject, &w, reduct, &v)?;
+    Ok(())
+}
+
+/// If two words are read alike, and each of them is read alike with the word that it reduces to, then the two sides of a rule are read
+/// alike if they are those two words.
+pub(crate) fn close(
+    alphabet: &Alphabet,
+    derivation: &mut Derivation,
+    subject: TermId,
+    words: Sides,
+    ends: Sides,
+    rule: &Rule,
+) -> Result<(), AllocError>
+    requires derivation { IsUnderWay derivation.old }
+    requires subject { IsOf derivation.old.table subject }
+    requires words { AreReadEqual alphabet.now derivation.old
+        (term_at derivation.old.table subject) words.from.now words.to.now }
+    requires ends { AreReadEqualToEnds alphabet.now derivation.old
+        (term_at derivation.old.table subject) words ends }
+    requires oriented { IsOriented rule.now ends.from.now ends.to.now }
+    ensures both { OnOk result
+        (AreReadEqual alphabet.now derivation.new
+        (term_at derivation.old.table subject) rule.now.left rule.now.right) }
+    ensures grows { AddsLines derivation.old derivation.new }
+    ensures derives { OnOk result (IsStillDerived derivation.old derivation.new) }
+{
+    join_at(
+        alphabet, derivation, subject, words.from, ends.from, words.to,
+    )?;
+    join(alphabet, derivation, subject, ends.from, words.to, ends.to)?;
+    turn(alphabet, derivation, subject, ends.from, ends.to)?;
+    Ok(())
+}
+
+/// If one left side ends as the other begins, the two sides of the pair are read alike. In the word that they make, the first one ends
+/// where `after` begins, and the second one begins where `before` ends.
+pub(crate) fn read_across(
+    alphabet: &Alphabet,
+    derivation: &mut Derivation,
+    subject: TermId,
+    first: Sides,
+    second: Sides,
+    around: Around,
+) -> Result<(), AllocError>
+    requires derivation { IsUnderWay derivation.old }
+    requires subject { IsOf derivation.old.table subject }
+    requires first { AreReadEqual alphabet.now derivation.old
+        (term_at derivation.old.table subject) first.from.now first.to.now }
+    requires second { AreReadEqualAfter alphabet.now derivation.old
+        (term_at derivation.old.table subject) around.before.now second.from.now second.to.now }
+    requires word { first.from.now ++ around.after.now ≡ around.before.now ++ second.from.now }
+    ensures both { OnOk result (AreReadEqual alphabet.now derivation.new
+        (term_at derivation.old.table subject)
+        (first.entry.to.now ++ around.entry.after.now)
+        (around.entry.before.now ++ second.entry.to.now)) }
+    ensures grows { AddsLines derivation.old derivation.new }
+    ensures derives { OnOk result (IsStillDerivedOver alphabet.now derivation.old derivation.new) }
+{
+    put_side(
+        alphabet,
+        derivation,
+        subject,
+        first.from,
+        first.to,
+        around.after,
+    )?;
+    let w = joined(derivation.alloc, first.from, around.after)?;
+    let u = joined(derivation.alloc, first.to, around.after)?;
+    let v = joined(derivation.alloc, around.before, second.to)?;
+    replace(alphabet, derivation, subject, around.before, second, &[])?;
+    join_at(alphabet, derivation, subject, &w, &u, &v)?;
+    Ok(())
+}
+
+/// The two sides of the pair at this place.
+pub(crate) fn pair_sides(
+    alloc: Global,
+    rules: &[Rule],
+    place: Place,
+) -> Result<(Vec<Symbol>, Vec<Symbol>), AllocError>
+    requires { HasPair rules.now place }
+    ensures { IfOk result (λ r. IsPair rules.now place r.0.items r.1.items) }
+{
+    let mut left: Vec<Symbol> = Vec::new(alloc);
+    let mut right: Vec<Symbol> = Vec::new(alloc);
+    write_sides(rules, place, &mut left, &mut right)?;
+    Ok((left, right))
+}

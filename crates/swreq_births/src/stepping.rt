@@ -1,0 +1,98 @@
+//! Steps by a rule whose two sides are read alike.
+ghost use Rattle.std.specs.Prelude.{◌≡◌, ◌-◌, ◌<◌, ◌≤◌, OnOk, List, ◌++◌, Some, length, slice_get};
+ghost use Rattle.swreq_param.specs.Tables.{IsOf, term_at};
+ghost use Rattle.swreq_word.specs.declared.symbols.Symbol.{Symbol as SymbolView};
+ghost use Rattle.swreq_rule.specs.Steps.{RuleAt};
+ghost use Rattle.swreq_path.specs.Paths.{put_side, replaced_side, StepLeads};
+ghost use Rattle.swreq_derivation.specs.UnderWay.{AddsLines, IsUnderWay};
+ghost use Rattle.swreq_readings.specs.Alphabets.{IsStillDerivedOver};
+ghost use Rattle.swreq_readings.specs.Readable.{AllowsWord, AreReadEqual, read_word};
+
+use crate::history::RulePlace;
+use std::alloc::AllocError;
+use swreq_derivation::Derivation;
+use swreq_param::TermId;
+use swreq_path::{Path, RewriteStep};
+use swreq_readings::{Alphabet, Sides, replace, replace_back};
+use swreq_rule::Rule;
+
+/// The place of the rule with this number, counted from 1, in the same system.
+pub(crate) fn before(at: RulePlace, number: u32) -> RulePlace
+    requires { 0 < number }
+    ensures { result ≡ record { system = at.system; rule = number - 1 } }
+{
+    RulePlace {
+        system: at.system,
+        rule: number as usize - 1,
+    }
+}
+
+/// The rule with this number, counted from 1.
+pub(crate) fn rule_of(rules: &[Rule], number: u32) -> &Rule
+    requires above { 0 < number }
+    requires within { number ≤ length rules.now }
+    ensures { RuleAt rules.now number result.now }
+{
+    &rules[number as usize - 1]
+}
+
+/// A step of a path.
+pub(crate) fn step_of(path: &Path, place: usize) -> &RewriteStep
+    requires { place < length path.now.steps }
+    ensures { slice_get path.now.steps place ≡ Some result.now }
+{
+    &path.steps.items()[place]
+}
+
+/// A step puts one side of a rule in place of the other. If the sides are read alike there, the words before and after the step are read
+/// alike.
+pub(crate) fn take_step(
+    alphabet: &Alphabet,
+    derivation: &mut Derivation,
+    subject: TermId,
+    rule: &Rule,
+    step: &RewriteStep,
+) -> Result<(), AllocError>
+    requires derivation { IsUnderWay derivation.old }
+    requires subject { IsOf derivation.old.table subject }
+    requires both { AreReadEqual alphabet.now derivation.old
+        (read_word alphabet.now (term_at derivation.old.table subject) step.now.before)
+        rule.now.left rule.now.right }
+    requires word { AllowsWord alphabet.now derivation.old (term_at derivation.old.table subject)
+        (step.now.before ++ (replaced_side step.now.forward rule.now ++ step.now.after)) }
+    ensures both { OnOk result (AreReadEqual alphabet.now derivation.new
+        (term_at derivation.old.table subject)
+        (step.now.before ++ (replaced_side step.now.forward rule.now ++ step.now.after))
+        (step.now.before ++ (put_side step.now.forward rule.now ++ step.now.after))) }
+    ensures grows { AddsLines derivation.old derivation.new }
+    ensures derives { OnOk result (IsStillDerivedOver alphabet.now derivation.old derivation.new) }
+{
+    let left = rule.left.symbols();
+    let right = rule.right.symbols();
+    if step.forward {
+        replace(
+            alphabet,
+            derivation,
+            subject,
+            step.before.symbols(),
+            Sides {
+                from: left,
+                to: right,
+            },
+            step.after.symbols(),
+        )?;
+        return Ok(());
+    }
+    replace_back(
+        alphabet,
+        derivation,
+        subject,
+        step.before.symbols(),
+        Sides {
+            from: right,
+            to: left,
+        },
+        step.after.symbols(),
+    )?;
+    Ok(())
+}

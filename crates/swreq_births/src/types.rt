@@ -1,0 +1,164 @@
+//! The steps of type parameters, if rules show them.
+ghost use Rattle.std.specs.Prelude.{◌≡◌, ◌++◌, ◌<◌, ◌-◌, ◌^◌, [], ◌∷◌, IfOk, IfSome, MatchOption, OnOk, Some, length, slice_get};
+ghost use Rattle.swreq_param.specs.Tables.{IsOf, term_at};
+ghost use Rattle.swreq_param.specs.Terms.Term.{Generic};
+ghost use Rattle.swreq_word.specs.declared.symbols.Symbol.TheVariants.{Proto};
+ghost use Rattle.swreq_path.specs.Paths.{HasTarget};
+ghost use Rattle.swreq_complete.specs.Alike.{ReduceAlike};
+ghost use Rattle.swreq_derivation.specs.UnderWay.{AddsLines, IsStillDerived, IsUnderWay};
+ghost use Rattle.swreq_readings.specs.declared.alphabet.Named.{Named as NamedView};
+ghost use Rattle.swreq_births.specs.Types.{HasPath, IsShownAt, IsStepShown, placed};
+
+use std::alloc::{AllocError, Global};
+use swreq_derivation::{Derivation, param};
+use swreq_param::{ParamId, ProtoId, Step, TermId, TypeParam};
+use swreq_path::{Path, compose, invert, path_of};
+use swreq_readings::{Alphabet, Named, declared_at, is_of_step};
+use swreq_rule::Rule;
+use swreq_word::{Symbol, are_same};
+
+/// How type parameters are read: by the rules of a system, as type parameters of requirements of the owner, or of the list if there is no
+/// owner, and after the type parameter `for_self`, which stands for `Self` of the owner.
+#[derive(Clone, Copy, Debug)]
+pub struct ReadingPlace {
+    pub system: usize,
+    pub owner: Option<ProtoId>,
+    pub for_self: TermId,
+}
+
+/// An associated type, with the path from a word to the word with the symbol of its protocol after it.
+#[derive(Drop)]
+pub(crate) struct Shown {
+    pub named: Named,
+    pub path: Path,
+}
+
+/// A step of a type parameter.
+pub(crate) fn step_at(param: &TypeParam, place: usize) -> Step
+    requires { place < length param.now.steps }
+    ensures { slice_get param.now.steps place ≡ Some result }
+{
+    param.steps.items()[place]
+}
+
+/// The id of the type parameter that the reading begins with: `for_self` if there is an owner, and
+/// otherwise the generic parameter.
+pub(crate) fn start(
+    derivation: &mut Derivation,
+    scope: ReadingPlace,
+    head: ParamId,
+) -> Result<TermId, AllocError>
+    requires derivation { IsUnderWay derivation.old }
+    requires for_self { IsOf derivation.old.table scope.for_self }
+    ensures is_of { IfOk result (IsOf derivation.new.table) }
+    ensures stands { IfOk result (λ u. term_at derivation.new.table u
+        ≡ placed scope.owner (term_at derivation.old.table scope.for_self) (Generic head)) }
+    ensures grows { AddsLines derivation.old derivation.new }
+    ensures derives { OnOk result (IsStillDerived derivation.old derivation.new) }
+{
+    match scope.owner {
+        Some(_) => Ok(scope.for_self),
+        None => {
+            let id = param(derivation, head)?;
+            Ok(id)
+        }
+    }
+}
+
+/// The path from the first word to the second one by way of the word that both reduce to, or None if and only if they reduce to two words.
+pub(crate) fn path_between(
+    alloc: Global,
+    rules: &[Rule],
+    from: &[Symbol],
+    to: &[Symbol],
+) -> Result<Option<Path>, AllocError>
+    requires { length rules.now < 2 ^ 32 - 1 }
+    ensures start { IfOk result (λ o. IfSome o (λ p. p.start ≡ from.now)) }
+    ensures target { IfOk result (λ o.
+        MatchOption o (ReduceAlike rules.now from.now to.now → ⊥)
+        (λ p. HasTarget rules.now p to.now)) }
+    ensures alike { IfOk result (λ o. IfSome o (λ p. ReduceAlike rules.now from.now to.now)) }
+{
+    let forth = path_of(alloc, rules, from)?;
+    let back = path_of(alloc, rules, to)?;
+    let first = forth.target(alloc, rules)?;
+    let last = back.target(alloc, rules)?;
+    if are_same(first.symbols(), last.symbols()) {
+        let inverse = invert(alloc, rules, &back)?;
+        let path = compose(alloc, rules, &forth, &inverse)?;
+        return Ok(Some(path));
+    }
+    Ok(None)
+}
+
+/// The word with a protocol symbol after it.
+fn with_proto(alloc: Global, word: &[Symbol], protocol: ProtoId) -> Result<Vec<Symbol>, AllocError>
+    ensures { IfOk result (λ v. v.items ≡ word.now ++ Proto protocol.rank ∷ []) }
+{
+    let mut longer = Vec::from_slice(alloc, word)?;
+    longer.push(Symbol::Proto(protocol.rank))?;
+    Ok(longer)
+}
+
+/// The path that shows the associated type after the word, or None if the rules do not show it there.
+fn shown_behind(
+    alloc: Global,
+    rules: &[Rule],
+    word: &[Symbol],
+    named: Named,
+) -> Result<Option<Path>, AllocError>
+    requires { length rules.now < 2 ^ 32 - 1 }
+    ensures start { IfOk result (λ o. IfSome o (λ p. p.start ≡ word.now)) }
+    ensures target { IfOk result (λ o. MatchOption o
+        (ReduceAlike rules.now word.now (word.now ++ Proto named.proto.rank ∷ []) → ⊥)
+        (λ p. HasTarget rules.now p (word.now ++ Proto named.proto.rank ∷ []))) }
+{
+    let longer = with_proto(alloc, word, named.proto)?;
+    path_between(alloc, rules, word, &longer)
+}
+
+/// The associated type with this rank, with its path, or None if the step does not name it or the rules do not show it after the word.
+fn shown_at(
+    alloc: Global,
+    alphabet: &Alphabet,
+    rules: &[Rule],
+    word: &[Symbol],
+    step: Step,
+    rank: usize,
+) -> Result<Option<Shown>, AllocError>
+    requires few { length rules.now < 2 ^ 32 - 1 }
+    requires rank { rank < length alphabet.now.associated }
+    ensures { IfOk result (λ o. MatchOption o
+        ((n : NamedView) → IsShownAt alphabet.now rules.now word.now step rank n → ⊥)
+        (HasPath alphabet.now rules.now word.now step)) }
+{
+    let named = declared_at(alphabet, rank);
+    if !is_of_step(step, rank, named) {
+        return Ok(None);
+    }
+    match shown_behind(alloc, rules, word, named)? {
+        Some(path) => Ok(Some(Shown { named, path })),
+        None => Ok(None),
+    }
+}
+
+/// An associated type that the step names and that the rules show after the word, with its path.
+pub(crate) fn shown_step(
+    alloc: Global,
+    alphabet: &Alphabet,
+    rules: &[Rule],
+    word: &[Symbol],
+    step: Step,
+) -> Result<Shown, AllocError>
+    requires few { length rules.now < 2 ^ 32 - 1 }
+    requires shown { IsStepShown alphabet.now rules.now word.now step }
+    ensures { IfOk result (HasPath alphabet.now rules.now word.now step) }
+{
+    for k in 0..alphabet.associated.items().len() {
+        match shown_at(alloc, alphabet, rules, word, step, k)? {
+            Some(shown) => return Ok(shown),
+            None => {}
+        }
+    }
+    unreachable!()
+}

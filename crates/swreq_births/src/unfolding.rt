@@ -1,0 +1,444 @@
+//! The two sides of a rule, read after a type parameter.
+ghost use Rattle.std.specs.Prelude.{◌≡◌, OnOk, IfOk, List, take};
+ghost use Rattle.swreq_param.specs.Owned.{as_term};
+ghost use Rattle.swreq_param.specs.Tables.{IsOf, term_at};
+ghost use Rattle.swreq_derive.specs.Instances.{HasNumber};
+ghost use Rattle.swreq_word.specs.declared.symbols.Symbol.{Symbol as SymbolView};
+ghost use Rattle.swreq_rule.specs.declared.rules.Birth.TheVariants as births;
+ghost use Rattle.swreq_path.specs.Paths.{HasTarget};
+ghost use Rattle.swreq_derivation.specs.UnderWay.{AddsLines, AreStatedEqual, Assumptions, IsUnderWay, StaysDerived};
+ghost use Rattle.swreq_readings.specs.Readable.{AllowsWord, AreReadEqual, IsGiven, read_word};
+ghost use Rattle.swreq_births.specs.Heads.{ConformsIfAny, IsHeadStated};
+ghost use Rattle.swreq_births.specs.Systems.{FitsHistory, HasEquation, HasRule, HasRules, HasShownSides, HasSystem, IsBornAt, IsShown, IsStillDerivedBy};
+ghost use Rattle.swreq_births.specs.Systems.{ReducesTo, requirement_by, rules_at};
+ghost use Rattle.swreq_births.specs.Types.{IsStepShown, placed, written_by};
+
+use crate::giving::{Origin, give_conf, give_layout, give_member, give_same};
+use crate::history::{
+    Equation, History, OwnedRequirement, Reason, RulePlace, all_of, all_rules, equation_at,
+    rules_before, system_at,
+};
+use crate::members::known_step;
+use crate::pairs::{close, pair_sides};
+use crate::pairs_by_kind::{first_symbols, read_pair};
+use crate::stepping::{before, rule_of, step_of, take_step};
+use crate::types::{ReadingPlace, shown_step, start, step_at};
+use std::alloc::AllocError;
+use swreq_derivation::Derivation;
+use swreq_param::{Step, TermId, TypeParam};
+use swreq_path::{Path, path_of};
+use swreq_readings::{Named, Sides, are_read_equal, equal_member, join, read_word};
+use swreq_rule::{Birth, Place, Rule};
+use swreq_word::{Symbol, Word};
+
+/// If lines allow the first word of a path over the rules before this place, then they allow the last word too, and state that the two are
+/// read as equal type parameters. Answers the last word.
+#[cycle(lines_of_rule)]
+pub(crate) fn walk_along(
+    history: &History,
+    derivation: &mut Derivation,
+    at: RulePlace,
+    subject: TermId,
+    path: &Path,
+) -> Result<Word, AllocError>
+    requires rules { HasRules history.now at }
+    requires derivation { IsUnderWay derivation.old }
+    requires subject { IsOf derivation.old.table subject }
+    requires path { (b : List SymbolView)
+        × HasTarget (take at.rule (rules_at history.now at.system)) path.now b }
+    requires word { AllowsWord history.now.alphabet derivation.old
+        (term_at derivation.old.table subject) path.now.start }
+    ensures target { IfOk result
+        (λ w. HasTarget (take at.rule (rules_at history.now at.system)) path.now w) }
+    ensures both { IfOk result
+        (λ w. AreReadEqual history.now.alphabet derivation.new
+        (term_at derivation.old.table subject) path.now.start w) }
+    ensures grows { AddsLines derivation.old derivation.new }
+    ensures derives { OnOk result (IsStillDerivedBy history.now derivation.old derivation.new) }
+{
+    let rules = rules_before(history, at);
+    let mut word = path.start.clone()?;
+    for k in 0..path.steps.items().len() {
+        let step = step_of(path, k);
+        let rule = rule_of(rules, step.rule);
+        let v = read_word(
+            &history.alphabet,
+            derivation,
+            subject,
+            step.before.symbols(),
+        )?;
+        lines_of_rule(history, derivation, before(at, step.rule), rule, v)?;
+        take_step(&history.alphabet, derivation, subject, rule, step)?;
+        let next = step.target(derivation.alloc, rules)?;
+        join(
+            &history.alphabet,
+            derivation,
+            subject,
+            path.start.symbols(),
+            word.symbols(),
+            next.symbols(),
+        )?;
+        word = next;
+    }
+    Ok(word)
+}
+
+/// If two words are read alike, so are the two sides of the rule that the rules before it reduce them to.
+#[cycle(lines_of_rule)]
+fn settle(
+    history: &History,
+    derivation: &mut Derivation,
+    at: RulePlace,
+    rule: &Rule,
+    subject: TermId,
+    words: Sides,
+) -> Result<(), AllocError>
+    requires rule { HasRule history.now at rule.now }
+    requires derivation { IsUnderWay derivation.old }
+    requires subject { IsOf derivation.old.table subject }
+    requires both { AreReadEqual history.now.alphabet derivation.old
+        (term_at derivation.old.table subject) words.from.now words.to.now }
+    requires reduces { ReducesTo (rules_at history.now at.system) at.rule
+        words.from.now words.to.now rule.now }
+    ensures both { OnOk result (AreReadEqual history.now.alphabet derivation.new
+        (term_at derivation.old.table subject) rule.now.left rule.now.right) }
+    ensures grows { AddsLines derivation.old derivation.new }
+    ensures derives { OnOk result (IsStillDerivedBy history.now derivation.old derivation.new) }
+{
+    let rules = rules_before(history, at);
+    let forth = path_of(derivation.alloc, rules, words.from)?;
+    let first = walk_along(history, derivation, at, subject, &forth)?;
+    let back = path_of(derivation.alloc, rules, words.to)?;
+    let last = walk_along(history, derivation, at, subject, &back)?;
+    close(
+        &history.alphabet,
+        derivation,
+        subject,
+        words,
+        Sides {
+            from: first.symbols(),
+            to: last.symbols(),
+        },
+        rule,
+    )?;
+    Ok(())
+}
+
+/// States that the two sides of a rule are read alike after a type parameter, if lines state what the rule asks of it. What lines state
+/// already is not unfolded again.
+#[cycle(lines_of_rule)]
+pub fn lines_of_rule(
+    history: &History,
+    derivation: &mut Derivation,
+    at: RulePlace,
+    rule: &Rule,
+    subject: TermId,
+) -> Result<(), AllocError>
+    requires rule { HasRule history.now at rule.now }
+    requires derivation { IsUnderWay derivation.old }
+    requires subject { IsOf derivation.old.table subject }
+    requires head { IsHeadStated history.now.alphabet derivation.old
+        (term_at derivation.old.table subject) rule.now.left }
+    ensures both { OnOk result (AreReadEqual history.now.alphabet derivation.new
+        (term_at derivation.old.table subject) rule.now.left rule.now.right) }
+    ensures grows { AddsLines derivation.old derivation.new }
+    ensures derives { OnOk result (IsStillDerivedBy history.now derivation.old derivation.new) }
+{
+    let system = system_at(history, at.system);
+    if at.rule < system.base {
+        let lower = RulePlace {
+            system: system.below,
+            rule: at.rule,
+        };
+        lines_of_rule(history, derivation, lower, rule, subject)?;
+        return Ok(());
+    }
+    let said = are_read_equal(
+        &history.alphabet,
+        derivation,
+        subject,
+        rule.left.symbols(),
+        rule.right.symbols(),
+    )?;
+    if said {
+        return Ok(());
+    }
+    match rule.birth {
+        Birth::Given(n) => {
+            from_equation(history, derivation, at, rule, n, subject)?;
+            Ok(())
+        }
+        Birth::Pair(i, j, place) => {
+            from_pair(
+                history,
+                derivation,
+                at,
+                rule,
+                Place { i, j, at: place },
+                subject,
+            )?;
+            Ok(())
+        }
+    }
+}
+
+/// The same of a rule that is born of an equation.
+#[cycle(lines_of_rule)]
+fn from_equation(
+    history: &History,
+    derivation: &mut Derivation,
+    at: RulePlace,
+    rule: &Rule,
+    number: usize,
+    subject: TermId,
+) -> Result<(), AllocError>
+    requires rule { HasRule history.now at rule.now }
+    requires born { IsBornAt history.now at rule.now (births.Given number) }
+    requires derivation { IsUnderWay derivation.old }
+    requires subject { IsOf derivation.old.table subject }
+    requires head { IsHeadStated history.now.alphabet derivation.old
+        (term_at derivation.old.table subject) rule.now.left }
+    ensures both { OnOk result (AreReadEqual history.now.alphabet derivation.new
+        (term_at derivation.old.table subject) rule.now.left rule.now.right) }
+    ensures grows { AddsLines derivation.old derivation.new }
+    ensures derives { OnOk result (IsStillDerivedBy history.now derivation.old derivation.new) }
+{
+    let equation = equation_at(history, at.system, number);
+    give_equation(history, derivation, at.system, equation, subject)?;
+    settle(
+        history,
+        derivation,
+        at,
+        rule,
+        subject,
+        Sides {
+            from: equation.left.symbols(),
+            to: equation.right.symbols(),
+        },
+    )?;
+    Ok(())
+}
+
+/// The same of a rule that is born of a pair.
+#[cycle(lines_of_rule)]
+fn from_pair(
+    history: &History,
+    derivation: &mut Derivation,
+    at: RulePlace,
+    rule: &Rule,
+    place: Place,
+    subject: TermId,
+) -> Result<(), AllocError>
+    requires rule { HasRule history.now at rule.now }
+    requires born { IsBornAt history.now at rule.now (births.Pair place.i place.j place.at) }
+    requires derivation { IsUnderWay derivation.old }
+    requires subject { IsOf derivation.old.table subject }
+    requires head { IsHeadStated history.now.alphabet derivation.old
+        (term_at derivation.old.table subject) rule.now.left }
+    ensures both { OnOk result (AreReadEqual history.now.alphabet derivation.new
+        (term_at derivation.old.table subject) rule.now.left rule.now.right) }
+    ensures grows { AddsLines derivation.old derivation.new }
+    ensures derives { OnOk result (IsStillDerivedBy history.now derivation.old derivation.new) }
+{
+    let rules = all_rules(history, at.system);
+    let first = rule_of(rules, place.i);
+    let second = rule_of(rules, place.j);
+    lines_of_rule(history, derivation, before(at, place.i), first, subject)?;
+    let part = first_symbols(first.left.symbols(), place.at);
+    let v = read_word(&history.alphabet, derivation, subject, part)?;
+    lines_of_rule(history, derivation, before(at, place.j), second, v)?;
+    read_pair(
+        &history.alphabet,
+        derivation,
+        subject,
+        first,
+        second,
+        place.at,
+    )?;
+    let (left, right) = pair_sides(derivation.alloc, rules, place)?;
+    let words = Sides {
+        from: &left,
+        to: &right,
+    };
+    settle(history, derivation, at, rule, subject, words)?;
+    Ok(())
+}
+
+/// States that the two sides of an equation of a round are read alike after a type parameter, if lines state what its left side asks of it.
+#[cycle(lines_of_rule)]
+fn give_equation(
+    history: &History,
+    derivation: &mut Derivation,
+    system: usize,
+    equation: &Equation,
+    subject: TermId,
+) -> Result<(), AllocError>
+    requires equation { HasEquation history.now system equation.now }
+    requires derivation { IsUnderWay derivation.old }
+    requires subject { IsOf derivation.old.table subject }
+    requires head { IsHeadStated history.now.alphabet derivation.old
+        (term_at derivation.old.table subject) equation.now.left }
+    ensures both { OnOk result (AreReadEqual history.now.alphabet derivation.new
+        (term_at derivation.old.table subject) equation.now.left equation.now.right) }
+    ensures grows { AddsLines derivation.old derivation.new }
+    ensures derives { OnOk result (IsStillDerivedBy history.now derivation.old derivation.new) }
+{
+    match &equation.reason {
+        Reason::Doubled { .. } => Ok(()),
+        Reason::Named { rank } => {
+            give_member(&history.alphabet, derivation, subject, *rank)?;
+            Ok(())
+        }
+        Reason::Required {
+            owner,
+            number,
+            requirement,
+            shown,
+        } => {
+            let scope = ReadingPlace {
+                system: *shown,
+                owner: *owner,
+                for_self: subject,
+            };
+            let words = Sides {
+                from: equation.left.symbols(),
+                to: equation.right.symbols(),
+            };
+            give_required(history, derivation, scope, *number, requirement, words)?;
+            Ok(())
+        }
+    }
+}
+
+/// The same of the equation of the requirement with this number. The rules of the system in `scope` show its type parameters valid.
+#[cycle(lines_of_rule)]
+fn give_required(
+    history: &History,
+    derivation: &mut Derivation,
+    scope: ReadingPlace,
+    number: u32,
+    requirement: &OwnedRequirement,
+    words: Sides,
+) -> Result<(), AllocError>
+    requires system { HasSystem history.now scope.system }
+    requires derivation { IsUnderWay derivation.old }
+    requires for_self { IsOf derivation.old.table scope.for_self }
+    requires owner { ConformsIfAny derivation.old
+        (term_at derivation.old.table scope.for_self) scope.owner }
+    requires shown { HasShownSides history.now.alphabet scope.owner
+        (rules_at history.now scope.system) requirement.now
+        words.from.now words.to.now }
+    ensures both { OnOk result
+        (AreReadEqual history.now.alphabet derivation.new
+        (term_at derivation.old.table scope.for_self)
+        words.entry.from.now
+        words.entry.to.now) }
+    ensures grows { AddsLines derivation.old derivation.new }
+    ensures derives { OnOk result
+        ((b : Assumptions) → FitsHistory history.now b → HasNumber number (written_by b scope.owner)
+        (requirement_by requirement.now)
+        → StaysDerived b derivation.old derivation.new) }
+{
+    let origin = Origin {
+        owner: scope.owner,
+        number,
+        for_self: scope.for_self,
+    };
+    match requirement {
+        OwnedRequirement::Conf { subject, proto } => {
+            let u = read_type(history, derivation, scope, subject, words.to)?;
+            give_conf(&history.alphabet, derivation, origin, u, *proto, words.to)?;
+            Ok(())
+        }
+        OwnedRequirement::Layout { subject } => {
+            let u = read_type(history, derivation, scope, subject, words.to)?;
+            give_layout(&history.alphabet, derivation, origin, u, words.to)?;
+            Ok(())
+        }
+        OwnedRequirement::Same { left, right } => {
+            let u = read_type(history, derivation, scope, left, words.from)?;
+            let v = read_type(history, derivation, scope, right, words.to)?;
+            give_same(&history.alphabet, derivation, origin, (u, v), words)?;
+            Ok(())
+        }
+    }
+}
+
+/// States what the word of a type parameter is read as. The rules of the system show the type parameter valid. Lines allow the word, and
+/// state that the type parameter, with T for `Self`, equals what the word is read as. Answers the id of the type parameter with T for
+/// `Self`.
+#[cycle(lines_of_rule)]
+pub fn read_type(
+    history: &History,
+    derivation: &mut Derivation,
+    scope: ReadingPlace,
+    param: &TypeParam,
+    word: &[Symbol],
+) -> Result<TermId, AllocError>
+    requires system { HasSystem history.now scope.system }
+    requires derivation { IsUnderWay derivation.old }
+    requires for_self { IsOf derivation.old.table scope.for_self }
+    requires owner { ConformsIfAny derivation.old
+        (term_at derivation.old.table scope.for_self) scope.owner }
+    requires shown { IsShown history.now.alphabet scope.owner (rules_at history.now scope.system)
+        (as_term param.now) word.now }
+    ensures is_of { IfOk result (IsOf derivation.new.table) }
+    ensures stands { IfOk result
+        (λ u. term_at derivation.new.table u ≡ placed scope.owner
+        (term_at derivation.old.table scope.for_self)
+        (as_term param.now)) }
+    ensures word { OnOk result
+        (AllowsWord history.now.alphabet derivation.new
+        (term_at derivation.old.table scope.for_self) word.now) }
+    ensures equal { OnOk result (AreStatedEqual derivation.new
+        (placed scope.owner (term_at derivation.old.table scope.for_self) (as_term param.now))
+        (read_word history.now.alphabet (term_at derivation.old.table scope.for_self) word.now)) }
+    ensures grows { AddsLines derivation.old derivation.new }
+    ensures derives { OnOk result (IsStillDerivedBy history.now derivation.old derivation.new) }
+{
+    let mut at = start(derivation, scope, param.head)?;
+    for k in 0..param.steps.items().len() {
+        let step = step_at(param, k);
+        let part = first_symbols(word, k + 1);
+        let named = declare(history, derivation, scope, part, step)?;
+        let last = read_word(&history.alphabet, derivation, scope.for_self, part)?;
+        at = equal_member(&history.alphabet, derivation, at, last, step, named)?;
+    }
+    Ok(at)
+}
+
+/// Answers an associated type that the step names, and states that what the word is read as conforms to its protocol. The rules of the
+/// system show that there is one.
+#[cycle(lines_of_rule)]
+pub fn declare(
+    history: &History,
+    derivation: &mut Derivation,
+    scope: ReadingPlace,
+    word: &[Symbol],
+    step: Step,
+) -> Result<Named, AllocError>
+    requires system { HasSystem history.now scope.system }
+    requires derivation { IsUnderWay derivation.old }
+    requires for_self { IsOf derivation.old.table scope.for_self }
+    requires word { AllowsWord history.now.alphabet derivation.old
+        (term_at derivation.old.table scope.for_self) word.now }
+    requires shown { IsStepShown history.now.alphabet
+        (rules_at history.now scope.system) word.now step }
+    ensures given { IfOk result (IsGiven history.now.alphabet derivation.new
+        (read_word history.now.alphabet
+        (term_at derivation.old.table scope.for_self) word.now) step) }
+    ensures grows { AddsLines derivation.old derivation.new }
+    ensures derives { OnOk result (IsStillDerivedBy history.now derivation.old derivation.new) }
+{
+    let last = read_word(&history.alphabet, derivation, scope.for_self, word)?;
+    match known_step(history, derivation, last, step)? {
+        Some(named) => Ok(named),
+        None => {
+            let rules = all_rules(history, scope.system);
+            let shown = shown_step(derivation.alloc, &history.alphabet, rules, word, step)?;
+            let at = all_of(scope.system, rules);
+            walk_along(history, derivation, at, scope.for_self, &shown.path)?;
+            Ok(shown.named)
+        }
+    }
+}

@@ -1,0 +1,31 @@
+use Rattle.std.proofs.Common.{subst, refl}
+use Rattle.swreq_word.specs.Relations.{IsIrreducible}
+use Rattle.swreq_rule.specs.Reduction.{FirstRedex}
+use Rattle.swreq_rule.specs.Steps.{Step}
+use Rattle.swreq_rule.proofs.Resuming.{steps_past}
+use Rattle.swreq_complete.proofs.Indexing.{rule_of_redex}
+use Rattle.swreq_complete.proofs.reducing.reduce_once.Goals as goal
+
+pub take_step_of-requires : goal.take_step_of-requires
+take_step_of-requires c =
+    let rules = c.args.rules.now in let w = c.args.word.now.items in let redex = c.in-Some.redex in
+    let first = subst (λ u. FirstRedex rules u redex.at redex.number) c.deref.ensures.value c.in-Some.ensures in
+    record {
+      rules = rules;
+      number = redex.number;
+      is_rule = rule_of_redex rules w redex.at redex.number c.rule.result.now first c.rule.ensures;
+      redex = first;
+    }
+
+pub returns-in-None-clause-step : goal.returns-in-None-clause-step
+returns-in-None-clause-step c = (refl, subst (IsIrreducible (Step c.args.rules.now)) c.deref.ensures.value c.in-None.ensures)
+
+pub returns-in-Some-clause-step : goal.returns-in-Some-clause-step
+returns-in-Some-clause-step c =
+    let rules = c.args.rules.now in let w = c.args.word.now.items in let redex = c.in-Some.redex in
+    let first = subst (λ u. FirstRedex rules u redex.at redex.number) c.deref.ensures.value c.in-Some.ensures in
+    rw c.saturating_sub.ensures
+    (steps_past rules w c.take_step_of.new.w.items redex.at redex.number c.args.longest first
+    (c.take_step_of.ensures.step rules redex.number
+    (rule_of_redex rules w redex.at redex.number c.rule.result.now first c.rule.ensures) first)
+    c.requires.no_left_longer)

@@ -1,0 +1,4 @@
+pub mod DerivationLemmas
+pub mod KeptLines
+pub mod KeyLemmas
+pub mod SetMarks

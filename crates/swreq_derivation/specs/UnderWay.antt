@@ -1,0 +1,79 @@
+-- What the lines of a derivation state over type parameters, and how a derivation grows.
+use Rattle.std.specs.Prelude.{◌≡◌, ◌⊎◌, ℕ, List, Some, map, slice_get}
+use Rattle.swreq_param.specs.declared.ids.ParamId.{ParamId}
+use Rattle.swreq_param.specs.declared.ids.Step.{Step}
+use Rattle.swreq_param.specs.declared.ids.TermId.{TermId}
+use Rattle.swreq_param.specs.Terms.{Term}
+use Rattle.swreq_param.specs.Terms.Term.{Member}
+use Rattle.swreq_param.specs.Tables.{IsOf, Extends, term_at}
+use Rattle.swreq_derive.specs.declared.lines.Line.{Line}
+use Rattle.swreq_derive.specs.declared.requirements.Requirement.TheVariants.{Conf, Layout, Same}
+use Rattle.swreq_derive.specs.declared.requirements.Statement.{Statement}
+use Rattle.swreq_derive.specs.declared.requirements.Statement.TheVariants.{Valid, Holds}
+use Rattle.swreq_derive.specs.Derivation.{TermFacts, TermRequirement, TermStatement}
+use Rattle.swreq_derive.specs.Derivation.TermRequirement.{Equals}
+use Rattle.swreq_derive.specs.Derivation.TermStatement.{Requires}
+use Rattle.swreq_derive.specs.Facts.{statement_of}
+use Rattle.swreq_derive.specs.Instances.{HasNumber, IsDerivation}
+use Rattle.swreq_derive.specs.Lines.{line_of, stated_by}
+use Rattle.swreq_derivation.specs.declared.derivation.Derivation.{Derivation}
+
+-- What lines are derived from: the facts of a text, and a list of requirements with its generic parameters.
+pub record Assumptions : Type 0 where
+  pub facts : TermFacts
+  pub params : List ParamId
+  pub written : List TermRequirement
+
+-- The ids in the statement are of the table.
+abbrev pub AreIdsIn : List Term → Statement → Type 0
+AreIdsIn terms (Valid t) = IsOf terms t
+AreIdsIn terms (Holds (Conf t p)) = IsOf terms t
+AreIdsIn terms (Holds (Layout t)) = IsOf terms t
+AreIdsIn terms (Holds (Same t u)) = IsOf terms t × IsOf terms u
+
+-- The ids in what the lines state are of the table, and `stated` has what the lines state, in order.
+pub record IsUnderWay (s : Derivation) : Type 0 where
+  pub ids : (k : ℕ) (l : Line) → slice_get s.lines.items k ≡ Some l → AreIdsIn s.table l.statement
+  pub stated : s.stated ≡ stated_by s.lines.items
+
+-- what the lines state, in order
+abbrev pub statements_in : Derivation → List TermStatement
+statements_in s = map (statement_of s.table) (stated_by s.lines.items)
+
+-- A line states it.
+abbrev pub States : Derivation → TermStatement → Type 0
+States s st = (n : ℕ) × HasNumber n (statements_in s) st
+
+-- A line states it, and its ids are of the table.
+abbrev pub IsPremise : Derivation → Statement → Type 0
+IsPremise s st = AreIdsIn s.table st × States s (statement_of s.table st)
+
+-- The lines are a derivation from the assumptions.
+abbrev pub IsDerivedFrom : Assumptions → Derivation → Type 0
+IsDerivedFrom b s = IsDerivation b.facts b.params b.written (map (line_of s.table) s.lines.items)
+
+-- The two type parameters are identical, or a line states that they are equal.
+abbrev pub AreStatedEqual : Derivation → Term → Term → Type 0
+AreStatedEqual s t u = (t ≡ u) ⊎ States s (Requires (Equals t u))
+
+-- The two ids are of the table, and their type parameters are identical, or a line states that they are equal.
+abbrev pub AreEqualIds : Derivation → TermId → TermId → Type 0
+AreEqualIds s t u = IsOf s.table t × IsOf s.table u × AreStatedEqual s (term_at s.table t) (term_at s.table u)
+
+-- It is an id of the table, and stands for the member of T by the step.
+abbrev pub IsIdOfMember : Derivation → TermId → Step → TermId → Type 0
+IsIdOfMember s t x v = IsOf s.table v × (term_at s.table v ≡ Member (term_at s.table t) x)
+
+-- Lines and type parameters were added. What was stated is still stated, and each id stands for what it stood for.
+pub record AddsLines (old new : Derivation) : Type 0 where
+  pub extends : Extends old.table new.table
+  pub derivation : IsUnderWay new
+  pub stays : (st : TermStatement) → States old st → States new st
+
+-- If the old lines are a derivation from the assumptions, so are the new ones.
+abbrev pub StaysDerived : Assumptions → Derivation → Derivation → Type 0
+StaysDerived b old new = IsDerivedFrom b old → IsDerivedFrom b new
+
+-- Whatever the old lines are a derivation from, the new ones are too.
+abbrev pub IsStillDerived : Derivation → Derivation → Type 0
+IsStillDerived old new = (b : Assumptions) → StaysDerived b old new

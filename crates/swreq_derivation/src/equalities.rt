@@ -1,0 +1,233 @@
+//! Lines by the rules of equality.
+ghost use Rattle.std.specs.Prelude.{◌≡◌, OnOk};
+ghost use Rattle.std.specs.Bool.{Decides};
+ghost use Rattle.swreq_param.specs.Tables.{IsOf, term_at};
+ghost use Rattle.swreq_param.specs.declared.ids.AssocId.{AssocId};
+ghost use Rattle.swreq_param.specs.declared.ids.Step.TheVariants.{Bound, Name};
+ghost use Rattle.swreq_param.specs.Terms.Term.{Member};
+ghost use Rattle.swreq_derive.specs.Derivation.{Declares};
+ghost use Rattle.swreq_derive.specs.Derivation.TermRequirement.{Conforms, IsAnyObject};
+ghost use Rattle.swreq_derive.specs.Derivation.TermStatement.{Requires};
+ghost use Rattle.swreq_derivation.specs.UnderWay.{AddsLines, AreEqualIds, AreStatedEqual, Assumptions, IsIdOfMember, IsStillDerived, IsUnderWay, States, StaysDerived};
+
+use crate::adding::{from_one, from_two};
+use crate::derivation::Derivation;
+use crate::statements::{conf_statement, layout_statement, same_statement};
+use std::alloc::AllocError;
+use swreq_derive::DerivRule;
+use swreq_param::{NameId, ProtoId, TermId};
+
+/// Whether the two ids of the table stand for the same type parameter.
+pub fn are_one(derivation: &Derivation, left: TermId, right: TermId) -> bool
+    requires left { IsOf derivation.now.table left }
+    requires right { IsOf derivation.now.table right }
+    ensures { Decides result (term_at derivation.now.table left
+        ≡ term_at derivation.now.table right) }
+{
+    // If two ids stand for the same type parameter, they are equal.
+    let _count = derivation.table.len();
+    left.place == right.place
+}
+
+/// From `[T == U]`: `[U == T]`.
+pub fn add_symm(derivation: &mut Derivation, left: TermId, right: TermId) -> Result<(), AllocError>
+    requires derivation { IsUnderWay derivation.old }
+    requires left { IsOf derivation.old.table left }
+    requires right { IsOf derivation.old.table right }
+    requires equal { AreStatedEqual derivation.old (term_at derivation.old.table left)
+        (term_at derivation.old.table right) }
+    ensures table { derivation.new.table ≡ derivation.old.table }
+    ensures equal { OnOk result
+        (AreStatedEqual derivation.new (term_at derivation.old.table right)
+        (term_at derivation.old.table left)) }
+    ensures grows { AddsLines derivation.old derivation.new }
+    ensures derives { OnOk result (IsStillDerived derivation.old derivation.new) }
+{
+    if are_one(derivation, left, right) {
+        return Ok(());
+    }
+    from_one(
+        derivation,
+        DerivRule::Symm,
+        same_statement(left, right),
+        same_statement(right, left),
+    )?;
+    Ok(())
+}
+
+/// From `[T == U]` and `[U == V]`: `[T == V]`.
+pub fn add_trans(
+    derivation: &mut Derivation,
+    first: TermId,
+    middle: TermId,
+    last: TermId,
+) -> Result<(), AllocError>
+    requires derivation { IsUnderWay derivation.old }
+    requires first { AreEqualIds derivation.old first middle }
+    requires second { AreEqualIds derivation.old middle last }
+    ensures table { derivation.new.table ≡ derivation.old.table }
+    ensures equal { OnOk result
+        (AreStatedEqual derivation.new (term_at derivation.old.table first)
+        (term_at derivation.old.table last)) }
+    ensures grows { AddsLines derivation.old derivation.new }
+    ensures derives { OnOk result (IsStillDerived derivation.old derivation.new) }
+{
+    if are_one(derivation, first, last) {
+        return Ok(());
+    }
+    if are_one(derivation, first, middle) {
+        return Ok(());
+    }
+    if are_one(derivation, middle, last) {
+        return Ok(());
+    }
+    from_two(
+        derivation,
+        DerivRule::Trans,
+        (same_statement(first, middle), same_statement(middle, last)),
+        same_statement(first, last),
+    )?;
+    Ok(())
+}
+
+/// From `[U : P]` and `[T == U]`: `[T : P]`. `subject` is the id of T, and `other` that of U.
+pub fn add_same_conf(
+    derivation: &mut Derivation,
+    subject: TermId,
+    other: TermId,
+    protocol: ProtoId,
+) -> Result<(), AllocError>
+    requires derivation { IsUnderWay derivation.old }
+    requires subject { IsOf derivation.old.table subject }
+    requires other { IsOf derivation.old.table other }
+    requires conforms { States derivation.old
+        (Requires (Conforms (term_at derivation.old.table other) protocol)) }
+    requires equal { AreStatedEqual derivation.old (term_at derivation.old.table subject)
+        (term_at derivation.old.table other) }
+    ensures table { derivation.new.table ≡ derivation.old.table }
+    ensures conforms { OnOk result
+        (States derivation.new (Requires
+        (Conforms (term_at derivation.old.table subject) protocol))) }
+    ensures grows { AddsLines derivation.old derivation.new }
+    ensures derives { OnOk result (IsStillDerived derivation.old derivation.new) }
+{
+    if are_one(derivation, subject, other) {
+        return Ok(());
+    }
+    from_two(
+        derivation,
+        DerivRule::SameConf { p: protocol },
+        (
+            conf_statement(other, protocol),
+            same_statement(subject, other),
+        ),
+        conf_statement(subject, protocol),
+    )?;
+    Ok(())
+}
+
+/// From `[U : AnyObject]` and `[T == U]`: `[T : AnyObject]`. `subject` is the id of T, and `other` that of U.
+pub fn add_same_layout(
+    derivation: &mut Derivation,
+    subject: TermId,
+    other: TermId,
+) -> Result<(), AllocError>
+    requires derivation { IsUnderWay derivation.old }
+    requires subject { IsOf derivation.old.table subject }
+    requires other { IsOf derivation.old.table other }
+    requires object { States derivation.old
+        (Requires (IsAnyObject (term_at derivation.old.table other))) }
+    requires equal { AreStatedEqual derivation.old (term_at derivation.old.table subject)
+        (term_at derivation.old.table other) }
+    ensures table { derivation.new.table ≡ derivation.old.table }
+    ensures object { OnOk result
+        (States derivation.new (Requires (IsAnyObject (term_at derivation.old.table subject)))) }
+    ensures grows { AddsLines derivation.old derivation.new }
+    ensures derives { OnOk result (IsStillDerived derivation.old derivation.new) }
+{
+    if are_one(derivation, subject, other) {
+        return Ok(());
+    }
+    from_two(
+        derivation,
+        DerivRule::SameLayout,
+        (layout_statement(other), same_statement(subject, other)),
+        layout_statement(subject),
+    )?;
+    Ok(())
+}
+
+/// From `[U : P]` and `[T == U]`, where P declares A: `[T.A == U.A]`.
+///
+/// `members` has the ids of T.A and U.A.
+pub fn add_same_name(
+    derivation: &mut Derivation,
+    left: TermId,
+    right: TermId,
+    of: (ProtoId, NameId),
+    members: (TermId, TermId),
+) -> Result<(), AllocError>
+    requires derivation { IsUnderWay derivation.old }
+    requires conforms { States derivation.old
+        (Requires (Conforms (term_at derivation.old.table right) of.0)) }
+    requires equal { AreEqualIds derivation.old left right }
+    requires first { IsIdOfMember derivation.old left (Name of.1) members.0 }
+    requires second { IsIdOfMember derivation.old right (Name of.1) members.1 }
+    ensures table { derivation.new.table ≡ derivation.old.table }
+    ensures equal { OnOk result
+        (AreStatedEqual derivation.new (term_at derivation.old.table members.0)
+        (term_at derivation.old.table members.1)) }
+    ensures grows { AddsLines derivation.old derivation.new }
+    ensures derives { OnOk result
+        ((b : Assumptions) (d : AssocId) → Declares b.facts of.0 of.1 d
+        → StaysDerived b derivation.old derivation.new) }
+{
+    if are_one(derivation, left, right) {
+        return Ok(());
+    }
+    let (p, a) = of;
+    from_two(
+        derivation,
+        DerivRule::SameName { p, a },
+        (conf_statement(right, p), same_statement(left, right)),
+        same_statement(members.0, members.1),
+    )?;
+    Ok(())
+}
+
+/// From `[T : P]`, where P declares A: `[T.[P]A == T.A]`.
+///
+/// `members` has the ids of `T.[P]A` and T.A.
+pub fn add_assoc_bind(
+    derivation: &mut Derivation,
+    subject: TermId,
+    of: (ProtoId, NameId),
+    members: (TermId, TermId),
+) -> Result<(), AllocError>
+    requires derivation { IsUnderWay derivation.old }
+    requires subject { IsOf derivation.old.table subject }
+    requires first { IsOf derivation.old.table members.0 }
+    requires second { IsOf derivation.old.table members.1 }
+    requires conforms { States derivation.old
+        (Requires (Conforms (term_at derivation.old.table subject) of.0)) }
+    ensures table { derivation.new.table ≡ derivation.old.table }
+    ensures equal { OnOk result
+        (AreStatedEqual derivation.new (term_at derivation.old.table members.0)
+        (term_at derivation.old.table members.1)) }
+    ensures grows { AddsLines derivation.old derivation.new }
+    ensures derives { OnOk result ((b : Assumptions) (d : AssocId) → Declares b.facts of.0 of.1 d
+        → term_at derivation.old.table members.0 ≡ Member
+        (term_at derivation.old.table subject) (Bound d)
+        → term_at derivation.old.table members.1 ≡ Member
+        (term_at derivation.old.table subject) (Name of.1)
+        → StaysDerived b derivation.old derivation.new) }
+{
+    let (p, a) = of;
+    from_one(
+        derivation,
+        DerivRule::AssocBind { p, a },
+        conf_statement(subject, p),
+        same_statement(members.0, members.1),
+    )?;
+    Ok(())
+}

@@ -1,0 +1,201 @@
+//! Lines by the rules that use a written requirement, of a protocol or of the list.
+ghost use Rattle.std.specs.Prelude.{◌≡◌, OnOk};
+ghost use Rattle.swreq_param.specs.Tables.{IsOf, term_at};
+ghost use Rattle.swreq_param.specs.Terms.{Term};
+ghost use Rattle.swreq_derive.specs.Derivation.{for_self};
+ghost use Rattle.swreq_derive.specs.Derivation.TermRequirement.{Conforms, Equals, IsAnyObject};
+ghost use Rattle.swreq_derive.specs.Derivation.TermStatement.{Requires};
+ghost use Rattle.swreq_derive.specs.Instances.{HasNumber};
+ghost use Rattle.swreq_derivation.specs.UnderWay.{AddsLines, AreStatedEqual, Assumptions, IsUnderWay, States, StaysDerived};
+
+use crate::adding::{from_none, from_one};
+use crate::derivation::Derivation;
+use crate::statements::{conf_statement, layout_statement, same_statement};
+use std::alloc::AllocError;
+use swreq_derive::DerivRule;
+use swreq_param::{ProtoId, TermId};
+
+/// From `[T : P]` and the n-th requirement `[U : Q]` of P: `[V : Q]`, where V is U with T for `Self`. `subject` is the id of T,
+/// and `substituted` that of V.
+pub fn add_assoc_conf(
+    derivation: &mut Derivation,
+    subject: TermId,
+    of: (ProtoId, u32),
+    substituted: TermId,
+    protocol: ProtoId,
+) -> Result<(), AllocError>
+    requires derivation { IsUnderWay derivation.old }
+    requires subject { IsOf derivation.old.table subject }
+    requires substituted { IsOf derivation.old.table substituted }
+    requires conforms { States derivation.old
+        (Requires (Conforms (term_at derivation.old.table subject) of.0)) }
+    ensures table { derivation.new.table ≡ derivation.old.table }
+    ensures conforms { OnOk result
+        (States derivation.new (Requires
+        (Conforms (term_at derivation.old.table substituted) protocol))) }
+    ensures grows { AddsLines derivation.old derivation.new }
+    ensures derives { OnOk result
+        ((b : Assumptions) (u : Term) → HasNumber of.1 (b.facts.of_protocol of.0)
+        (Conforms u protocol)
+        → term_at derivation.old.table substituted ≡ for_self
+        (term_at derivation.old.table subject) u
+        → StaysDerived b derivation.old derivation.new) }
+{
+    let (p, n) = of;
+    from_one(
+        derivation,
+        DerivRule::AssocConf { p, n },
+        conf_statement(subject, p),
+        conf_statement(substituted, protocol),
+    )?;
+    Ok(())
+}
+
+/// From `[T : P]` and the n-th requirement `[U : AnyObject]` of P: `[V : AnyObject]`, where V is U with T for `Self`. `subject` is
+/// the id of T, and `substituted` that of V.
+pub fn add_assoc_layout(
+    derivation: &mut Derivation,
+    subject: TermId,
+    of: (ProtoId, u32),
+    substituted: TermId,
+) -> Result<(), AllocError>
+    requires derivation { IsUnderWay derivation.old }
+    requires subject { IsOf derivation.old.table subject }
+    requires substituted { IsOf derivation.old.table substituted }
+    requires conforms { States derivation.old
+        (Requires (Conforms (term_at derivation.old.table subject) of.0)) }
+    ensures table { derivation.new.table ≡ derivation.old.table }
+    ensures object { OnOk result
+        (States derivation.new (Requires
+        (IsAnyObject (term_at derivation.old.table substituted)))) }
+    ensures grows { AddsLines derivation.old derivation.new }
+    ensures derives { OnOk result
+        ((b : Assumptions) (u : Term) → HasNumber of.1 (b.facts.of_protocol of.0) (IsAnyObject u)
+        → term_at derivation.old.table substituted ≡ for_self
+        (term_at derivation.old.table subject) u
+        → StaysDerived b derivation.old derivation.new) }
+{
+    let (p, n) = of;
+    from_one(
+        derivation,
+        DerivRule::AssocLayout { p, n },
+        conf_statement(subject, p),
+        layout_statement(substituted),
+    )?;
+    Ok(())
+}
+
+/// From `[T : P]` and the n-th requirement `[U == V]` of P: this requirement with T for `Self`. `sides` are the ids of U and V with T for
+/// `Self`.
+pub fn add_assoc_same(
+    derivation: &mut Derivation,
+    subject: TermId,
+    of: (ProtoId, u32),
+    sides: (TermId, TermId),
+) -> Result<(), AllocError>
+    requires derivation { IsUnderWay derivation.old }
+    requires subject { IsOf derivation.old.table subject }
+    requires left { IsOf derivation.old.table sides.0 }
+    requires right { IsOf derivation.old.table sides.1 }
+    requires conforms { States derivation.old
+        (Requires (Conforms (term_at derivation.old.table subject) of.0)) }
+    ensures table { derivation.new.table ≡ derivation.old.table }
+    ensures equal { OnOk result
+        (AreStatedEqual derivation.new (term_at derivation.old.table sides.0)
+        (term_at derivation.old.table sides.1)) }
+    ensures grows { AddsLines derivation.old derivation.new }
+    ensures derives { OnOk result
+        ((b : Assumptions) (u v : Term) → HasNumber of.1 (b.facts.of_protocol of.0) (Equals u v)
+        → term_at derivation.old.table sides.0 ≡ for_self (term_at derivation.old.table subject) u
+        → term_at derivation.old.table sides.1 ≡ for_self (term_at derivation.old.table subject) v
+        → StaysDerived b derivation.old derivation.new) }
+{
+    let (p, n) = of;
+    from_one(
+        derivation,
+        DerivRule::AssocSame { p, n },
+        conf_statement(subject, p),
+        same_statement(sides.0, sides.1),
+    )?;
+    Ok(())
+}
+
+/// The n-th written requirement, `[T : P]`.
+pub fn add_written_conf(
+    derivation: &mut Derivation,
+    number: u32,
+    subject: TermId,
+    protocol: ProtoId,
+) -> Result<(), AllocError>
+    requires derivation { IsUnderWay derivation.old }
+    requires subject { IsOf derivation.old.table subject }
+    ensures table { derivation.new.table ≡ derivation.old.table }
+    ensures conforms { OnOk result
+        (States derivation.new (Requires
+        (Conforms (term_at derivation.old.table subject) protocol))) }
+    ensures grows { AddsLines derivation.old derivation.new }
+    ensures derives { OnOk result
+        ((b : Assumptions) → HasNumber number b.written
+        (Conforms (term_at derivation.old.table subject) protocol)
+        → StaysDerived b derivation.old derivation.new) }
+{
+    from_none(
+        derivation,
+        DerivRule::Conf { n: number },
+        conf_statement(subject, protocol),
+    )?;
+    Ok(())
+}
+
+/// The n-th written requirement, `[T : AnyObject]`.
+pub fn add_written_layout(
+    derivation: &mut Derivation,
+    number: u32,
+    subject: TermId,
+) -> Result<(), AllocError>
+    requires derivation { IsUnderWay derivation.old }
+    requires subject { IsOf derivation.old.table subject }
+    ensures table { derivation.new.table ≡ derivation.old.table }
+    ensures object { OnOk result
+        (States derivation.new (Requires (IsAnyObject (term_at derivation.old.table subject)))) }
+    ensures grows { AddsLines derivation.old derivation.new }
+    ensures derives { OnOk result
+        ((b : Assumptions) → HasNumber number b.written
+        (IsAnyObject (term_at derivation.old.table subject))
+        → StaysDerived b derivation.old derivation.new) }
+{
+    from_none(
+        derivation,
+        DerivRule::Layout { n: number },
+        layout_statement(subject),
+    )?;
+    Ok(())
+}
+
+/// The n-th written requirement, `[T == U]`.
+pub fn add_written_same(
+    derivation: &mut Derivation,
+    number: u32,
+    left: TermId,
+    right: TermId,
+) -> Result<(), AllocError>
+    requires derivation { IsUnderWay derivation.old }
+    requires left { IsOf derivation.old.table left }
+    requires right { IsOf derivation.old.table right }
+    ensures table { derivation.new.table ≡ derivation.old.table }
+    ensures equal { OnOk result
+        (AreStatedEqual derivation.new (term_at derivation.old.table left)
+        (term_at derivation.old.table right)) }
+    ensures grows { AddsLines derivation.old derivation.new }
+    ensures derives { OnOk result ((b : Assumptions)
+        → HasNumber number b.written
+        (Equals (term_at derivation.old.table left) (term_at derivation.old.table right))
+        → StaysDerived b derivation.old derivation.new) }
+{
+    from_none(
+        derivation,
+        DerivRule::Same { n: number },
+        same_statement(left, right),
+    )?;
+    Ok(())
+}

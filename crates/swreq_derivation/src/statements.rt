@@ -1,0 +1,44 @@
+//! Statements over ids.
+ghost use Rattle.std.specs.Prelude.{◌≡◌};
+ghost use Rattle.swreq_derive.specs.declared.requirements.Requirement.TheVariants as required;
+ghost use Rattle.swreq_derive.specs.declared.requirements.Statement.TheVariants as stated;
+
+use swreq_derive::{Requirement, Statement};
+use swreq_param::{ProtoId, TermId};
+
+/// T is valid.
+pub fn valid_statement(subject: TermId) -> Statement
+    ensures { result ≡ stated.Valid subject }
+{
+    Statement::Valid { t: subject }
+}
+
+/// `[T : P]`
+pub fn conf_statement(subject: TermId, protocol: ProtoId) -> Statement
+    ensures { result ≡ stated.Holds (required.Conf subject protocol) }
+{
+    Statement::Holds {
+        r: Requirement::Conf {
+            subject,
+            proto: protocol,
+        },
+    }
+}
+
+/// `[T : AnyObject]`
+pub fn layout_statement(subject: TermId) -> Statement
+    ensures { result ≡ stated.Holds (required.Layout subject) }
+{
+    Statement::Holds {
+        r: Requirement::Layout { subject },
+    }
+}
+
+/// `[T == U]`
+pub fn same_statement(left: TermId, right: TermId) -> Statement
+    ensures { result ≡ stated.Holds (required.Same left right) }
+{
+    Statement::Holds {
+        r: Requirement::Same { left, right },
+    }
+}

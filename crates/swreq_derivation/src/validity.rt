@@ -1,0 +1,119 @@
+//! Lines by the rules of validity, and by the rule that a valid type parameter equals itself.
+ghost use Rattle.std.specs.Prelude.{◌≡◌, OnOk, Contains};
+ghost use Rattle.swreq_param.specs.Tables.{IsOf, term_at};
+ghost use Rattle.swreq_param.specs.declared.ids.AssocId.{AssocId};
+ghost use Rattle.swreq_param.specs.declared.ids.ParamId.{ParamId};
+ghost use Rattle.swreq_param.specs.declared.ids.Step.TheVariants.{Bound, Name};
+ghost use Rattle.swreq_param.specs.Terms.Term.{Generic, Member};
+ghost use Rattle.swreq_derive.specs.Derivation.{Declares};
+ghost use Rattle.swreq_derive.specs.Derivation.TermRequirement.{Conforms, Equals};
+ghost use Rattle.swreq_derive.specs.Derivation.TermStatement.{IsValid, Requires};
+ghost use Rattle.swreq_derivation.specs.UnderWay.{AddsLines, Assumptions, IsStillDerived, IsUnderWay, States, StaysDerived};
+
+use crate::adding::{from_none, from_one};
+use crate::derivation::Derivation;
+use crate::statements::{conf_statement, same_statement, valid_statement};
+use std::alloc::AllocError;
+use swreq_derive::DerivRule;
+use swreq_param::{NameId, ProtoId, TermId};
+
+/// A generic parameter of the list is valid.
+pub fn add_generic(derivation: &mut Derivation, subject: TermId) -> Result<(), AllocError>
+    requires derivation { IsUnderWay derivation.old }
+    requires subject { IsOf derivation.old.table subject }
+    ensures table { derivation.new.table ≡ derivation.old.table }
+    ensures valid { OnOk result
+        (States derivation.new (IsValid (term_at derivation.old.table subject))) }
+    ensures grows { AddsLines derivation.old derivation.new }
+    ensures derives { OnOk result
+        ((b : Assumptions) (g : ParamId) → term_at derivation.old.table subject ≡ Generic g
+        → Contains b.params
+        g
+        → StaysDerived b derivation.old derivation.new) }
+{
+    from_none(derivation, DerivRule::Generic, valid_statement(subject))?;
+    Ok(())
+}
+
+/// From `[T : P]`, where P declares A: T.A is valid. `member` is the id of T.A.
+pub fn add_assoc_name(
+    derivation: &mut Derivation,
+    subject: TermId,
+    of: (ProtoId, NameId),
+    member: TermId,
+) -> Result<(), AllocError>
+    requires derivation { IsUnderWay derivation.old }
+    requires subject { IsOf derivation.old.table subject }
+    requires member { IsOf derivation.old.table member }
+    requires conforms { States derivation.old
+        (Requires (Conforms (term_at derivation.old.table subject) of.0)) }
+    ensures table { derivation.new.table ≡ derivation.old.table }
+    ensures valid { OnOk result
+        (States derivation.new (IsValid (term_at derivation.old.table member))) }
+    ensures grows { AddsLines derivation.old derivation.new }
+    ensures derives { OnOk result ((b : Assumptions) (d : AssocId) → Declares b.facts of.0 of.1 d
+        → term_at derivation.old.table member ≡ Member
+        (term_at derivation.old.table subject) (Name of.1)
+        → StaysDerived b derivation.old derivation.new) }
+{
+    let (p, a) = of;
+    from_one(
+        derivation,
+        DerivRule::AssocName { p, a },
+        conf_statement(subject, p),
+        valid_statement(member),
+    )?;
+    Ok(())
+}
+
+/// From `[T : P]`, where P declares A: `T.[P]A` is valid. `member` is the id of `T.[P]A`.
+pub fn add_assoc_decl(
+    derivation: &mut Derivation,
+    subject: TermId,
+    of: (ProtoId, NameId),
+    member: TermId,
+) -> Result<(), AllocError>
+    requires derivation { IsUnderWay derivation.old }
+    requires subject { IsOf derivation.old.table subject }
+    requires member { IsOf derivation.old.table member }
+    requires conforms { States derivation.old
+        (Requires (Conforms (term_at derivation.old.table subject) of.0)) }
+    ensures table { derivation.new.table ≡ derivation.old.table }
+    ensures valid { OnOk result
+        (States derivation.new (IsValid (term_at derivation.old.table member))) }
+    ensures grows { AddsLines derivation.old derivation.new }
+    ensures derives { OnOk result ((b : Assumptions) (d : AssocId) → Declares b.facts of.0 of.1 d
+        → term_at derivation.old.table member ≡ Member
+        (term_at derivation.old.table subject) (Bound d)
+        → StaysDerived b derivation.old derivation.new) }
+{
+    let (p, a) = of;
+    from_one(
+        derivation,
+        DerivRule::AssocDecl { p, a },
+        conf_statement(subject, p),
+        valid_statement(member),
+    )?;
+    Ok(())
+}
+
+/// From a valid T: `[T == T]`.
+pub fn add_reflex(derivation: &mut Derivation, subject: TermId) -> Result<(), AllocError>
+    requires derivation { IsUnderWay derivation.old }
+    requires subject { IsOf derivation.old.table subject }
+    requires valid { States derivation.old (IsValid (term_at derivation.old.table subject)) }
+    ensures table { derivation.new.table ≡ derivation.old.table }
+    ensures equal { OnOk result (States derivation.new
+        (Requires (Equals (term_at derivation.old.table subject)
+        (term_at derivation.old.table subject)))) }
+    ensures grows { AddsLines derivation.old derivation.new }
+    ensures derives { OnOk result (IsStillDerived derivation.old derivation.new) }
+{
+    from_one(
+        derivation,
+        DerivRule::Reflex,
+        valid_statement(subject),
+        same_statement(subject, subject),
+    )?;
+    Ok(())
+}

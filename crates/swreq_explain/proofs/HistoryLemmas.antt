@@ -1,0 +1,460 @@
+-- The history of a machine is a history (`IsHistory`), and fits the facts of its signature.
+use Rattle.std.proofs.Common.{◌≡◌, ◌∙◌, inl, inr, ℕ, suc, ◌+◌, ◌-◌, ◌<◌, ◌≤◌, ◌^◌, List, [], ◌∷◌, ◌++◌, Option, Some, None, ap, ap₂, arith, length, length-append, map, refl, slice_get, subst, sym}
+use Rattle.std.proofs.lemmas.List.{map-append}
+use Rattle.std.proofs.lemmas.Option.{get_or_from_slice_get, same_Some, slice_get-get_or, slice_get_within}
+use Rattle.swreq_orders.proofs.Elements.{get_after, get_cases, get_either, get_left, get_map, in_front, there_is}
+use Rattle.swreq_param.specs.declared.ids.ParamId.{ParamId}
+use Rattle.swreq_param.specs.declared.ids.ProtoId.{ProtoId}
+use Rattle.swreq_param.specs.Owned.{as_term}
+use Rattle.swreq_param.specs.Terms.{Term}
+use Rattle.swreq_word.specs.declared.symbols.Symbol.TheVariants as symbols
+use Rattle.swreq_rule.specs.declared.rules.Rule.{Rule}
+use Rattle.swreq_derive.specs.Derivation.{TermFacts, TermRequirement}
+use Rattle.swreq_derive.specs.Derivation.Source.{Written as WrittenList}
+use Rattle.swreq_derive.specs.Facts.{generic_params, requirement_of}
+use Rattle.swreq_derive.specs.Instances.{HasNumber}
+use Rattle.swreq_complete.specs.Alike.{ReduceAlike}
+use Rattle.swreq_complete.specs.Complete.{IsComplete}
+use Rattle.swreq_complete.specs.Reached.{IsBorn}
+use Rattle.swreq_correspondence.specs.Shown.{ShowsUsable, ShowsValid}
+use Rattle.swreq_correspondence.specs.Symbols.{IsInText, Symbols, Word, left_side, right_side, word_of}
+use Rattle.swreq_lowering.specs.declared.ids.FuncId.{FuncId}
+use Rattle.swreq_rounds.specs.Given.{of_list}
+use Rattle.swreq_rounds.specs.Presents.{AreListRules}
+use Rattle.swreq_rounds.specs.Plan.{AreShownByReduction, Item, Plan, equation_of, given}
+use Rattle.swreq_derivation.specs.UnderWay.{Assumptions}
+use Rattle.swreq_readings.specs.declared.alphabet.Alphabet.{Alphabet}
+use Rattle.swreq_readings.specs.declared.alphabet.Named.{Named}
+use Rattle.swreq_symbols.specs.Meaning.{symbols_of}
+use Rattle.swreq_symbols.specs.Overs.{source_by}
+use Rattle.swreq_births.specs.declared.history.History.{History}
+use Rattle.swreq_births.specs.declared.history.Equation.{Equation}
+use Rattle.swreq_births.specs.declared.history.OwnedRequirement.{OwnedRequirement}
+use Rattle.swreq_births.specs.declared.history.OwnedRequirement.TheVariants.{Conf, Layout, Same}
+use Rattle.swreq_births.specs.declared.history.Reason.{Reason}
+use Rattle.swreq_births.specs.declared.history.Reason.TheVariants.{Doubled, Named as NamedBy, Required}
+use Rattle.swreq_births.specs.declared.history.System.{System}
+use Rattle.swreq_births.specs.Systems.{AreSymbols, FitsHistory, HasShownSides, IsGivenBy, IsHistory, IsShown, IsSystem, IsWritten, given_of, requirement_by, rules_at, source_of, system_at, systems_of}
+use Rattle.swreq_valid.specs.Flags.{chosen}
+use Rattle.swreq_valid.specs.Machines.{MachineView, ProtocolsView, machine_plan, protocols_of}
+use Rattle.swreq_valid.specs.Plans.{bare, listed}
+use Rattle.swreq_valid.specs.Rounds.{RoundView, last_rules}
+use Rattle.swreq_valid.proofs.Flagged.{chosen_map}
+use Rattle.swreq_lowering.specs.Requirements.{PlacedRequirement}
+use Rattle.swreq_symbols.proofs.OfText.{requirements_placed, signature_is}
+use Rattle.swreq_world.specs.ByTable.{signature_by, world_by}
+use Rattle.swreq_world.specs.Closed.{IsClosed}
+use Rattle.swreq_world.specs.FactsAt.{facts_of, written_list}
+use Rattle.swreq_world.specs.Worlds.{IdWorld, SignatureOver, signature_at}
+use Rattle.swreq_explain.specs.declared.numbered.Numbered.{Numbered}
+use Rattle.swreq_explain.specs.Asked.{AreRoundsFor}
+use Rattle.swreq_explain.specs.Histories.{IsHistoryFor, IsHistoryOf, assumptions_of, list_origin, protocols_origin}
+use Rattle.swreq_explain.specs.Numbering.{IsBasicBy, item_by, sides_of, source_in}
+use Rattle.swreq_explain.specs.Rounds.{AreFirstSystems, AreSystemsOf, IsSystemOf, Origin}
+use Rattle.swreq_explain.specs.Uses.{IsShownBy}
+use Rattle.swreq_explain.proofs.AlphabetLemmas.{are_symbols, fits_assumptions, is_inherited}
+use Rattle.swreq_explain.proofs.NumberingLemmas.{equations_at, equations_sides, left_by, numbered_is, numbered_items, protocol_number, protocols_items, right_by, spell_append, written_of}
+use Rattle.swreq_explain.proofs.RoundLemmas.{IsReachedRound, chosen_of, ended_complete, last_ends, last_is, none_complete, reached_at, some_round}
+use Rattle.swreq_explain.proofs.UseLemmas.{shown_before}
+
+-- ---- systems by their places
+
+module _ (m : Symbols) (terms : List Term) (o : Origin) where
+  pub no_systems : AreFirstSystems m terms o 0 []
+  no_systems = record { count_is = refl; each = λ k v e. cc }
+
+  pub systems_more : (n : ℕ) (vs : List System) (v : System) → AreFirstSystems m terms o n vs → IsSystemOf m terms o n v
+      → AreFirstSystems m terms o (n + 1) (vs ++ v ∷ [])
+  systems_more n vs v h is = record {
+    count_is = (let c = h.count_is in let l = length-append vs (v ∷ []) in omega (arith, c, l));
+    each = λ k u e. elim (get_cases vs v k u e) [
+      | inl i ↦ h.each k u i
+      | inr i ↦ subst (λ n. IsSystemOf m terms o n u) (sym (i.0 ∙ h.count_is)) (subst (IsSystemOf m terms o n) (sym i.1) is)
+    ];
+  }
+
+  -- each round has its system, with the round's rules
+  pub system_in : (vs : List System) → AreSystemsOf m terms o vs → (k : ℕ) (round : RoundView) → slice_get o.course.rounds k ≡ Some round
+      → (v : System) × (slice_get vs k ≡ Some v) × (v.rules ≡ round.rules) × (length v.rules < 2 ^ 32 - 1)
+  system_in vs h k round e =
+      let within = slice_get_within o.course.rounds k round e in
+      let (v, at) = there_is vs k (subst (λ n. k < n) (sym h.count_is) within) in
+      let made = h.each k v at in
+      let same : made.round ≡ round = same_Some _ _ (sym made.there ∙ e) in
+      (v, at, made.rules ∙ ap (λ (z : RoundView). z.rules) same, made.few)
+
+  -- a round has fewer than 2^32 - 1 rules
+  pub few_rules : (vs : List System) → AreSystemsOf m terms o vs → (k : ℕ) (round : RoundView) → slice_get o.course.rounds k ≡ Some round
+      → length round.rules < 2 ^ 32 - 1
+  few_rules vs h k round e =
+      let (v, at, rules, few) = system_in vs h k round e in subst (λ (z : List Rule). length z < 2 ^ 32 - 1) rules few
+
+-- ---- the sides of a requirement that rules show
+
+module _ (g : Alphabet) (m : Symbols) (f : TermFacts) (are : AreSymbols g m f) (rules : List Rule) (list : List TermRequirement)
+    (owner : Option ProtoId) where
+  shown_word : (t : Term) (w : Word) → ShowsValid m f (source_of g list owner) (ReduceAlike rules) t
+      → w ≡ word_of m (source_of g list owner) t
+      → IsShown g owner rules t w
+  shown_word t w h e = record { symbols = m; facts = f; list = list; are = are; shown = h; word = e }
+
+  shown_sides : (q : OwnedRequirement) (left right : Word) → left ≡ left_side m (source_of g list owner) (requirement_by q)
+      → right ≡ right_side m (source_of g list owner) (requirement_by q)
+      → ShowsUsable m f (source_of g list owner) (ReduceAlike rules) (requirement_by q) → HasShownSides g owner rules q left right
+  shown_sides (Conf t p) left right l r h = (
+    shown_word (as_term t) right h r,
+    l ∙ spell_append m (source_of g list owner) (as_term t) (symbols.Proto p.rank ∷ []) ∙ ap (λ z. z ++ symbols.Proto p.rank ∷ []) (sym r),
+  )
+  shown_sides (Layout t) left right l r h = (
+    shown_word (as_term t) right h r,
+    l ∙ spell_append m (source_of g list owner) (as_term t) (symbols.Layout ∷ []) ∙ ap (λ z. z ++ symbols.Layout ∷ []) (sym r),
+  )
+  shown_sides (Same t u) left right l r h = (shown_word (as_term t) left h.0 l, shown_word (as_term u) right h.1 r)
+
+  source_same : source_of g list owner ≡ source_in (generic_params g.params) list owner
+  source_same = elim owner [ None ↦ refl | Some p ↦ refl ]
+
+  pub sides_are_shown : (terms : List Term) (x : Numbered) (q : OwnedRequirement) (left right : Word) → x.owner ≡ owner
+      → requirement_by q ≡ requirement_of terms x.requirement
+      → left ≡ left_side m (source_by x.owner) (requirement_of terms x.requirement)
+      → right ≡ right_side m (source_by x.owner) (requirement_of terms x.requirement)
+      → ShowsUsable m f (source_in (generic_params g.params) list x.owner) (ReduceAlike rules) (requirement_of terms x.requirement)
+      → HasShownSides g owner rules q left right
+  sides_are_shown terms x q left right own stands l r h =
+      let params = generic_params g.params in
+      let r_x = requirement_of terms x.requirement in
+      let source : source_in params list x.owner ≡ source_of g list owner = ap (source_in params list) own ∙ sym source_same in
+      shown_sides q left right
+      (l ∙ left_by m params list x.owner r_x ∙ ap₂ (λ s z. left_side m s z) source (sym stands))
+      (r ∙ right_by m params list x.owner r_x ∙ ap₂ (λ s z. right_side m s z) source (sym stands))
+      (subst (λ s. ShowsUsable m f s (ReduceAlike rules) (requirement_by q)) source
+      (subst (ShowsUsable m f (source_in params list x.owner) (ReduceAlike rules)) (sym stands) h))
+
+-- ---- one system
+
+module _ (terms : List Term) (o : Origin) (plan : Plan) (b : History) (list : List TermRequirement) (base : length plan.base ≡ o.base)
+    (basic : plan.basic ≡ o.basic) (all : plan.all ≡ map (item_by terms (generic_params b.alphabet.params) list) o.course.all)
+    (members : o.members ≡ b.alphabet.members) (are : AreSymbols b.alphabet plan.symbols plan.facts) where
+  module _ (k : ℕ) (v : System) (is : IsSystemOf plan.symbols terms o k v) where
+    given_is : given_of v ≡ given plan (chosen plan.all is.round.used)
+    given_is =
+        let h = is.given in
+        let xs = chosen o.course.all is.round.used in
+        let item = item_by terms (generic_params b.alphabet.params) list in
+        ap (map sides_of) h.given_are ∙ map-append sides_of h.basic h.more
+        ∙ ap₂ (λ u w. u ++ w) (h.sides ∙ sym basic)
+        (equations_sides plan.symbols terms o.course k (generic_params b.alphabet.params) list xs h.more h.are_of
+        ∙ ap (map (equation_of plan.symbols))
+        (sym (chosen_map item o.course.all is.round.used) ∙ ap (λ z. chosen z is.round.used) (sym all)))
+
+    born_is : IsReachedRound plan is.round
+        → (j : ℕ) (rule : Rule) → v.base ≤ j → slice_get v.rules j ≡ Some rule → IsBorn v.base (given_of v) v.rules j rule.birth
+    born_is reached j rule above at =
+        let from : v.base ≡ length plan.base = is.base ∙ sym base in
+        let at_round : slice_get is.round.rules j ≡ Some rule = ap (λ (z : List Rule). slice_get z j) (sym is.rules) ∙ at in
+        let h = reached.1.born j rule (subst (λ n. n ≤ j) from above) at_round in
+        subst (λ n. IsBorn n (given_of v) v.rules j rule.birth) (sym from)
+        (subst (λ z. IsBorn (length plan.base) z v.rules j rule.birth) (sym given_is)
+        (subst (λ z. IsBorn (length plan.base) (given plan (chosen plan.all is.round.used)) z j rule.birth) (sym is.rules) h))
+
+    -- the rules of an earlier system show that the requirement of each equation is usable
+    module _ (r : ℕ) (shown : (x : Numbered) (s : ℕ) → IsShownBy o.course k x s
+        → (s < r) × AreShownByReduction plan (rules_at b s) (item_by terms (generic_params b.alphabet.params) list x)) where
+      basic_given : (why : Reason) (left right : Word) → IsBasicBy o.members why left right → IsGivenBy b r why left right
+      basic_given (Doubled p) left right h = h
+      basic_given (NamedBy k) left right (n, at, l, w) = (n, ap (λ (z : List Named). slice_get z k) (sym members) ∙ at, l, w)
+      basic_given (Required owner n q s) left right h = absurd h
+
+      given_by : (j : ℕ) (e : Equation) → slice_get v.given j ≡ Some e → IsGivenBy b r e.reason e.left e.right
+      given_by j e at =
+          let h = is.given in
+          elim (get_either h.basic h.more j e (sym (ap (λ (z : List Equation). slice_get z j) h.given_are) ∙ at)) [
+            | inl i ↦ basic_given e.reason e.left e.right (h.are_basic j e i)
+            | inr i ↦ (let xs = chosen o.course.all is.round.used in
+                let (x, at_x, is_in) = equations_at plan.symbols terms o.course k xs h.more h.are_of i.0 e i.2 in
+                let (s, by, eq) = is_in in
+                let (earlier, usable) = shown x s by in
+                subst (λ why. IsGivenBy b r why e.left e.right) (sym eq.reason.is) (
+                  earlier,
+                  sides_are_shown b.alphabet plan.symbols plan.facts are
+                      (rules_at b s) list x.owner terms x eq.reason.requirement e.left e.right refl
+                      eq.reason.stands eq.left eq.right usable,
+                ))
+          ]
+
+    written_by : (assumptions : Assumptions) → ((i : ℕ) (x : Numbered) (q : OwnedRequirement) (s : ℕ) → slice_get o.course.all i ≡ Some x
+        → requirement_by q ≡ requirement_of terms x.requirement → IsWritten assumptions (Required x.owner x.number q s))
+        → (j : ℕ) (e : Equation) → slice_get v.given j ≡ Some e → IsWritten assumptions e.reason
+    written_by assumptions from j e at =
+        let h = is.given in
+        elim (get_either h.basic h.more j e (sym (ap (λ (z : List Equation). slice_get z j) h.given_are) ∙ at)) [
+          | inl i ↦ basic_written e.reason e.left e.right (h.are_basic j e i)
+          | inr i ↦ (let xs = chosen o.course.all is.round.used in
+              let (x, at_x, is_in) = equations_at plan.symbols terms o.course k xs h.more h.are_of i.0 e i.2 in
+              let (s, by, eq) = is_in in
+              let (place, there) = chosen_of o.course.all is.round.used i.0 x at_x in
+              subst (IsWritten assumptions) (sym eq.reason.is) (from place x eq.reason.requirement s there eq.reason.stands))
+        ]
+      where
+        basic_written : (why : Reason) (left right : Word) → IsBasicBy o.members why left right → IsWritten assumptions why
+        basic_written (Doubled p) left right h = tt
+        basic_written (NamedBy k) left right h = tt
+        basic_written (Required owner n q s) left right h = absurd h
+
+-- ---- the history
+
+module _ (terms : List Term) (w : IdWorld) (fn : FuncId) (p : ProtocolsView) (m : MachineView) (b : History)
+    (is : IsHistoryOf terms w fn p m b)
+    (rounds : AreRoundsFor terms w fn p m) (closed : IsClosed (world_by terms w)) where
+  abbrev f : TermFacts
+  f = facts_of (world_by terms w)
+
+  -- the requirements of the signature's list
+  abbrev pub own_list : List TermRequirement
+  own_list = listed terms (bare (signature_at w fn).requirements)
+
+  abbrev params : List ParamId
+  params = generic_params b.alphabet.params
+
+  same_params : generic_params m.params ≡ params
+  same_params = ap generic_params (sym is.alphabet.params_are)
+
+  pub history_symbols : AreSymbols b.alphabet (symbols_of w.lexicon) f
+  history_symbols = are_symbols terms w m.params b.alphabet is.alphabet closed
+
+  abbrev below_plan : Plan
+  below_plan = protocols_of (world_by terms w)
+
+  abbrev own_plan : Plan
+  own_plan = machine_plan terms w (last_rules p.rounds) m.params (bare (signature_at w fn).requirements)
+
+  abbrev below_origin : Origin
+  below_origin = protocols_origin w p.rounds
+
+  abbrev own_origin : Origin
+  own_origin = list_origin w fn p m
+
+  abbrev item : Numbered → Item
+  item = item_by terms params own_list
+
+  below_all : below_plan.all ≡ map item below_origin.course.all
+  below_all = protocols_items terms w params own_list w.lexicon.written_order
+
+  own_all : own_plan.all ≡ map item own_origin.course.all
+  own_all =
+      ap (λ gs. map (of_list gs own_list) own_list) same_params
+      ∙ sym (numbered_items terms params own_list None 1 (bare (signature_at w fn).requirements))
+
+  below_length : length b.below.now ≡ length p.rounds
+  below_length = is.of_protocols.count_is
+
+  own_length : length b.own ≡ length m.rounds
+  own_length = is.of_list.count_is
+
+  -- ---- the rules of a system
+
+  system_is : (r : ℕ) (v : System) → slice_get (systems_of b) r ≡ Some v → system_at b r ≡ v
+  system_is r v e = get_or_from_slice_get (systems_of b) r v (record { base = 0; below = 0; rules = []; given = [] }) e
+
+  below_rules : (k : ℕ) (round : RoundView) → slice_get p.rounds k ≡ Some round → rules_at b k ≡ round.rules
+  below_rules k round e =
+      let (v, at, rules, few) = system_in (symbols_of w.lexicon) terms below_origin b.below.now is.of_protocols k round e in
+      let in_history : slice_get (systems_of b) k ≡ Some v = get_left b.below.now b.own k v at in
+      ap (λ (z : System). z.rules) (system_is k v in_history) ∙ rules
+
+  own_rules : (k : ℕ) (round : RoundView) → slice_get m.rounds k ≡ Some round → rules_at b (length b.below.now + k) ≡ round.rules
+  own_rules k round e =
+      let (v, at, rules, few) = system_in (symbols_of w.lexicon) terms own_origin b.own is.of_list k round e in
+      let in_history : slice_get (systems_of b) (length b.below.now + k) ≡ Some v
+      = get_after b.below.now b.own k ∙ at in
+      ap (λ (z : System). z.rules) (system_is (length b.below.now + k) v in_history) ∙ rules
+
+  -- ---- complete rules
+
+  below_few : (k : ℕ) (round : RoundView) → slice_get p.rounds k ≡ Some round → length round.rules < 2 ^ 32 - 1
+  below_few = few_rules (symbols_of w.lexicon) terms below_origin b.below.now is.of_protocols
+
+  own_few : (k : ℕ) (round : RoundView) → slice_get m.rounds k ≡ Some round → length round.rules < 2 ^ 32 - 1
+  own_few = few_rules (symbols_of w.lexicon) terms own_origin b.own is.of_list
+
+  -- the rules of the protocols, which the rounds of the list begin with, are complete
+  base_complete : IsComplete own_plan.base
+  base_complete =
+      let (used, ends) = last_ends rounds.protocols.1 in
+      let (last, at, rules) = last_is p.rounds (some_round rounds.protocols.1) in
+      let few = subst (λ (z : List Rule). length z < 2 ^ 32 - 1) rules (below_few (length p.rounds - 1) last at) in
+      ended_complete rounds.protocols.0 below_plan used (last_rules p.rounds) none_complete ends few
+
+  last_complete : IsComplete (last_rules m.rounds)
+  last_complete =
+      let (used, ends) = last_ends rounds.list.1 in
+      let (last, at, rules) = last_is m.rounds (some_round rounds.list.1) in
+      let few = subst (λ (z : List Rule). length z < 2 ^ 32 - 1) rules (own_few (length m.rounds - 1) last at) in
+      ended_complete rounds.list.0 own_plan used (last_rules m.rounds) base_complete ends few
+
+  -- ---- the systems of the protocols
+
+  below_shown : (k : ℕ) (x : Numbered) (s : ℕ) → IsShownBy below_origin.course k x s
+      → (s < k) × AreShownByReduction below_plan (rules_at b s) (item x)
+  below_shown k x s h =
+      let e =
+      shown_before below_plan below_origin.course item below_all rounds.protocols.1 none_complete below_few h.round h.place x h.there
+      h.first_use in
+      let place : s ≡ 0 + h.round - 1 = h.system_is in
+      let next : h.round ≡ suc e.before = e.next in
+      let within : h.round ≤ k = h.within in
+      let same : s ≡ e.before = omega (arith, place, next) in
+      let rules : rules_at b s ≡ e.earlier.rules = ap (rules_at b) same ∙ below_rules e.before e.earlier e.there in
+      (omega (arith, same, next, within), subst (λ z. AreShownByReduction below_plan z (item x)) (sym rules) e.shows)
+
+  below_system : (r : ℕ) (v : System) → slice_get b.below.now r ≡ Some v → IsSystem b r v
+  below_system r v e =
+      let made = is.of_protocols.each r v e in
+      record {
+        few = made.few;
+        born = born_is terms below_origin below_plan b own_list refl refl below_all (sym is.alphabet.members) history_symbols r v made
+            (reached_at rounds.protocols.1 r made.round made.there);
+        lower = λ k rule l h. absurd (let z : v.base ≡ 0 = made.base in omega (arith, l, z));
+        given = given_by terms below_origin below_plan b own_list refl refl below_all (sym is.alphabet.members) history_symbols r v made r
+            (below_shown r);
+      }
+
+  -- ---- the systems of the list
+
+  own_shown : (k : ℕ) (x : Numbered) (s : ℕ) → IsShownBy own_origin.course k x s
+      → (s < length b.below.now + k) × AreShownByReduction own_plan (rules_at b s) (item x)
+  own_shown k x s h =
+      let e =
+      shown_before own_plan own_origin.course item own_all rounds.list.1 base_complete own_few h.round h.place x h.there h.first_use in
+      let place : s ≡ length p.rounds + h.round - 1 = h.system_is in
+      let next : h.round ≡ suc e.before = e.next in
+      let within : h.round ≤ k = h.within in
+      let count = below_length in
+      let same : s ≡ length b.below.now + e.before = omega (arith, place, next, count) in
+      let rules : rules_at b s ≡ e.earlier.rules = ap (rules_at b) same ∙ own_rules e.before e.earlier e.there in
+      (omega (arith, same, next, within), subst (λ z. AreShownByReduction own_plan z (item x)) (sym rules) e.shows)
+
+  -- the rules of the base are those of the last round of the protocols
+  own_lower : (r k : ℕ) (v : System) → length b.below.now ≤ r → (made : IsSystemOf (symbols_of w.lexicon) terms own_origin k v)
+      → IsReachedRound own_plan made.round
+      → (j : ℕ) (rule : Rule) → j < v.base → slice_get v.rules j ≡ Some rule
+      → (v.below < r) × (slice_get (rules_at b v.below) j ≡ Some rule)
+  own_lower r k v above made reached j rule l e =
+      let last_count : j < length (last_rules p.rounds) = subst (λ n. j < n) made.base l in
+      let some = some_round rounds.protocols.1 in
+      let (last, at_last, rules_last) = last_is p.rounds some in
+      let e_below : v.below ≡ length p.rounds - 1 = made.below in
+      let count = below_length in
+      let at_round : slice_get made.round.rules j ≡ Some rule = ap (λ (z : List Rule). slice_get z j) (sym made.rules) ∙ e in
+      let in_base : slice_get (last_rules p.rounds) j ≡ Some rule
+      = ap (λ (z : List Rule). slice_get z j) (sym reached.0)
+      ∙ in_front made.round.rules (length (last_rules p.rounds)) j rule last_count at_round in
+      let below_is : rules_at b v.below ≡ last_rules p.rounds
+      = ap (rules_at b) made.below ∙ below_rules (length p.rounds - 1) last at_last ∙ rules_last in
+      (omega (arith, e_below, count, some, above), ap (λ (z : List Rule). slice_get z j) below_is ∙ in_base)
+
+  own_system : (j : ℕ) (v : System) → slice_get b.own j ≡ Some v → IsSystem b (length b.below.now + j) v
+  own_system j v e =
+      let made = is.of_list.each j v e in
+      let reached = reached_at rounds.list.1 j made.round made.there in
+      record {
+        few = made.few;
+        born = born_is terms own_origin own_plan b own_list refl refl own_all (sym is.alphabet.members) history_symbols j v made reached;
+        lower = own_lower (length b.below.now + j) j v (omega arith) made reached;
+        given = given_by terms own_origin own_plan b own_list refl refl own_all (sym is.alphabet.members) history_symbols j v made
+            (length b.below.now + j) (own_shown j);
+      }
+
+  each_system : (r : ℕ) (v : System) → slice_get (systems_of b) r ≡ Some v → IsSystem b r v
+  each_system r v e = elim (get_either b.below.now b.own r v e) [
+    | inl h ↦ below_system r v h
+    | inr h ↦ subst (λ n. IsSystem b n v) (sym h.1) (own_system h.0 v h.2)
+  ]
+
+  system_there : (r : ℕ) → r < length (systems_of b) → slice_get (systems_of b) r ≡ Some (system_at b r)
+  system_there r l = slice_get-get_or (systems_of b) r (record { base = 0; below = 0; rules = []; given = [] }) l
+
+  pub is_history : IsHistory b
+  is_history = record {
+    inherited = is_inherited terms w m.params b.alphabet is.alphabet closed;
+    few = is.few;
+    systems = λ r l. each_system r (system_at b r) (system_there r l);
+  }
+
+  -- ---- facts
+
+  module _ (assumptions : Assumptions) (facts : assumptions.facts ≡ f) (params_are : assumptions.params ≡ generic_params m.params)
+      (written : assumptions.written ≡ own_list) where
+    below_written : (j : ℕ) (x : Numbered) (q : OwnedRequirement) (s : ℕ) → slice_get below_origin.course.all j ≡ Some x
+        → requirement_by q ≡ requirement_of terms x.requirement → IsWritten assumptions (Required x.owner x.number q s)
+    below_written j x q s e stands =
+        let (o, own, number) = protocol_number terms w w.lexicon.written_order j x e in
+        let n = written_of terms w o x.number x.requirement number in
+        subst (λ (z : Option ProtoId). IsWritten assumptions (Required z x.number q s)) (sym own)
+        (subst (λ (z : TermFacts). HasNumber x.number (z.of_protocol o) (requirement_by q)) (sym facts)
+        (subst (HasNumber x.number (f.of_protocol o)) (sym stands) n))
+
+    own_written : (j : ℕ) (x : Numbered) (q : OwnedRequirement) (s : ℕ) → slice_get own_origin.course.all j ≡ Some x
+        → requirement_by q ≡ requirement_of terms x.requirement → IsWritten assumptions (Required x.owner x.number q s)
+    own_written j x q s e stands =
+        let list = bare (signature_at w fn).requirements in
+        let (own, n, at) = numbered_is None 1 list j x e in
+        let same : x.number - 1 ≡ j = omega (arith, n) in
+        let there : slice_get own_list (x.number - 1) ≡ Some (requirement_of terms x.requirement)
+        = ap (slice_get own_list) same ∙ get_map (requirement_of terms) list j x.requirement at in
+        subst (λ (z : Option ProtoId). IsWritten assumptions (Required z x.number q s)) (sym own)
+        (omega (arith, n), ap (λ (z : List TermRequirement). slice_get z (x.number - 1)) written ∙ there ∙ ap Some (sym stands))
+
+    each_written : (r k : ℕ) (v : System) (e : Equation) → slice_get (systems_of b) r ≡ Some v → slice_get v.given k ≡ Some e
+        → IsWritten assumptions e.reason
+    each_written r k v e at in_v = elim (get_either b.below.now b.own r v at) [
+      | inl h ↦ written_by terms below_origin below_plan b own_list refl refl below_all (sym is.alphabet.members) history_symbols r v
+          (is.of_protocols.each r v h) assumptions below_written k e in_v
+      | inr h ↦ written_by terms own_origin own_plan b own_list refl refl own_all (sym is.alphabet.members) history_symbols h.0 v
+          (is.of_list.each h.0 v h.2) assumptions own_written k e in_v
+    ]
+
+    pub fits_history : FitsHistory b assumptions
+    fits_history = record {
+      alphabet = fits_assumptions terms w m.params b.alphabet is.alphabet closed assumptions facts params_are;
+      written = λ r k e l at. each_written r k (system_at b r) e (system_there r l) at;
+    }
+
+  -- ---- for the signature
+
+  signature_now : signature_at (world_by terms w) fn ≡ signature_by terms (signature_at w fn)
+  signature_now = signature_is w terms fn
+
+  params_now : generic_params (signature_at (world_by terms w) fn).params ≡ generic_params m.params
+  params_now = ap (λ (g : SignatureOver PlacedRequirement). generic_params g.params) signature_now ∙ sym (ap generic_params rounds.params)
+
+  list_now : written_list (signature_at (world_by terms w) fn) ≡ own_list
+  list_now = ap written_list signature_now ∙ sym (requirements_placed terms (signature_at w fn).requirements)
+
+  last_rules_are : rules_at b (length (systems_of b) - 1) ≡ last_rules m.rounds
+  last_rules_are =
+      let some = some_round rounds.list.1 in
+      let (last, at, rules) = last_is m.rounds some in
+      let count = length-append b.below.now b.own in
+      let own = own_length in
+      let place : length (systems_of b) - 1 ≡ length b.below.now + (length m.rounds - 1) = omega (arith, some, count, own) in
+      ap (rules_at b) place ∙ own_rules (length m.rounds - 1) last at ∙ rules
+
+  pub history_for : IsHistoryFor (world_by terms w) fn b
+  history_for = record {
+    history = is_history;
+    fits = fits_history (assumptions_of (world_by terms w) fn) refl params_now list_now;
+    symbols = history_symbols;
+    params = is.alphabet.params_are ∙ rounds.params ∙ sym (ap (λ (g : SignatureOver PlacedRequirement). g.params) signature_now);
+    some = (let some = some_round rounds.list.1 in
+        let count = length-append b.below.now b.own in
+        let own = own_length in
+        omega (arith, some, count, own));
+    rules = subst (λ gs. AreListRules (symbols_of w.lexicon) f gs (written_list (signature_at (world_by terms w) fn))
+        (rules_at b (length (systems_of b) - 1))) (sym params_now)
+        (subst (λ rs. AreListRules (symbols_of w.lexicon) f (generic_params m.params) rs (rules_at b (length (systems_of b) - 1)))
+        (sym list_now)
+        (subst (AreListRules (symbols_of w.lexicon) f (generic_params m.params) own_list) (sym last_rules_are) rounds.machine.rules));
+    complete = subst IsComplete (sym last_rules_are) last_complete;
+    in_text = subst (IsInText (symbols_of w.lexicon)) (λ i. WrittenList (sym params_now i) (sym list_now i)) rounds.machine.in_text;
+  }

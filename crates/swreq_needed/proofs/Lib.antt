@@ -1,2 +1,0 @@
-pub mod SetMarks
-pub mod KeptLines

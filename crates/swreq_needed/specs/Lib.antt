@@ -1,2 +1,0 @@
-pub mod Needed
-pub mod Marks

@@ -1,4 +1,0 @@
-pub mod Signatures
-pub mod Minimising
-pub mod Systems
-pub mod Ended

@@ -1,0 +1,64 @@
+-- The rounds of the protocols and of a list have ended: what their rules give.
+use Rattle.std.proofs.Common.{List, [], sym, subst, length}
+use Rattle.swreq_derive.specs.Derivation.Source.{Written}
+use Rattle.swreq_derive.specs.Facts.{generic_params}
+use Rattle.swreq_rule.specs.declared.rules.Rule.{Rule}
+use Rattle.swreq_watch.specs.declared.events.Event.{Event}
+use Rattle.swreq_pair.specs.CriticalPairs.{PairsMeet}
+use Rattle.swreq_complete.specs.declared.limit.Limits.{Limits}
+use Rattle.swreq_complete.proofs.Ended.{pairs_meet}
+use Rattle.swreq_correspondence.specs.Equations.{UsableEquation}
+use Rattle.swreq_correspondence.specs.Symbols.{IsInText}
+use Rattle.swreq_rounds.specs.Plan.{Item, Plan, given}
+use Rattle.swreq_rounds.specs.Presents.{AreListRules, AreProtocolRules, ProtocolEquation}
+use Rattle.swreq_rounds.specs.Rounds.{IsLastRound}
+use Rattle.swreq_rounds.proofs.LastRound.{list_law, protocols_law}
+use Rattle.swreq_candidates.specs.Completed.{IsCompleted}
+use Rattle.swreq_candidates.proofs.RulesGive.{least_words}
+use Rattle.swreq_lowering.specs.Requirements.{PlacedRequirement}
+use Rattle.swreq_world.specs.Closed.{IsClosed}
+use Rattle.swreq_world.specs.Worlds.{SignatureOver, TextWorld}
+use Rattle.swreq_symbols.specs.Meaning.{facts_of, symbols_of}
+use Rattle.swreq_symbols.proofs.Symbols.{ranks_law, symbols_law, text_law}
+use Rattle.swreq_valid.specs.Machines.{list_of, protocols_of}
+use Rattle.swreq_minimal.proofs.Named.{members_named}
+use Rattle.swreq_query.specs.Ended.{HasEnded}
+use Rattle.swreq_world.specs.FactsAt.{written_list}
+
+-- no rules have pairs
+none_meet : PairsMeet []
+none_meet place left right p = absurd (let e = p.first_at.2 in cc)
+
+-- The pairs of the rules of a last round meet where those of its base do.
+last_meet : (limits : Limits) (plan : Plan) (used : List Item) (rules : List Rule) (told : List Event) → PairsMeet plan.base
+    → IsLastRound limits plan used rules told → PairsMeet rules
+last_meet limits plan used rules told meet last =
+    pairs_meet (length plan.base) (given plan used) rules (subst PairsMeet (sym last.ends.0) meet) last.ends.1.ended
+
+pub completed : (limits : Limits) (w : TextWorld) (g : SignatureOver PlacedRequirement) → IsClosed w
+    → IsInText (symbols_of w.lexicon) (Written (generic_params g.params) (written_list g)) → HasEnded limits w g
+    → IsCompleted (symbols_of w.lexicon) (facts_of w) (generic_params g.params) (written_list g)
+completed limits w g closed in_text ended =
+    let m = symbols_of w.lexicon in
+    let f = facts_of w in
+    let gs = generic_params g.params in
+    let list = written_list g in
+    let symbols = symbols_law w closed in
+    let of_text = text_law w closed in
+    let (used, last) = ended.of_protocols in
+    let (own_used, own_last) = ended.of_list in
+    let rules : AreProtocolRules m f ended.rules = protocols_law m f symbols of_text limits used ended.rules ended.first last in
+    let own : AreListRules m f gs list ended.own =
+    list_law m f symbols of_text limits ended.rules rules gs list in_text own_used ended.own ended.more own_last in
+    let meet : PairsMeet ended.rules = last_meet limits (protocols_of w) used ended.rules ended.first none_meet last in
+    let own_meet : PairsMeet ended.own =
+    last_meet limits (list_of w ended.rules g.params list) own_used ended.own ended.more meet own_last in
+    record {
+      symbols = symbols;
+      of_text = of_text;
+      in_text = in_text;
+      ranked = ranks_law w closed;
+      named = members_named w closed;
+      protocols = least_words ended.rules (ProtocolEquation m f) rules meet;
+      of_list = least_words ended.own (UsableEquation m f (Written gs list)) own own_meet;
+    }

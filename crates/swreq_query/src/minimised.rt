@@ -1,0 +1,126 @@
+//! The line of a minimised signature.
+ghost use Rattle.std.specs.Prelude.{◌≡◌, ◌≢◌, ◌⊎◌, ◌<◌, ◌++◌, List, ℕ, codes, length, IfErr, OnErr, OnOk};
+ghost use Rattle.swreq_param.specs.Tables.{Extends};
+ghost use Rattle.swreq_text.specs.Joined.{GrewByPart};
+ghost use Rattle.swreq_derive.specs.Facts.{generic_params};
+ghost use Rattle.swreq_complete.specs.declared.limit.Failed.TheVariants.{Memory};
+ghost use Rattle.swreq_complete.specs.Limits.{AreInRange};
+ghost use Rattle.swreq_symbols.specs.Known.{IsTextOver};
+ghost use Rattle.swreq_valid.specs.Machines.{AreRulesOf, IsMachineOf};
+ghost use Rattle.swreq_valid.specs.Plans.{AreKnown, listed};
+ghost use Rattle.swreq_valid.specs.Rounds.{last_rules};
+ghost use Rattle.swreq_watch.specs.declared.events.Event.{Event};
+ghost use Rattle.swreq_watch.specs.Told.{GrewBy};
+ghost use Rattle.swreq_world.specs.ByTable.{world_by};
+ghost use Rattle.swreq_world.specs.Worlds.{signature_at};
+ghost use Rattle.swreq_print.specs.Signatures.{signature_text};
+ghost use Rattle.swreq_query.specs.Minimising.{MinimisingFails, MinimisingTells};
+ghost use Rattle.swreq_query.specs.Signatures.{IsMinimisedLine};
+ghost use Rattle.swreq_world.specs.FactsAt.{written_list};
+
+use std::alloc::{AllocError, Global};
+use swreq_complete::{Failed, Limits};
+use swreq_derive::{Params, Requirement};
+use swreq_minimal::minimise;
+use swreq_param::ParamTable;
+use swreq_print::signature_text;
+use swreq_text::append_bytes;
+use swreq_valid::{Machine, Protocols};
+use swreq_watch::Watch;
+use swreq_world::{FuncId, World};
+
+/// Writes the signature with these generic parameters and requirements as a line.
+#[tactic(auto, using(swreq_text::proofs::Parts::none_grew))]
+fn put_signature(
+    alloc: Global,
+    world: &World,
+    table: &ParamTable,
+    params: Params,
+    list: &[Requirement],
+    out: &mut Vec<u8>,
+) -> Result<(), AllocError>
+    requires { AreKnown table.now world.now.lexicon list.now }
+    ensures ok { OnOk result (out.new.items ≡ out.old.items
+        ++ (signature_text world.now.lexicon (generic_params params) (listed table.now list.now)
+        ++ codes "\n")) }
+    ensures err { OnErr result (GrewByPart out.old.items
+        (signature_text world.now.lexicon (generic_params params) (listed table.now list.now)
+        ++ codes "\n") out.new.items) }
+{
+    signature_text(alloc, world.lexicon(), table, params, list, out)?;
+    append_bytes(out, b"\n")
+}
+
+/// Writes the line of a minimised list, and answers `Failed::Memory` if memory runs out.
+fn put_line(
+    alloc: Global,
+    world: &World,
+    table: &ParamTable,
+    params: Params,
+    list: &[Requirement],
+    out: &mut Vec<u8>,
+) -> Result<(), Failed>
+    requires { AreKnown table.now world.now.lexicon list.now }
+    ensures line { OnOk result (out.new.items ≡ out.old.items
+        ++ (signature_text world.now.lexicon (generic_params params) (listed table.now list.now)
+        ++ codes "\n")) }
+    ensures failed { IfErr result (λ failed. failed ≡ Memory) }
+    ensures part { OnErr result (GrewByPart out.old.items
+        (signature_text world.now.lexicon (generic_params params) (listed table.now list.now)
+        ++ codes "\n") out.new.items) }
+{
+    match put_signature(alloc, world, table, params, list, out) {
+        Ok(()) => Ok(()),
+        Err(_) => Err(Failed::Memory),
+    }
+}
+
+/// Writes the minimised list of a signature at the end, by its machine, as a line. If memory runs out the first bytes of it may
+/// stand there; on a limit the list is unchanged.
+///
+/// `Failed::Limit` comes only where the rounds of a list that minimising meets pass a limit, with the trace of the round that passes it.
+/// The watcher is told the events of the rounds of such lists. The table grows, its ids stay, and so does the world over it.
+pub fn minimised_line<W: Watch>(
+    alloc: Global,
+    world: &World,
+    table: &mut ParamTable,
+    protocols: &Protocols,
+    machine: &Machine,
+    f: FuncId,
+    limits: Limits,
+    watch: &mut W,
+    out: &mut Vec<u8>,
+) -> Result<(), Failed>
+    requires text { IsTextOver table.old world.now }
+    requires protocols { AreRulesOf (world_by table.old world.now)
+        (last_rules protocols.now.rounds) }
+    requires f { f.place < length world.now.signatures }
+    requires machine { IsMachineOf (world_by table.old world.now)
+        (written_list (signature_at (world_by table.old world.now) f)) machine.now }
+    requires params { machine.now.params ≡ (signature_at (world_by table.old world.now) f).params }
+    requires limits { AreInRange limits }
+    ensures line { OnOk result ((line : List ℕ) × IsMinimisedLine (world_by table.old world.now)
+        (signature_at (world_by table.old world.now) f) line
+        × (out.new.items ≡ out.old.items ++ line)) }
+    ensures told { OnOk result ((told : List Event)
+        × MinimisingTells limits (world_by table.old world.now) (last_rules protocols.now.rounds)
+        (signature_at (world_by table.old world.now) f) told
+        × GrewBy (W.told watch.old) (W.told watch.new) told) }
+    ensures failed { IfErr result (λ failed. (told : List Event)
+        × MinimisingFails limits (world_by table.old world.now) (last_rules protocols.now.rounds)
+        (signature_at (world_by table.old world.now) f) failed told
+        × GrewBy (W.told watch.old) (W.told watch.new) told) }
+    ensures part { OnErr result ((out.new.items ≡ out.old.items) ⊎ ((line : List ℕ)
+        × IsMinimisedLine (world_by table.old world.now)
+        (signature_at (world_by table.old world.now) f) line
+        × GrewByPart out.old.items line out.new.items)) }
+    ensures unchanged { IfErr result (λ failed. failed ≢ Memory → out.new.items ≡ out.old.items) }
+    ensures extends { Extends table.old table.new }
+    ensures world { world_by table.new world.now ≡ world_by table.old world.now }
+    ensures text { IsTextOver table.new world.now }
+{
+    match minimise(alloc, world, table, protocols, machine, limits, watch) {
+        Err(failed) => Err(failed),
+        Ok(list) => put_line(alloc, world, table, world.params(f), &list, out),
+    }
+}

@@ -1,0 +1,54 @@
+//! The name of a signature.
+ghost use Rattle.std.specs.Prelude.{◌≡◌, ◌<◌, ◌++◌, [], codes, length, OnErr, OnOk};
+ghost use Rattle.std.specs.Option.{option_map_or};
+ghost use Rattle.swreq_text.specs.Joined.{GrewByPart};
+ghost use Rattle.swreq_world.specs.ByTable.{world_by};
+ghost use Rattle.swreq_world.specs.Lookups.{outer_name};
+ghost use Rattle.swreq_world.specs.Worlds.{signature_at};
+ghost use Rattle.swreq_query.specs.Signatures.{full_name};
+
+use std::alloc::AllocError;
+use swreq_param::ParamTable;
+use swreq_text::append_bytes;
+use swreq_world::{FuncId, World};
+
+/// Writes `S.` for a function of a struct S, and otherwise nothing.
+#[tactic(auto, using(swreq_text::proofs::Parts::none_grew, swreq_text::proofs::Parts::grew_next))]
+fn put_outer(world: &World, f: FuncId, out: &mut Vec<u8>) -> Result<(), AllocError>
+    requires { f.place < length world.now.signatures }
+    ensures ok { OnOk result (out.new.items ≡ out.old.items
+        ++ option_map_or (λ outer. outer ++ codes ".")
+        (outer_name world.now (signature_at world.now f).outer) []) }
+    ensures err { OnErr result (GrewByPart out.old.items
+        (option_map_or (λ outer. outer ++ codes ".")
+        (outer_name world.now (signature_at world.now f).outer) []) out.new.items) }
+{
+    match world.func_outer(f) {
+        None => Ok(()),
+        Some(outer) => {
+            append_bytes(out, outer)?;
+            append_bytes(out, b".")
+        }
+    }
+}
+
+/// Writes the name of the signature at the end: `f`, and `S.f` for a function f of a struct S. If memory runs out the first bytes of it
+/// may stand there.
+pub fn full_name(
+    world: &World,
+    table: &ParamTable,
+    f: FuncId,
+    out: &mut Vec<u8>,
+) -> Result<(), AllocError>
+    requires { f.place < length world.now.signatures }
+    ensures ok { OnOk result (out.new.items
+        ≡ out.old.items ++ full_name (world_by table.now world.now)
+        (signature_at (world_by table.now world.now) f)) }
+    ensures err { OnErr result (GrewByPart out.old.items
+        (full_name (world_by table.now world.now)
+        (signature_at (world_by table.now world.now) f)) out.new.items) }
+{
+    let _ = table;
+    put_outer(world, f, out)?;
+    append_bytes(out, world.func_name(f))
+}

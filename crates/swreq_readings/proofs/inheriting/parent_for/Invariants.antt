@@ -1,0 +1,6 @@
+use Rattle.std.proofs.Common.{◌<◌, ℕ}
+use Rattle.swreq_readings.specs.Alphabets.{IsParentFor}
+use Rattle.swreq_readings.proofs.inheriting.parent_for.Given as goal
+
+abbrev pub invariant-loop-k : goal.invariant-loop-k
+invariant-loop-k l = (j : ℕ) → j < l.k → IsParentFor l.alphabet l.protocol l.name j → ⊥

@@ -1,0 +1,51 @@
+use Rattle.std.proofs.Common.{ap, sym, ◌∙◌}
+use Rattle.swreq_param.specs.Tables.{term_at}
+use Rattle.swreq_readings.specs.Readable.{read_word}
+use Rattle.swreq_derivation.proofs.DerivationLemmas.{grows_then}
+use Rattle.swreq_readings.proofs.ReadingLemmas.{both_still, equal_as, equal_still, term_still}
+use Rattle.swreq_readings.proofs.joining.turn.Goals as goal
+
+pub add_symm-requires-clause-equal : goal.add_symm-requires-clause-equal
+add_symm-requires-clause-equal c =
+    let g = c.args.alphabet.now in
+    let s = c.args.derivation.now in
+    let s1 = c.read_word.new.derivation in
+    let s2 = c.read_word-2.new.derivation in
+    let gr = grows_then s s1 s2 c.in_ok-first.ensures.grows c.in_ok-second.ensures.grows in
+    equal_as s2 _ _ _ _ (term_still s1 s2 c.in_ok-second.ensures.grows c.in_ok-first.first c.in_ok-first.ensures.is_of
+    ∙ c.in_ok-first.ensures.stands)
+    (c.in_ok-second.ensures.stands ∙ ap (λ z. read_word g z c.args.to.now)
+    (term_still s s1 c.in_ok-first.ensures.grows c.args.subject c.requires.subject))
+    (equal_still g s s2 gr _ _ c.requires.both.equal)
+
+pub returns-clause-both : goal.returns-clause-both
+returns-clause-both c =
+    let g = c.args.alphabet.now in
+    let s = c.args.derivation.now in
+    let s1 = c.read_word.new.derivation in
+    let s2 = c.read_word-2.new.derivation in
+    let n = c.add_symm.new.derivation in
+    let gr = grows_then s s2 n (grows_then s s1 s2 c.in_ok-first.ensures.grows c.in_ok-second.ensures.grows)
+    c.in_ok-add_symm.ensures.grows in
+    let w = both_still g s n gr (term_at s.table c.args.subject) c.args.from.now c.args.to.now c.requires.both in record {
+      left = w.right;
+      right = w.left;
+      equal = equal_as n _ _ _ _ (sym (c.in_ok-second.ensures.stands
+          ∙ ap (λ z. read_word g z c.args.to.now) (term_still s s1 c.in_ok-first.ensures.grows c.args.subject c.requires.subject)))
+          (sym (term_still s1 s2 c.in_ok-second.ensures.grows c.in_ok-first.first c.in_ok-first.ensures.is_of
+          ∙ c.in_ok-first.ensures.stands)) c.in_ok-add_symm.ensures.equal;
+    }
+
+pub returns-clause-grows : goal.returns-clause-grows
+returns-clause-grows c =
+    grows_then _ _ _ (grows_then _ _ _ c.in_ok-first.ensures.grows c.in_ok-second.ensures.grows) c.in_ok-add_symm.ensures.grows
+
+pub returns-clause-derives : goal.returns-clause-derives
+returns-clause-derives c b d = c.in_ok-add_symm.ensures.derives b (c.in_ok-second.ensures.derives b (c.in_ok-first.ensures.derives b d))
+
+pub returns-in_err-second-clause-grows : goal.returns-in_err-second-clause-grows
+returns-in_err-second-clause-grows c = grows_then _ _ _ c.in_ok-first.ensures.grows c.in_err-second.ensures.grows
+
+pub returns-in_err-add_symm-clause-grows : goal.returns-in_err-add_symm-clause-grows
+returns-in_err-add_symm-clause-grows c =
+    grows_then _ _ _ (grows_then _ _ _ c.in_ok-first.ensures.grows c.in_ok-second.ensures.grows) c.in_err-add_symm.ensures.grows

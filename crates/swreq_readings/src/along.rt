@@ -1,0 +1,174 @@
+//! Symbols and words that lines allow after a type parameter are allowed after an equal one.
+ghost use Rattle.std.specs.Prelude.{◌≡◌, ◌<◌, IfOk, OnOk, length};
+ghost use Rattle.swreq_param.specs.Tables.{IsOf, term_at};
+ghost use Rattle.swreq_param.specs.declared.ids.Step.TheVariants as steps;
+ghost use Rattle.swreq_param.specs.Terms.{Term};
+ghost use Rattle.swreq_word.specs.declared.symbols.Symbol.TheVariants as symbols;
+ghost use Rattle.swreq_derivation.specs.UnderWay.{AddsLines, AreEqualIds, AreStatedEqual, IsUnderWay};
+ghost use Rattle.swreq_readings.specs.Alphabets.{IsStillDerivedOver};
+ghost use Rattle.swreq_readings.specs.Readable.{AllowsSymbol, AllowsWord, IsIdAfter, read_symbol, read_word};
+
+use crate::alphabet::{Alphabet, member_at};
+use crate::carrying::{carry_conf, carry_layout, carry_name};
+use crate::reading::read_symbol;
+use std::alloc::AllocError;
+use swreq_derivation::Derivation;
+use swreq_param::{NameId, ProtoId, TermId};
+use swreq_word::Symbol;
+
+/// If lines allow a member symbol after T, and state `[T == U]`, then they allow it after U, and state that what it is read as after T
+/// equals what it is read as after U. `members` are the ids of the two.
+fn carry_member(
+    alphabet: &Alphabet,
+    derivation: &mut Derivation,
+    from: TermId,
+    to: TermId,
+    rank: u64,
+    members: (TermId, TermId),
+) -> Result<(), AllocError>
+    requires derivation { IsUnderWay derivation.old }
+    requires symbol { AllowsSymbol alphabet.now derivation.old
+        (term_at derivation.old.table from) (symbols.Member rank) }
+    requires equal { AreEqualIds derivation.old from to }
+    requires first { IsIdAfter alphabet.now derivation.old from (symbols.Member rank) members.0 }
+    requires second { IsIdAfter alphabet.now derivation.old to (symbols.Member rank) members.1 }
+    ensures symbol { OnOk result
+        (AllowsSymbol alphabet.now derivation.new (term_at derivation.old.table to)
+        (symbols.Member rank)) }
+    ensures equal { OnOk result
+        (AreStatedEqual derivation.new (term_at derivation.old.table members.0)
+        (term_at derivation.old.table members.1)) }
+    ensures grows { AddsLines derivation.old derivation.new }
+    ensures derives { OnOk result (IsStillDerivedOver alphabet.now derivation.old derivation.new) }
+{
+    let named = member_at(alphabet, rank);
+    carry_name(alphabet, derivation, from, to, named.name, members)?;
+    carry_conf(derivation, from, to, named.proto)?;
+    Ok(())
+}
+
+/// If lines allow a symbol after T, and state `[T == U]`, then they allow it after U, and state that what it is read as after T equals what
+/// it is read as after U. `members` are the ids of the two.
+fn carry_symbol(
+    alphabet: &Alphabet,
+    derivation: &mut Derivation,
+    from: TermId,
+    to: TermId,
+    symbol: Symbol,
+    members: (TermId, TermId),
+) -> Result<(), AllocError>
+    requires derivation { IsUnderWay derivation.old }
+    requires symbol { AllowsSymbol alphabet.now derivation.old
+        (term_at derivation.old.table from) symbol }
+    requires equal { AreEqualIds derivation.old from to }
+    requires first { IsIdAfter alphabet.now derivation.old from symbol members.0 }
+    requires second { IsIdAfter alphabet.now derivation.old to symbol members.1 }
+    ensures symbol { OnOk result
+        (AllowsSymbol alphabet.now derivation.new (term_at derivation.old.table to) symbol) }
+    ensures equal { OnOk result
+        (AreStatedEqual derivation.new (term_at derivation.old.table members.0)
+        (term_at derivation.old.table members.1)) }
+    ensures grows { AddsLines derivation.old derivation.new }
+    ensures derives { OnOk result (IsStillDerivedOver alphabet.now derivation.old derivation.new) }
+{
+    match symbol {
+        Symbol::Proto(rank) => {
+            carry_conf(derivation, from, to, ProtoId { rank })?;
+            Ok(())
+        }
+        Symbol::Layout => {
+            carry_layout(derivation, from, to)?;
+            Ok(())
+        }
+        Symbol::Name(rank) => {
+            carry_name(alphabet, derivation, from, to, NameId { rank }, members)?;
+            Ok(())
+        }
+        Symbol::Member(rank) => {
+            carry_member(alphabet, derivation, from, to, rank, members)?;
+            Ok(())
+        }
+        Symbol::Param(_, _) => Ok(()),
+    }
+}
+
+/// The same. Answers the ids of what the symbol is read as after T and after U.
+fn carry(
+    alphabet: &Alphabet,
+    derivation: &mut Derivation,
+    from: TermId,
+    to: TermId,
+    symbol: Symbol,
+) -> Result<(TermId, TermId), AllocError>
+    requires derivation { IsUnderWay derivation.old }
+    requires from { IsOf derivation.old.table from }
+    requires to { IsOf derivation.old.table to }
+    requires symbol { AllowsSymbol alphabet.now derivation.old
+        (term_at derivation.old.table from) symbol }
+    requires equal { AreStatedEqual derivation.old (term_at derivation.old.table from)
+        (term_at derivation.old.table to) }
+    ensures first { IfOk result (λ r. IsOf derivation.new.table r.0) }
+    ensures second { IfOk result (λ r. IsOf derivation.new.table r.1) }
+    ensures first_is { IfOk result
+        (λ r. term_at derivation.new.table r.0 ≡ read_symbol alphabet.now
+        (term_at derivation.old.table from) symbol) }
+    ensures second_is { IfOk result
+        (λ r. term_at derivation.new.table r.1 ≡ read_symbol alphabet.now
+        (term_at derivation.old.table to) symbol) }
+    ensures symbol { OnOk result
+        (AllowsSymbol alphabet.now derivation.new (term_at derivation.old.table to) symbol) }
+    ensures equal { OnOk result
+        (AreStatedEqual derivation.new
+        (read_symbol alphabet.now (term_at derivation.old.table from) symbol)
+        (read_symbol alphabet.now (term_at derivation.old.table to) symbol)) }
+    ensures grows { AddsLines derivation.old derivation.new }
+    ensures derives { OnOk result (IsStillDerivedOver alphabet.now derivation.old derivation.new) }
+{
+    let first = read_symbol(alphabet, derivation, from, symbol)?;
+    let second = read_symbol(alphabet, derivation, to, symbol)?;
+    carry_symbol(alphabet, derivation, from, to, symbol, (first, second))?;
+    Ok((first, second))
+}
+
+/// If lines allow a word after T, and state `[T == U]`, then they allow it after U, and state that what it is read as after T equals what
+/// it is read as after U. Answers the ids of the two.
+pub fn carry_all(
+    alphabet: &Alphabet,
+    derivation: &mut Derivation,
+    from: TermId,
+    to: TermId,
+    word: &[Symbol],
+) -> Result<(TermId, TermId), AllocError>
+    requires derivation { IsUnderWay derivation.old }
+    requires from { IsOf derivation.old.table from }
+    requires to { IsOf derivation.old.table to }
+    requires word { AllowsWord alphabet.now derivation.old
+        (term_at derivation.old.table from) word.now }
+    requires equal { AreStatedEqual derivation.old (term_at derivation.old.table from)
+        (term_at derivation.old.table to) }
+    ensures first { IfOk result (λ r. IsOf derivation.new.table r.0) }
+    ensures second { IfOk result (λ r. IsOf derivation.new.table r.1) }
+    ensures first_is { IfOk result
+        (λ r. term_at derivation.new.table r.0 ≡ read_word alphabet.now
+        (term_at derivation.old.table from) word.now) }
+    ensures second_is { IfOk result
+        (λ r. term_at derivation.new.table r.1 ≡ read_word alphabet.now
+        (term_at derivation.old.table to) word.now) }
+    ensures word { OnOk result
+        (AllowsWord alphabet.now derivation.new (term_at derivation.old.table to) word.now) }
+    ensures equal { OnOk result
+        (AreStatedEqual derivation.new
+        (read_word alphabet.now (term_at derivation.old.table from) word.now)
+        (read_word alphabet.now (term_at derivation.old.table to) word.now)) }
+    ensures grows { AddsLines derivation.old derivation.new }
+    ensures derives { OnOk result (IsStillDerivedOver alphabet.now derivation.old derivation.new) }
+{
+    let mut first = from;
+    let mut second = to;
+    for k in 0..word.len() {
+        let next = carry(alphabet, derivation, first, second, word[k])?;
+        first = next.0;
+        second = next.1;
+    }
+    Ok((first, second))
+}

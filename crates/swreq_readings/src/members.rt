@@ -1,0 +1,113 @@
+//! Equal type parameters have equal members.
+ghost use Rattle.std.specs.Prelude.{◌≡◌, IfOk, OnOk};
+ghost use Rattle.swreq_param.specs.Tables.{IsOf, term_at};
+ghost use Rattle.swreq_param.specs.declared.ids.Step.TheVariants.{Bound, Name};
+ghost use Rattle.swreq_param.specs.Terms.Term.{Member};
+ghost use Rattle.swreq_derivation.specs.UnderWay.{AddsLines, AreEqualIds, AreStatedEqual, IsUnderWay};
+ghost use Rattle.swreq_readings.specs.Alphabets.{IsStillDerivedOver};
+ghost use Rattle.swreq_readings.specs.Readable.{AreMembers, IsGiven};
+
+use crate::alphabet::{Alphabet, Named};
+use std::alloc::AllocError;
+use swreq_derivation::{
+    Derivation, add_assoc_bind, add_same_conf, add_same_name, add_trans, member,
+};
+use swreq_param::{AssocId, Step, TermId};
+
+/// The bound member and the unbound member of a type parameter by an associated type, and a type parameter that equals the unbound member.
+#[derive(Clone, Copy, Debug)]
+struct Members {
+    bound: TermId,
+    plain: TermId,
+    last: TermId,
+}
+
+/// If lines state `[T == U]`, and that U conforms to the protocol of an associated type, then the bound member of T equals the last of
+/// `members`, which are those of T.
+fn bind(
+    alphabet: &Alphabet,
+    derivation: &mut Derivation,
+    sides: (TermId, TermId),
+    assoc: AssocId,
+    named: Named,
+    members: Members,
+) -> Result<(), AllocError>
+    requires derivation { IsUnderWay derivation.old }
+    requires equal { AreEqualIds derivation.old sides.0 sides.1 }
+    requires given { IsGiven alphabet.now derivation.old
+        (term_at derivation.old.table sides.1) (Bound assoc) named }
+    requires members { AreMembers derivation.old sides.0 assoc named.name members }
+    ensures table { derivation.new.table ≡ derivation.old.table }
+    ensures equal { OnOk result
+        (AreStatedEqual derivation.new (term_at derivation.old.table members.bound)
+        (term_at derivation.old.table members.last)) }
+    ensures grows { AddsLines derivation.old derivation.new }
+    ensures derives { OnOk result (IsStillDerivedOver alphabet.now derivation.old derivation.new) }
+{
+    let (t, u) = sides;
+    add_same_conf(derivation, t, u, named.proto)?;
+    add_assoc_bind(
+        derivation,
+        t,
+        (named.proto, named.name),
+        (members.bound, members.plain),
+    )?;
+    add_trans(derivation, members.bound, members.plain, members.last)?;
+    Ok(())
+}
+
+/// If lines state `[T == U]`, the step names an associated type A, and a line states that U conforms to its protocol, then the member of T
+/// by the step equals U.A. Answers the id of the member of T.
+pub fn equal_member(
+    alphabet: &Alphabet,
+    derivation: &mut Derivation,
+    left: TermId,
+    right: TermId,
+    step: Step,
+    named: Named,
+) -> Result<TermId, AllocError>
+    requires derivation { IsUnderWay derivation.old }
+    requires left { IsOf derivation.old.table left }
+    requires right { IsOf derivation.old.table right }
+    requires given { IsGiven alphabet.now derivation.old
+        (term_at derivation.old.table right) step named }
+    requires equal { AreStatedEqual derivation.old (term_at derivation.old.table left)
+        (term_at derivation.old.table right) }
+    ensures is_of { IfOk result (IsOf derivation.new.table) }
+    ensures stands { IfOk result
+        (λ v. term_at derivation.new.table v ≡ Member (term_at derivation.old.table left) step) }
+    ensures equal { OnOk result
+        (AreStatedEqual derivation.new (Member (term_at derivation.old.table left) step)
+        (Member (term_at derivation.old.table right) (Name named.name))) }
+    ensures grows { AddsLines derivation.old derivation.new }
+    ensures derives { OnOk result (IsStillDerivedOver alphabet.now derivation.old derivation.new) }
+{
+    let plain = member(derivation, left, Step::Name(named.name))?;
+    let last = member(derivation, right, Step::Name(named.name))?;
+    let stepped = member(derivation, left, step)?;
+    add_same_name(
+        derivation,
+        left,
+        right,
+        (named.proto, named.name),
+        (plain, last),
+    )?;
+    match step {
+        Step::Name(_) => Ok(stepped),
+        Step::Bound(assoc) => {
+            bind(
+                alphabet,
+                derivation,
+                (left, right),
+                assoc,
+                named,
+                Members {
+                    bound: stepped,
+                    plain,
+                    last,
+                },
+            )?;
+            Ok(stepped)
+        }
+    }
+}

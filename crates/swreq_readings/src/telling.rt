@@ -1,0 +1,138 @@
+//! Whether lines allow words, and state that they are read alike.
+ghost use Rattle.std.specs.Prelude.{◌≡◌, IfOk, MatchOption, OnOk};
+ghost use Rattle.std.specs.Bool.{Decides};
+ghost use Rattle.swreq_param.specs.Tables.{IsOf, term_at};
+ghost use Rattle.swreq_word.specs.declared.symbols.Symbol.TheVariants.{Member};
+ghost use Rattle.swreq_derivation.specs.UnderWay.{AddsLines, AreStatedEqual, IsStillDerived, IsUnderWay};
+ghost use Rattle.swreq_readings.specs.Readable.{AllowsName, AllowsSymbol, AllowsWord, AreReadEqual, IsReadAs};
+
+use crate::alphabet::{Alphabet, member_at};
+use crate::given::given_step;
+use crate::reading::read_symbol;
+use std::alloc::AllocError;
+use swreq_derivation::{
+    Derivation, are_one, conf_statement, is_stated, layout_statement, same_statement,
+};
+use swreq_param::{NameId, ParamId, ProtoId, Step, TermId};
+use swreq_word::Symbol;
+
+/// Whether lines allow the name after T.
+fn allows_name(alphabet: &Alphabet, derivation: &Derivation, subject: TermId, name: NameId) -> bool
+    requires derivation { IsUnderWay derivation.now }
+    requires subject { IsOf derivation.now.table subject }
+    ensures { Decides result (AllowsName alphabet.now derivation.now
+        (term_at derivation.now.table subject) name) }
+{
+    match given_step(alphabet, derivation, subject, Step::Name(name)) {
+        Some(_) => true,
+        None => false,
+    }
+}
+
+/// Whether lines allow the member symbol with this rank after T.
+fn allows_member(alphabet: &Alphabet, derivation: &Derivation, subject: TermId, rank: u64) -> bool
+    requires derivation { IsUnderWay derivation.now }
+    requires subject { IsOf derivation.now.table subject }
+    ensures { Decides result
+        (AllowsSymbol alphabet.now derivation.now
+        (term_at derivation.now.table subject) (Member rank)) }
+{
+    if rank >= alphabet.members.items().len() as u64 {
+        return false;
+    }
+    let named = member_at(alphabet, rank);
+    if is_stated(derivation, conf_statement(subject, named.proto)) {
+        return allows_name(alphabet, derivation, subject, named.name);
+    }
+    false
+}
+
+/// Whether lines allow the symbol after T.
+fn allows_symbol(
+    alphabet: &Alphabet,
+    derivation: &Derivation,
+    subject: TermId,
+    symbol: Symbol,
+) -> bool
+    requires derivation { IsUnderWay derivation.now }
+    requires subject { IsOf derivation.now.table subject }
+    ensures { Decides result (AllowsSymbol alphabet.now derivation.now
+        (term_at derivation.now.table subject) symbol) }
+{
+    match symbol {
+        Symbol::Proto(rank) => is_stated(derivation, conf_statement(subject, ProtoId { rank })),
+        Symbol::Layout => is_stated(derivation, layout_statement(subject)),
+        Symbol::Name(rank) => allows_name(alphabet, derivation, subject, NameId { rank }),
+        Symbol::Member(rank) => allows_member(alphabet, derivation, subject, rank),
+        Symbol::Param(depth, index) => alphabet.params.has(ParamId { depth, index }),
+    }
+}
+
+/// What the word is read as if lines allow it after T, or None if they do not.
+fn read_if_allowed(
+    alphabet: &Alphabet,
+    derivation: &mut Derivation,
+    subject: TermId,
+    word: &[Symbol],
+) -> Result<Option<TermId>, AllocError>
+    requires derivation { IsUnderWay derivation.old }
+    requires subject { IsOf derivation.old.table subject }
+    ensures told { IfOk result (λ o. MatchOption o
+        (AllowsWord alphabet.now derivation.new (term_at derivation.old.table subject) word.now → ⊥)
+        (IsReadAs alphabet.now derivation.new (term_at derivation.old.table subject) word.now)) }
+    ensures grows { AddsLines derivation.old derivation.new }
+    ensures derives { OnOk result (IsStillDerived derivation.old derivation.new) }
+{
+    let mut at = subject;
+    for k in 0..word.len() {
+        if !allows_symbol(alphabet, derivation, at, word[k]) {
+            return Ok(None);
+        }
+        at = read_symbol(alphabet, derivation, at, word[k])?;
+    }
+    Ok(Some(at))
+}
+
+/// Whether the two ids are one, or a line states that they are equal.
+fn are_equal(derivation: &Derivation, left: TermId, right: TermId) -> bool
+    requires derivation { IsUnderWay derivation.now }
+    requires left { IsOf derivation.now.table left }
+    requires right { IsOf derivation.now.table right }
+    ensures { Decides result
+        (AreStatedEqual derivation.now (term_at derivation.now.table left)
+        (term_at derivation.now.table right)) }
+{
+    if are_one(derivation, left, right) {
+        return true;
+    }
+    is_stated(derivation, same_statement(left, right))
+}
+
+/// Whether the two words are read alike after T: lines allow both, and state that they are read as equal type parameters.
+pub fn are_read_equal(
+    alphabet: &Alphabet,
+    derivation: &mut Derivation,
+    subject: TermId,
+    from: &[Symbol],
+    to: &[Symbol],
+) -> Result<bool, AllocError>
+    requires derivation { IsUnderWay derivation.old }
+    requires subject { IsOf derivation.old.table subject }
+    ensures told { IfOk result (λ yes.
+        Decides yes (AreReadEqual alphabet.now derivation.new
+        (term_at derivation.old.table subject) from.now to.now)) }
+    ensures grows { AddsLines derivation.old derivation.new }
+    ensures derives { OnOk result (IsStillDerived derivation.old derivation.new) }
+{
+    let first = read_if_allowed(alphabet, derivation, subject, from)?;
+    match first {
+        None => Ok(false),
+        Some(left) => {
+            let second = read_if_allowed(alphabet, derivation, subject, to)?;
+            match second {
+                None => Ok(false),
+                Some(right) => Ok(are_equal(derivation, left, right)),
+            }
+        }
+    }
+}

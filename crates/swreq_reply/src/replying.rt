@@ -1,0 +1,178 @@
+//! What a command answers of an input.
+ghost use Rattle.std.specs.Prelude.{◌≡◌, List, IfOk, OnErr};
+ghost use Rattle.swreq_complete.specs.Limits.{AreInRange};
+ghost use Rattle.swreq_decl.specs.Skeletons.{StandsFor};
+ghost use Rattle.swreq_symbols.specs.Known.{IsTextOver};
+ghost use Rattle.swreq_watch.specs.declared.events.Event.{Event};
+ghost use Rattle.swreq_world.specs.ByTable.{world_by};
+ghost use Rattle.swreq_world.specs.Short.{IsShort};
+ghost use Rattle.swreq_query.specs.Ended.{IsWorldOfText};
+ghost use Rattle.swreq_reply.specs.declared.outcome.Outcome.{Outcome};
+ghost use Rattle.swreq_reply.specs.Contents.{AreJudgements, content_of};
+ghost use Rattle.swreq_reply.specs.Replies.{IsToldVerdict, IsVerdictAlone, Replies, WasToldPart};
+ghost use Rattle.swreq_reply.specs.Requests.{IsRequest, line_of, parts_of, printed_of};
+ghost use Rattle.swreq_reply.specs.Verdict.{IsRefused, answered_text, limits_of};
+ghost use Rattle.swreq_reply.specs.Wanted.{HasCount};
+
+use crate::content::{Content, content_of};
+use crate::finishing::checked;
+use crate::laws::one_verdict;
+use crate::outcome::{Outcome, refused, unread, unresolved};
+use crate::request::{Request, parts_of, second_at};
+use std::alloc::{AllocError, Global};
+use swreq_decl::laws::one_skeleton;
+use swreq_decl::{Skeleton, parse};
+use swreq_lex::TEXT_LIMIT;
+use swreq_lines::LinesErr;
+use swreq_param::ParamTable;
+use swreq_print::RefusalKind;
+use swreq_print::laws::names_tell_ids_apart;
+use swreq_text::Seq;
+use swreq_verify::verify;
+use swreq_watch::Watch;
+use swreq_words::{CommandLine, Input};
+use swreq_world::World;
+
+/// What a command answers of an input; of `gen` the input is the generated text, and the one that is given is not looked at.
+///
+/// An input is refused, with its line and status 1, where it is too long, lacks the second part that the command reads, is not in the
+/// language, its names do not resolve, a protocol inherits itself, or a side of a requirement is no type parameter, and then where its
+/// second part does not fit, or stands for no calls, or a name of these is refused; with status 3 where a completion passes a limit before
+/// that, in minimising, or in finding requirement signatures; `--trace` puts the lines of the trace after it. Other inputs have status 0
+/// and what the command prints. The watcher is told the events of the rounds. Err says that memory ran out.
+pub fn reply<W: Watch>(
+    alloc: Global,
+    line: &CommandLine,
+    text: &[u8],
+    watch: &mut W,
+) -> Result<Outcome, AllocError>
+    requires limits { AreInRange (limits_of line.now) }
+    requires count { HasCount line.now }
+    ensures verdict { IfOk result (IsToldVerdict line.now (answered_text line.now text.now)
+        (W.told watch.old) (W.told watch.new)) }
+    ensures told_part { OnErr result (WasToldPart line.now (answered_text line.now text.now)
+        (W.told watch.old) (W.told watch.new)) }
+    ensures refused { (o : Outcome) (told : List Event)
+        → IsRefused line.now (answered_text line.now text.now) o told
+        → IfOk result (λ answer. answer ≡ o) }
+{
+    match line.command.input() {
+        Input::Nothing => {
+            let generated = swreq_gen::text(alloc, line.count)?;
+            read(alloc, line, &generated, watch)
+        }
+        _ => read(alloc, line, text, watch),
+    }
+}
+
+/// Reads the input, and answers it.
+fn read<W: Watch>(
+    alloc: Global,
+    line: &CommandLine,
+    input: &[u8],
+    watch: &mut W,
+) -> Result<Outcome, AllocError>
+    requires limits { AreInRange (limits_of line.now) }
+    requires count { HasCount line.now }
+    ensures reply { Replies line.now input.now (W.told watch.old) (W.told watch.new) result }
+    ensures refused { (o : Outcome) (told : List Event) → IsRefused line.now input.now o told
+        → IfOk result (λ answer. answer ≡ o) }
+{
+    if input.len() > TEXT_LIMIT {
+        return refused(alloc, RefusalKind::TooLarge);
+    }
+    match parts_of(line.command, input) {
+        None => refused(alloc, RefusalKind::MissingPart),
+        Some(parts) => {
+            one_verdict(input, parts.source, second_at(parts));
+            let request = Request { alloc, line, parts };
+            with_source(&request, watch)
+        }
+    }
+}
+
+/// What is answered of the source text.
+fn with_source<W: Watch>(r: &Request<'_>, watch: &mut W) -> Result<Outcome, AllocError>
+    requires { IsRequest r.now }
+    ensures { Replies (line_of r.now) (parts_of r.now).input (W.told watch.old)
+        (W.told watch.new) result }
+{
+    match parse(r.alloc, r.parts.source) {
+        Ok(skeleton) => with_skeleton(r, &skeleton, watch),
+        Err(e) => unread(r.alloc, e),
+    }
+}
+
+/// What is answered where this skeleton stands for the source text.
+fn with_skeleton<W: Watch>(
+    r: &Request<'_>,
+    skeleton: &Skeleton,
+    watch: &mut W,
+) -> Result<Outcome, AllocError>
+    requires request { IsRequest r.now }
+    requires stands { StandsFor (parts_of r.now).source skeleton.now }
+    ensures { Replies (line_of r.now) (parts_of r.now).input (W.told watch.old)
+        (W.told watch.new) result }
+{
+    let mut table = ParamTable::new(r.alloc);
+    over_table(r, skeleton, &mut table, watch)
+}
+
+/// Resolves the names, with the type parameters of the text in this table, and answers.
+fn over_table<W: Watch>(
+    r: &Request<'_>,
+    skeleton: &Skeleton,
+    table: &mut ParamTable,
+    watch: &mut W,
+) -> Result<Outcome, AllocError>
+    requires request { IsRequest r.now }
+    requires stands { StandsFor (parts_of r.now).source skeleton.now }
+    ensures { Replies (line_of r.now) (parts_of r.now).input (W.told watch.old)
+        (W.told watch.new) result }
+{
+    one_skeleton(r.parts.source);
+    match World::resolve(r.alloc, r.parts.source, skeleton, table) {
+        Ok(world) => with_world(r, &world, table, watch),
+        Err(e) => unresolved(r.alloc, e),
+    }
+}
+
+/// What is answered where this is the world of the source text.
+fn with_world<W: Watch>(
+    r: &Request<'_>,
+    world: &World,
+    table: &mut ParamTable,
+    watch: &mut W,
+) -> Result<Outcome, AllocError>
+    requires request { IsRequest r.now }
+    requires world { IsWorldOfText (parts_of r.now).source (world_by table.old world.now) }
+    requires text { IsTextOver table.old world.now }
+    requires short { IsShort world.now }
+    ensures { Replies (line_of r.now) (parts_of r.now).input (W.told watch.old)
+        (W.told watch.new) result }
+{
+    match content_of(r.line) {
+        Content::Judgements => judged(r, world, table),
+        _ => checked(r, world, table, watch),
+    }
+}
+
+/// What the checker of derivations says of the second part, with nothing told.
+fn judged(r: &Request<'_>, world: &World, table: &mut ParamTable) -> Result<Outcome, AllocError>
+    requires request { IsRequest r.now }
+    requires world { IsWorldOfText (parts_of r.now).source (world_by table.old world.now) }
+    requires text { IsTextOver table.old world.now }
+    requires judges { AreJudgements (printed_of r.now) }
+    ensures { IfOk result (IsVerdictAlone (line_of r.now) (parts_of r.now).input) }
+{
+    names_tell_ids_apart(r.parts.source);
+    let mut out = Vec::new(r.alloc);
+    match verify(r.alloc, world, table, r.parts.second, &mut out) {
+        Ok(()) => Ok(Outcome {
+            status: 0,
+            output: Seq::new(out),
+        }),
+        Err(LinesErr::Syntax { line }) => refused(r.alloc, RefusalKind::DerivationSyntax { line }),
+        Err(LinesErr::Memory) => Err(AllocError),
+    }
+}

@@ -1,9 +1,0 @@
-use Rattle.std.proofs.Common.{ap, refl}
-use Rattle.swreq_param.specs.Tables.{term_at}
-use Rattle.swreq_derive.specs.Facts.{statement_of}
-use Rattle.swreq_sheet.proofs.requirements.written_conf.Goals as goal
-
-pub returns-clause-derives : goal.returns-clause-derives
-returns-clause-derives c b h =
-    let terms = c.args.sheet.now.table in
-    c.in_ok-from_none.ensures.derives b (term_at terms c.args.t, c.args.p, refl, ap (statement_of terms) c.conf.ensures, h)

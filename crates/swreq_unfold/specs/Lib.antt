@@ -1,4 +1,0 @@
-pub mod Heads
-pub mod Types
-pub mod Readings
-pub mod Systems

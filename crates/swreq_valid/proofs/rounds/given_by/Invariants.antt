@@ -1,7 +1,0 @@
-use Rattle.std.proofs.Common.{◌≡◌, ◌++◌}
-use Rattle.swreq_valid.proofs.Planning.{left_from}
-use Rattle.swreq_valid.proofs.rounds.given_by.Given as goal
-
-abbrev pub invariant-loop-k : goal.invariant-loop-k
-invariant-loop-k l =
-    l.v.items ++ left_from l.world l.table l.start l.used l.k ≡ l.start.basic.items ++ left_from l.world l.table l.start l.used 0

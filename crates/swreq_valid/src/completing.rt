@@ -1,0 +1,120 @@
+//! The equations of a round, and the rules to which they complete.
+ghost use Rattle.std.specs.Prelude.{◌≡◌, List, [], ◌∷◌, ◌++◌, length, IfOk, OnOk, vec_len};
+ghost use Rattle.std.specs.Bool.{if◌then◌else◌};
+ghost use Rattle.swreq_derive.specs.Derivation.{TermRequirement};
+ghost use Rattle.swreq_rule.specs.declared.rules.Rule.{Rule};
+ghost use Rattle.swreq_complete.specs.Answers.{IsAnswer};
+ghost use Rattle.swreq_complete.specs.Events.{TellsEvents};
+ghost use Rattle.swreq_complete.specs.Limits.{AreInRange};
+ghost use Rattle.swreq_rounds.specs.Plan.{equation_of, given};
+ghost use Rattle.swreq_symbols.specs.Known.{IsRequirementIn, IsTextOver};
+ghost use Rattle.swreq_symbols.specs.Meaning.{symbols_of};
+ghost use Rattle.swreq_valid.specs.Flags.{chosen};
+ghost use Rattle.swreq_valid.specs.Plans.{AreWanted, item_of, items_of, plan_of};
+ghost use Rattle.swreq_valid.specs.Rounds.{first_rules};
+
+use crate::wanted::{RoundRequirement, RoundStart};
+use std::alloc::{AllocError, Global};
+use swreq_complete::{CompleteRules, Failed, extend};
+use swreq_param::ParamTable;
+use swreq_symbols::{Text, equation};
+use swreq_watch::Watch;
+use swreq_word::Word;
+use swreq_world::World;
+
+/// Copies of the equations, in order.
+fn copies(alloc: Global, equations: &[(Word, Word)]) -> Result<Vec<(Word, Word)>, AllocError>
+    ensures { IfOk result (λ v. v.items ≡ equations.now) }
+{
+    let mut v = Vec::new(alloc);
+    for e in equations {
+        let left = e.0.clone()?;
+        let right = e.1.clone()?;
+        v.push((left, right))?;
+    }
+    Ok(v)
+}
+
+/// Puts the equation of the requirement last, where its flag is set.
+fn join(
+    alloc: Global,
+    world: &World,
+    table: &ParamTable,
+    want: &RoundRequirement,
+    used: bool,
+    equations: &mut Vec<(Word, Word)>,
+) -> Result<(), AllocError>
+    requires text { IsTextOver table.now world.now }
+    requires want { IsRequirementIn table.now world.now.lexicon want.now.requirement }
+    ensures { OnOk result ((rs : List TermRequirement) → equations.new.items
+        ≡ equations.old.items ++ (if used then equation_of (symbols_of world.now.lexicon)
+        (item_of table.now rs want.now) ∷ [] else [])) }
+{
+    if used {
+        let e = equation(alloc, world, table, want.over.owner(), &want.requirement)?;
+        equations.push(e)?;
+    }
+    Ok(())
+}
+
+/// The equations of the round that uses the requirements whose flags are set.
+pub(crate) fn given_by(
+    alloc: Global,
+    world: &World,
+    table: &ParamTable,
+    start: &RoundStart,
+    used: &[bool],
+) -> Result<Vec<(Word, Word)>, AllocError>
+    requires text { IsTextOver table.now world.now }
+    requires wanted { AreWanted table.now world.now.lexicon start.now.all.items }
+    requires flags { length used.now ≡ vec_len start.now.all }
+    ensures { (base : List Rule)
+        → IfOk result (λ v. v.items ≡ given (plan_of world.now table.now base start.now) (chosen
+        (items_of table.now start.now.all.items) used.now)) }
+{
+    let mut v = copies(alloc, &start.basic)?;
+    for k in 0..start.all.len() {
+        let want = &start.all[k];
+        join(alloc, world, table, want, used[k], &mut v)?;
+    }
+    Ok(v)
+}
+
+/// The rules from which each round starts: those that are borrowed, or none.
+pub(crate) fn first_rules<'b>(
+    alloc: Global,
+    below: Option<&'b CompleteRules<'b>>,
+) -> Result<CompleteRules<'b>, AllocError>
+    ensures { IfOk result (λ rules. rules ≡ first_rules below.entry) }
+{
+    match below {
+        None => Ok(CompleteRules::empty(alloc)),
+        Some(rules) => rules.over(alloc),
+    }
+}
+
+/// Completes the equations of the round that uses the requirements whose flags are set.
+pub(crate) fn complete<'b, W: Watch>(
+    alloc: Global,
+    text: &Text<'_>,
+    below: Option<&'b CompleteRules<'b>>,
+    start: &RoundStart,
+    used: &[bool],
+    watch: &mut W,
+) -> Result<CompleteRules<'b>, Failed>
+    requires text { IsTextOver text.now.table.now text.now.world.now }
+    requires limits { AreInRange start.now.limits }
+    requires wanted { AreWanted text.now.table.now text.now.world.now.lexicon start.now.all.items }
+    requires flags { length used.now ≡ vec_len start.now.all }
+    ensures answer { IsAnswer start.now.limits (first_rules below.entry)
+        (given (plan_of text.now.world.now text.now.table.now (first_rules below.entry) start.now)
+        (chosen (items_of text.now.table.now start.now.all.items) used.now)) result }
+    ensures told { TellsEvents start.now.limits (first_rules below.entry)
+        (given (plan_of text.now.world.now text.now.table.now (first_rules below.entry) start.now)
+        (chosen (items_of text.now.table.now start.now.all.items) used.now))
+        (W.told watch.old) (W.told watch.new) result }
+{
+    let equations = given_by(alloc, text.world, text.table, start, used)?;
+    let first = first_rules(alloc, below)?;
+    extend(alloc, first, &equations, start.limits, watch)
+}
