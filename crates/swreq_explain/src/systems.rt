@@ -151,9 +151,8 @@ fn assemble<'b>(
     })
 }
 
-/// The history of the machine of a signature, over what is the same for all signatures of its text. Lines are written from it for all that
-/// the
-/// machine answers.
+/// The history of the machine of a signature, over what is the same for all signatures of its text. From it lines are written for all that
+/// the machine answers.
 pub fn history_of<'b>(
     alloc: Global,
     text: &Text<'_>,

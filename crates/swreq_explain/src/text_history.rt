@@ -24,8 +24,7 @@ use swreq_symbols::Text;
 use swreq_text::Seq;
 use swreq_valid::Protocols;
 
-/// What is the same for the histories of all signatures of a text: its names and its written inheritance, and the systems of the rounds of
-/// its
+/// What is the same for the histories of all signatures of a text: its names, its written inheritance, and the systems of the rounds of its
 /// protocols.
 #[derive(Drop)]
 pub struct TextHistory {
