@@ -5,6 +5,7 @@
 #include <string.h>
 
 struct row {
+    const char *name; /* what it shows */
     const char *words; /* of which each ends in a zero byte */
     size_t words_length;
     const char *text;
@@ -15,10 +16,10 @@ struct row {
 #define WORDS(words) words, sizeof words - 1
 
 static const struct row rows[] = {
-    {WORDS("answer"), "func f<T>() query f(T : AnyObject)", GENREQ_ANSWERED, "no\n"},
-    {WORDS("answer"), "class C { }", GENREQ_REFUSED, "error: unsupported class at 0\n"},
-    {WORDS("fly"), "", GENREQ_WRONG_WORDS, "usage: genreq ("},
-    {WORDS("answer\0--max-rules\0" "1"), "protocol P { } protocol Q: P { }", GENREQ_LIMIT, "error: more than 1 rules\n"},
+    {"a text that is answered", WORDS("answer"), "func f<T>() query f(T : AnyObject)", GENREQ_ANSWERED, "no\n"},
+    {"a text that is refused", WORDS("answer"), "class C { }", GENREQ_REFUSED, "error: unsupported class at 0\n"},
+    {"no command", WORDS("fly"), "", GENREQ_WRONG_WORDS, "usage: genreq ("},
+    {"a protocol past the limit of rules", WORDS("answer\0--max-rules\0" "1"), "protocol P { } protocol Q: P { }", GENREQ_LIMIT, "error: more than 1 rules\n"},
 };
 
 int main(void) {
@@ -30,9 +31,9 @@ int main(void) {
                                                  out, sizeof out);
         size_t length = strlen(row->printed);
         if (answer.status != row->status)
-            return printf("%s: the status is %d, and not %d\n", row->text, answer.status, row->status), 1;
+            return printf("%s: the status is %d, and not %d\n", row->name, answer.status, row->status), 1;
         if (answer.count < length || memcmp(out, row->printed, length))
-            return printf("%s: another line is printed\n", row->text), 1;
+            return printf("%s: another line is printed\n", row->name), 1;
     }
     return 0;
 }

@@ -1,20 +1,22 @@
 """Runs the program on the worked texts of tests/, and fails at the first run that prints another text, or ends with another status, than is wanted.
 
 A file tests/NAME.rows has rows. A row begins with a line `==== NAME`, then stands its text, and after it, for each run, a line `---- WORDS: STATUS` and
-what is to be printed. The newline before such a line is no part of a text, so a text ends where its last line does; of what is printed it is one.
+what is to be printed. No other row of the file has its name. The newline before such a line is no part of a text, so a text ends where its last line does;
+of what is printed it is one. A text that is a line `< FILE` alone is that of examples/FILE.
 The words are split as a shell does, so `''` is the empty word. In a text `\\xHH` is the byte with this number in small hexadecimal digits.
 
 A text that `answer` is to answer with status 0 is explained too, and its derivations are verified.
 
-A file tests/NAME.lines has a row in each line, `WANTED | TEXT`: `answer` refuses the text with the line `error: WANTED` and status 1, or, where `ok` is
-wanted, refuses nothing."""
+A file tests/NAME.lines has a row in each line, `WANTED | TEXT`, which is its own name: `answer` refuses the text with the line `error: WANTED` and
+status 1, or, where `ok` is wanted, refuses nothing."""
 import pathlib
 import re
 import shlex
 import subprocess
 import sys
+from collections import Counter
 from dataclasses import dataclass
-from typing import Iterator, List, Optional, Tuple
+from typing import Iterator, List, Optional, Set, Tuple
 
 HERE = pathlib.Path(__file__).resolve().parent.parent
 PROGRAM = HERE / "genreq"
@@ -40,24 +42,43 @@ class TooLong(Exception):
     """A run takes more than SECONDS."""
 
 
+def text_of(place: str, written: str) -> str:
+    """The text of a row as it is written there, or that of an example."""
+    example = re.fullmatch(r"< (\S+)", written)
+    if not example:
+        return written
+    file = HERE / "examples" / example[1]
+    if not file.is_file():
+        raise Malformed("%s: there is no examples/%s" % (place, example[1]))
+    return file.read_text(encoding="utf-8")
+
+
 def runs_of_rows(name: str, content: str) -> Iterator[Run]:
     """The runs of a file of rows."""
     first, *rows = re.split(r"^==== (.*)\n", content, flags=re.M)
     if first.strip() or not rows:
         raise Malformed("%s: it begins with no line ==== NAME" % name)
+    for title, count in Counter(rows[::2]).items():
+        if count > 1:
+            raise Malformed("%s: %d rows have the name %s" % (name, count, title))
     for title, body in zip(rows[::2], rows[1::2]):
+        place = "%s: %s" % (name, title)
         text, *parts = re.split(r"^---- (.*): (\d+)\n", body, flags=re.M)
         if not parts:
-            raise Malformed("%s: %s: no line ---- WORDS: STATUS" % (name, title))
+            raise Malformed("%s: no line ---- WORDS: STATUS" % place)
         for words, status, wanted in zip(parts[::3], parts[1::3], parts[2::3]):
-            yield Run("%s: %s" % (name, title), shlex.split(words), text[:-1], int(status), wanted)
+            yield Run(place, shlex.split(words), text_of(place, text[:-1]), int(status), wanted)
 
 
 def runs_of_lines(name: str, content: str) -> Iterator[Run]:
     """The runs of a file with a row in each line."""
+    seen: Set[str] = set()
     for number, line in enumerate(content.splitlines(), 1):
         wanted, bar, text = line.partition(" | ")
-        place = "%s:%d" % (name, number)
+        place = "%s:%d: %s" % (name, number, line)
+        if line in seen:
+            raise Malformed("%s: another row is the same" % place)
+        seen.add(line)
         if not bar:
             raise Malformed("%s: no bar between what is wanted and the text" % place)
         if wanted == "ok":

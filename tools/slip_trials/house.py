@@ -3,6 +3,8 @@ from dataclasses import dataclass
 from pathlib import Path
 from typing import Dict, Iterator, List, Sequence, Tuple
 
+from .reasons import fault_of
+
 GATE, SLIPS = "must-fail", "slips"
 EDIT = ".edit"
 
@@ -34,17 +36,20 @@ def edits_in(folder: Path) -> Iterator[str]:
 
 
 def slips_of(top: Path) -> SlipsByCrate:
-    """The slips of each crate that has some. Raises HouseFault where two edits, slips or not, have the same name."""
+    """The slips of each crate that has some. Raises HouseFault where two edits, slips or not, have the same name, or one does not say what refuses it."""
     found: SlipsByCrate = {}
     owners: Dict[str, str] = {}
     for crate in sorted(path for path in (top / "crates").iterdir() if path.is_dir()):
         slips = tuple(Slip(crate.name, name) for name in edits_in(crate / SLIPS))
         if slips:
             found[crate.name] = slips
-        for name in [*edits_in(crate / GATE), *(slip.name for slip in slips)]:
+        for folder, name in [(folder, name) for folder in (GATE, SLIPS) for name in edits_in(crate / folder)]:
             if name in owners:
                 raise HouseFault("two edits have the name %s, of %s and of %s" % (name, owners[name], crate.name))
             owners[name] = crate.name
+            fault = fault_of(top, (crate / folder / (name + EDIT)).read_text(encoding="utf-8").partition("\n")[0])
+            if fault:
+                raise HouseFault("edit %s/%s: %s" % (crate.name, name, fault))
     return found
 
 

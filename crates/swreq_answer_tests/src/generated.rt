@@ -52,12 +52,12 @@ query f(T.A3 : L1)
 query f()
 ";
 
-/// The generated text of n, for 1 to 3.
-fn wanted(n: u32) -> &'static str {
+/// The generated text of n, for 1 to 3, and its name.
+fn wanted(n: u32) -> (&'static str, &'static str) {
     match n {
-        1 => FIRST,
-        2 => SECOND,
-        _ => THIRD,
+        1 => ("a protocol whose member conforms to it", FIRST),
+        2 => ("two protocols in a ring", SECOND),
+        _ => ("three protocols in a ring", THIRD),
     }
 }
 
@@ -66,7 +66,8 @@ fn assert_generated(rt: &impl Abort, alloc: Global, n: u32) -> Result<(), AllocE
     requires { (1 ≤ n) × (n ≤ 100) }
 {
     let made = text(alloc, n)?;
-    assert_text(rt, alloc, &made, wanted(n))
+    let (name, wanted) = wanted(n);
+    assert_text(rt, alloc, name, &made, wanted)
 }
 
 /// How long the generated text of 100 is.

@@ -50,10 +50,8 @@ fn put_again(alloc: Global, names: &Lexicon, text: &[u8], out: &mut Vec<u8>) -> 
     requires short { length text.now ≤ 1048576 }
 {
     let mut table = ParamTable::new(alloc);
-    match read_lines(alloc, names, &mut table, text) {
-        Ok(lines) => Ok(lines_text(alloc, names, &table, &lines, out)?),
-        Err(_) => Err("lines that cannot be read".into()),
-    }
+    let lines = read_lines(alloc, names, &mut table, text)?;
+    Ok(lines_text(alloc, names, &table, &lines, out)?)
 }
 
 /// Asserts that a line by each rule is read and printed again.
@@ -62,7 +60,7 @@ fn assert_again(rt: &impl Abort, alloc: Global, names: &Lexicon) -> Result<(), F
 {
     let mut out = Vec::new(alloc);
     put_again(alloc, names, EACH_RULE.as_bytes(), &mut out)?;
-    Ok(assert_text(rt, alloc, &out, EACH_RULE)?)
+    Ok(assert_text(rt, alloc, "each rule", &out, EACH_RULE)?)
 }
 
 /// Asserts that the lines are read and printed again with the names of a text.
@@ -72,13 +70,9 @@ fn assert_with_names(rt: &impl Abort, alloc: Global, text: &[u8], s: &Skeleton) 
 {
     lists_are_short(text);
     names_tell_ids_apart(text);
-    match resolve_names(alloc, text, s) {
-        Ok(names) => {
-            let names = Lexicon::of(alloc, text, s, names)?;
-            assert_again(rt, alloc, &names)
-        }
-        Err(_) => Err("a refusal of names".into()),
-    }
+    let names = resolve_names(alloc, text, s)?;
+    let names = Lexicon::of(alloc, text, s, names)?;
+    assert_again(rt, alloc, &names)
 }
 
 /// Each kind of statement, and each rule.

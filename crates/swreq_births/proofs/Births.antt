@@ -8,7 +8,7 @@ use Rattle.swreq_word.specs.declared.symbols.Symbol.{Symbol}
 use Rattle.swreq_rule.specs.declared.rules.Rule.{Rule}
 use Rattle.swreq_rule.specs.Steps.{RuleAt}
 use Rattle.swreq_rule.specs.Oriented.{IsOriented}
-use Rattle.swreq_orders.proofs.Elements.{get_of_map}
+use Rattle.swreq_lemmas.proofs.Elements.{get_of_map}
 use Rattle.swreq_rule.specs.declared.rules.Birth.{Birth}
 use Rattle.swreq_rule.specs.declared.rules.Birth.TheVariants.{Given, Pair}
 use Rattle.swreq_complete.specs.Moments.{HasSides, greater_number}

@@ -9,7 +9,7 @@ use Rattle.swreq_param.specs.declared.ids.Step.{Step}
 use Rattle.swreq_param.specs.declared.ids.Step.TheVariants.{Bound, Name}
 use Rattle.swreq_param.specs.Terms.{Term, with_steps}
 use Rattle.swreq_param.specs.Terms.Term.{Generic, Member}
-use Rattle.swreq_orders.proofs.Elements.{get_map}
+use Rattle.swreq_lemmas.proofs.Elements.{get_map}
 use Rattle.swreq_word.specs.declared.symbols.Symbol.{Symbol}
 use Rattle.swreq_word.specs.declared.symbols.Symbol.TheVariants.{Proto, Member as MemberSymbol, Name as NameSymbol}
 use Rattle.swreq_rule.specs.declared.rules.Rule.{Rule}

@@ -3,3 +3,4 @@ pub mod Members
 pub mod Readings
 pub mod Systems
 pub mod Types
+pub mod Unfolding

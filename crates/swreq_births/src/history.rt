@@ -3,7 +3,7 @@ ghost use Rattle.std.specs.Prelude.{◌≡◌, ◌-◌, ◌<◌, ◌≤◌, ◌^
 ghost use Rattle.swreq_births.specs.Systems.{rules_at, system_at, systems_of};
 
 use swreq_param::{ProtoId, TypeParam};
-use swreq_readings::Alphabet;
+use swreq_readings::{Alphabet, Sides};
 use swreq_rule::Rule;
 use swreq_text::Seq;
 use swreq_word::Word;
@@ -113,6 +113,17 @@ pub(crate) fn equation_at<'a>(
 {
     let system = system_at(history, system);
     &system.given.items()[number - 1]
+}
+
+/// The two sides of an equation.
+pub(crate) fn sides_of(equation: &Equation) -> Sides<'_>
+    ensures from { result.from.now ≡ equation.now.left }
+    ensures to { result.to.now ≡ equation.now.right }
+{
+    Sides {
+        from: equation.left.symbols(),
+        to: equation.right.symbols(),
+    }
 }
 
 /// All rules of a system.

@@ -5,10 +5,10 @@ ghost use Rattle.swreq_param.specs.Terms.{self};
 ghost use Rattle.swreq_param.specs.Terms.Term.{Member};
 ghost use Rattle.swreq_derive.specs.Derivation.TermRequirement.{Conforms};
 ghost use Rattle.swreq_derive.specs.Derivation.TermStatement.{Requires};
-ghost use Rattle.swreq_derivation.specs.UnderWay.{AddsLines, Assumptions, IsUnderWay, States, StaysDerived};
+ghost use Rattle.swreq_derivation.specs.UnderWay.{AddsLines, IsUnderWay, States};
 ghost use Rattle.swreq_readings.specs.Readable.{IsGiven};
 ghost use Rattle.swreq_births.specs.Members.{AreWritten, IsMemberRequirement, IsWrittenOfMember};
-ghost use Rattle.swreq_births.specs.Systems.{FitsHistory, requirement_by};
+ghost use Rattle.swreq_births.specs.Systems.{IsStillDerivedBy, requirement_by};
 
 use crate::history::{Equation, History, OwnedRequirement, Reason, system_at};
 use std::alloc::AllocError;
@@ -112,9 +112,7 @@ pub fn conform_by_member(
         → States derivation.new (Requires (Conforms (term_at derivation.old.table t) protocol))) }
     ensures unchanged { IfOk result (λ done. done ≡ false → derivation.new ≡ derivation.old) }
     ensures grows { AddsLines derivation.old derivation.new }
-    ensures derives { OnOk result
-        ((b : Assumptions) → FitsHistory history.now b
-        → StaysDerived b derivation.old derivation.new) }
+    ensures derives { OnOk result (IsStillDerivedBy history.now derivation.old derivation.new) }
 {
     let Some((base, member)) = derivation.table.split(t) else {
         return Ok(false);
@@ -150,9 +148,7 @@ fn written_step(
         (IsGiven history.now.alphabet derivation.new (term_at derivation.old.table t) step)) }
     ensures unchanged { IfOk result (λ o. o ≡ None → derivation.new ≡ derivation.old) }
     ensures grows { AddsLines derivation.old derivation.new }
-    ensures derives { OnOk result
-        ((b : Assumptions) → FitsHistory history.now b
-        → StaysDerived b derivation.old derivation.new) }
+    ensures derives { OnOk result (IsStillDerivedBy history.now derivation.old derivation.new) }
 {
     let named = declared_at(&history.alphabet, k);
     if is_of_step(step, k, named) && conform_by_member(history, derivation, t, named.proto)? {
@@ -175,9 +171,7 @@ pub(crate) fn known_step(
     ensures given { IfOk result (λ o. IfSome o
         (IsGiven history.now.alphabet derivation.new (term_at derivation.old.table t) step)) }
     ensures grows { AddsLines derivation.old derivation.new }
-    ensures derives { OnOk result
-        ((b : Assumptions) → FitsHistory history.now b
-        → StaysDerived b derivation.old derivation.new) }
+    ensures derives { OnOk result (IsStillDerivedBy history.now derivation.old derivation.new) }
 {
     if let Some(named) = given_step(&history.alphabet, derivation, t, step) {
         return Ok(Some(named));

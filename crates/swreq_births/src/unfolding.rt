@@ -1,22 +1,21 @@
 //! The two sides of a rule, read after a type parameter.
-ghost use Rattle.std.specs.Prelude.{◌≡◌, OnOk, IfOk, List, take};
+ghost use Rattle.std.specs.Prelude.{◌≡◌, OnOk, IfOk, List};
 ghost use Rattle.swreq_param.specs.Owned.{as_term};
 ghost use Rattle.swreq_param.specs.Tables.{IsOf, term_at};
 ghost use Rattle.swreq_derive.specs.Instances.{HasNumber};
 ghost use Rattle.swreq_word.specs.declared.symbols.Symbol.{Symbol as SymbolView};
 ghost use Rattle.swreq_rule.specs.declared.rules.Birth.TheVariants as births;
-ghost use Rattle.swreq_path.specs.Paths.{HasTarget};
 ghost use Rattle.swreq_derivation.specs.UnderWay.{AddsLines, AreStatedEqual, Assumptions, IsUnderWay, StaysDerived};
 ghost use Rattle.swreq_readings.specs.Readable.{AllowsWord, AreReadEqual, IsGiven, read_word};
-ghost use Rattle.swreq_births.specs.Heads.{ConformsIfAny, IsHeadStated};
-ghost use Rattle.swreq_births.specs.Systems.{FitsHistory, HasEquation, HasRule, HasRules, HasShownSides, HasSystem, IsBornAt, IsShown, IsStillDerivedBy};
-ghost use Rattle.swreq_births.specs.Systems.{ReducesTo, requirement_by, rules_at};
+ghost use Rattle.swreq_births.specs.Heads.{ConformsIfAny};
+ghost use Rattle.swreq_births.specs.Systems.{FitsHistory, HasRule, HasRules, HasShownSides, HasSystem, IsBornAt, IsShown, IsStillDerivedBy, ReducesTo, requirement_by, rules_at};
 ghost use Rattle.swreq_births.specs.Types.{IsStepShown, placed, written_by};
+ghost use Rattle.swreq_births.specs.Unfolding.{AllowsEquation, AllowsRule, AllowsScope, IsSaid, LeadsTo};
 
 use crate::giving::{Origin, give_conf, give_layout, give_member, give_same};
 use crate::history::{
     Equation, History, OwnedRequirement, Reason, RulePlace, all_of, all_rules, equation_at,
-    rules_before, system_at,
+    rules_before, sides_of, system_at,
 };
 use crate::members::known_step;
 use crate::pairs::{close, pair_sides};
@@ -44,34 +43,27 @@ pub(crate) fn walk_along(
     requires rules { HasRules history.now at }
     requires derivation { IsUnderWay derivation.old }
     requires subject { IsOf derivation.old.table subject }
-    requires path { (b : List SymbolView)
-        × HasTarget (take at.rule (rules_at history.now at.system)) path.now b }
+    requires path { (b : List SymbolView) × LeadsTo history.now at path.now b }
     requires word { AllowsWord history.now.alphabet derivation.old
         (term_at derivation.old.table subject) path.now.start }
-    ensures target { IfOk result
-        (λ w. HasTarget (take at.rule (rules_at history.now at.system)) path.now w) }
-    ensures both { IfOk result
-        (λ w. AreReadEqual history.now.alphabet derivation.new
+    ensures target { IfOk result (λ w. LeadsTo history.now at path.now w) }
+    ensures both { IfOk result (λ w. AreReadEqual history.now.alphabet derivation.new
         (term_at derivation.old.table subject) path.now.start w) }
     ensures grows { AddsLines derivation.old derivation.new }
     ensures derives { OnOk result (IsStillDerivedBy history.now derivation.old derivation.new) }
 {
+    let alphabet = &history.alphabet;
     let rules = rules_before(history, at);
     let mut word = path.start.clone()?;
     for k in 0..path.steps.items().len() {
         let step = step_of(path, k);
         let rule = rule_of(rules, step.rule);
-        let v = read_word(
-            &history.alphabet,
-            derivation,
-            subject,
-            step.before.symbols(),
-        )?;
+        let v = read_word(alphabet, derivation, subject, step.before.symbols())?;
         lines_of_rule(history, derivation, before(at, step.rule), rule, v)?;
-        take_step(&history.alphabet, derivation, subject, rule, step)?;
+        take_step(alphabet, derivation, subject, rule, step)?;
         let next = step.target(derivation.alloc, rules)?;
         join(
-            &history.alphabet,
+            alphabet,
             derivation,
             subject,
             path.start.symbols(),
@@ -100,8 +92,7 @@ fn settle(
         (term_at derivation.old.table subject) words.from.now words.to.now }
     requires reduces { ReducesTo (rules_at history.now at.system) at.rule
         words.from.now words.to.now rule.now }
-    ensures both { OnOk result (AreReadEqual history.now.alphabet derivation.new
-        (term_at derivation.old.table subject) rule.now.left rule.now.right) }
+    ensures both { OnOk result (IsSaid history.now derivation.old derivation.new subject rule.now) }
     ensures grows { AddsLines derivation.old derivation.new }
     ensures derives { OnOk result (IsStillDerivedBy history.now derivation.old derivation.new) }
 {
@@ -110,17 +101,11 @@ fn settle(
     let first = walk_along(history, derivation, at, subject, &forth)?;
     let back = path_of(derivation.alloc, rules, words.to)?;
     let last = walk_along(history, derivation, at, subject, &back)?;
-    close(
-        &history.alphabet,
-        derivation,
-        subject,
-        words,
-        Sides {
-            from: first.symbols(),
-            to: last.symbols(),
-        },
-        rule,
-    )?;
+    let ends = Sides {
+        from: first.symbols(),
+        to: last.symbols(),
+    };
+    close(&history.alphabet, derivation, subject, words, ends, rule)?;
     Ok(())
 }
 
@@ -134,13 +119,8 @@ pub fn lines_of_rule(
     rule: &Rule,
     subject: TermId,
 ) -> Result<(), AllocError>
-    requires rule { HasRule history.now at rule.now }
-    requires derivation { IsUnderWay derivation.old }
-    requires subject { IsOf derivation.old.table subject }
-    requires head { IsHeadStated history.now.alphabet derivation.old
-        (term_at derivation.old.table subject) rule.now.left }
-    ensures both { OnOk result (AreReadEqual history.now.alphabet derivation.new
-        (term_at derivation.old.table subject) rule.now.left rule.now.right) }
+    requires { AllowsRule history.now derivation.old at rule.now subject }
+    ensures both { OnOk result (IsSaid history.now derivation.old derivation.new subject rule.now) }
     ensures grows { AddsLines derivation.old derivation.new }
     ensures derives { OnOk result (IsStillDerivedBy history.now derivation.old derivation.new) }
 {
@@ -153,70 +133,25 @@ pub fn lines_of_rule(
         lines_of_rule(history, derivation, lower, rule, subject)?;
         return Ok(());
     }
-    let said = are_read_equal(
-        &history.alphabet,
-        derivation,
-        subject,
-        rule.left.symbols(),
-        rule.right.symbols(),
-    )?;
+    let left = rule.left.symbols();
+    let right = rule.right.symbols();
+    let said = are_read_equal(&history.alphabet, derivation, subject, left, right)?;
     if said {
         return Ok(());
     }
     match rule.birth {
         Birth::Given(n) => {
-            from_equation(history, derivation, at, rule, n, subject)?;
+            let equation = equation_at(history, at.system, n);
+            give_equation(history, derivation, at.system, equation, subject)?;
+            settle(history, derivation, at, rule, subject, sides_of(equation))?;
             Ok(())
         }
         Birth::Pair(i, j, place) => {
-            from_pair(
-                history,
-                derivation,
-                at,
-                rule,
-                Place { i, j, at: place },
-                subject,
-            )?;
+            let place = Place { i, j, at: place };
+            from_pair(history, derivation, at, rule, place, subject)?;
             Ok(())
         }
     }
-}
-
-/// The same of a rule that is born of an equation.
-#[cycle(lines_of_rule)]
-fn from_equation(
-    history: &History,
-    derivation: &mut Derivation,
-    at: RulePlace,
-    rule: &Rule,
-    number: usize,
-    subject: TermId,
-) -> Result<(), AllocError>
-    requires rule { HasRule history.now at rule.now }
-    requires born { IsBornAt history.now at rule.now (births.Given number) }
-    requires derivation { IsUnderWay derivation.old }
-    requires subject { IsOf derivation.old.table subject }
-    requires head { IsHeadStated history.now.alphabet derivation.old
-        (term_at derivation.old.table subject) rule.now.left }
-    ensures both { OnOk result (AreReadEqual history.now.alphabet derivation.new
-        (term_at derivation.old.table subject) rule.now.left rule.now.right) }
-    ensures grows { AddsLines derivation.old derivation.new }
-    ensures derives { OnOk result (IsStillDerivedBy history.now derivation.old derivation.new) }
-{
-    let equation = equation_at(history, at.system, number);
-    give_equation(history, derivation, at.system, equation, subject)?;
-    settle(
-        history,
-        derivation,
-        at,
-        rule,
-        subject,
-        Sides {
-            from: equation.left.symbols(),
-            to: equation.right.symbols(),
-        },
-    )?;
-    Ok(())
 }
 
 /// The same of a rule that is born of a pair.
@@ -229,32 +164,21 @@ fn from_pair(
     place: Place,
     subject: TermId,
 ) -> Result<(), AllocError>
-    requires rule { HasRule history.now at rule.now }
+    requires asked { AllowsRule history.now derivation.old at rule.now subject }
     requires born { IsBornAt history.now at rule.now (births.Pair place.i place.j place.at) }
-    requires derivation { IsUnderWay derivation.old }
-    requires subject { IsOf derivation.old.table subject }
-    requires head { IsHeadStated history.now.alphabet derivation.old
-        (term_at derivation.old.table subject) rule.now.left }
-    ensures both { OnOk result (AreReadEqual history.now.alphabet derivation.new
-        (term_at derivation.old.table subject) rule.now.left rule.now.right) }
+    ensures both { OnOk result (IsSaid history.now derivation.old derivation.new subject rule.now) }
     ensures grows { AddsLines derivation.old derivation.new }
     ensures derives { OnOk result (IsStillDerivedBy history.now derivation.old derivation.new) }
 {
+    let alphabet = &history.alphabet;
     let rules = all_rules(history, at.system);
     let first = rule_of(rules, place.i);
     let second = rule_of(rules, place.j);
     lines_of_rule(history, derivation, before(at, place.i), first, subject)?;
     let part = first_symbols(first.left.symbols(), place.at);
-    let v = read_word(&history.alphabet, derivation, subject, part)?;
+    let v = read_word(alphabet, derivation, subject, part)?;
     lines_of_rule(history, derivation, before(at, place.j), second, v)?;
-    read_pair(
-        &history.alphabet,
-        derivation,
-        subject,
-        first,
-        second,
-        place.at,
-    )?;
+    read_pair(alphabet, derivation, subject, first, second, place.at)?;
     let (left, right) = pair_sides(derivation.alloc, rules, place)?;
     let words = Sides {
         from: &left,
@@ -273,11 +197,7 @@ fn give_equation(
     equation: &Equation,
     subject: TermId,
 ) -> Result<(), AllocError>
-    requires equation { HasEquation history.now system equation.now }
-    requires derivation { IsUnderWay derivation.old }
-    requires subject { IsOf derivation.old.table subject }
-    requires head { IsHeadStated history.now.alphabet derivation.old
-        (term_at derivation.old.table subject) equation.now.left }
+    requires { AllowsEquation history.now derivation.old system equation.now subject }
     ensures both { OnOk result (AreReadEqual history.now.alphabet derivation.new
         (term_at derivation.old.table subject) equation.now.left equation.now.right) }
     ensures grows { AddsLines derivation.old derivation.new }
@@ -300,10 +220,7 @@ fn give_equation(
                 owner: *owner,
                 for_self: subject,
             };
-            let words = Sides {
-                from: equation.left.symbols(),
-                to: equation.right.symbols(),
-            };
+            let words = sides_of(equation);
             give_required(history, derivation, scope, *number, requirement, words)?;
             Ok(())
         }
@@ -320,23 +237,14 @@ fn give_required(
     requirement: &OwnedRequirement,
     words: Sides,
 ) -> Result<(), AllocError>
-    requires system { HasSystem history.now scope.system }
-    requires derivation { IsUnderWay derivation.old }
-    requires for_self { IsOf derivation.old.table scope.for_self }
-    requires owner { ConformsIfAny derivation.old
-        (term_at derivation.old.table scope.for_self) scope.owner }
+    requires scope { AllowsScope history.now derivation.old scope }
     requires shown { HasShownSides history.now.alphabet scope.owner
-        (rules_at history.now scope.system) requirement.now
-        words.from.now words.to.now }
-    ensures both { OnOk result
-        (AreReadEqual history.now.alphabet derivation.new
-        (term_at derivation.old.table scope.for_self)
-        words.entry.from.now
-        words.entry.to.now) }
+        (rules_at history.now scope.system) requirement.now words.from.now words.to.now }
+    ensures both { OnOk result (AreReadEqual history.now.alphabet derivation.new
+        (term_at derivation.old.table scope.for_self) words.entry.from.now words.entry.to.now) }
     ensures grows { AddsLines derivation.old derivation.new }
-    ensures derives { OnOk result
-        ((b : Assumptions) → FitsHistory history.now b → HasNumber number (written_by b scope.owner)
-        (requirement_by requirement.now)
+    ensures derives { OnOk result ((b : Assumptions) → FitsHistory history.now b
+        → HasNumber number (written_by b scope.owner) (requirement_by requirement.now)
         → StaysDerived b derivation.old derivation.new) }
 {
     let origin = Origin {
@@ -383,12 +291,9 @@ pub fn read_type(
     requires shown { IsShown history.now.alphabet scope.owner (rules_at history.now scope.system)
         (as_term param.now) word.now }
     ensures is_of { IfOk result (IsOf derivation.new.table) }
-    ensures stands { IfOk result
-        (λ u. term_at derivation.new.table u ≡ placed scope.owner
-        (term_at derivation.old.table scope.for_self)
-        (as_term param.now)) }
-    ensures word { OnOk result
-        (AllowsWord history.now.alphabet derivation.new
+    ensures stands { IfOk result (λ u. term_at derivation.new.table u
+        ≡ placed scope.owner (term_at derivation.old.table scope.for_self) (as_term param.now)) }
+    ensures word { OnOk result (AllowsWord history.now.alphabet derivation.new
         (term_at derivation.old.table scope.for_self) word.now) }
     ensures equal { OnOk result (AreStatedEqual derivation.new
         (placed scope.owner (term_at derivation.old.table scope.for_self) (as_term param.now))

@@ -7,7 +7,7 @@ use Rattle.swreq_lowering.specs.ByTable.{HasQueryIdsOf, query_by}
 use Rattle.swreq_lowering.specs.declared.ids.FuncId.{FuncId}
 use Rattle.swreq_lowering.specs.declared.ids.Query.{Query}
 use Rattle.swreq_symbols.specs.Known.{IsRequirementIn, IsTextOver}
-use Rattle.swreq_valid.specs.Machines.{AreRulesOf, ProtocolsView, protocols_of}
+use Rattle.swreq_valid.specs.Protocols.{AreRulesOf, ProtocolsView, protocols_of}
 use Rattle.swreq_valid.specs.Rounds.{AreRounds, last_rules}
 use Rattle.swreq_world.specs.ByTable.{world_by}
 use Rattle.swreq_world.specs.Closed.{IsQueryOf}

@@ -15,10 +15,11 @@ use swreq_decl::parse;
 use swreq_derive::Requirement;
 use swreq_explain::explain;
 use swreq_lines::lines_text;
+use swreq_machine::Machine;
 use swreq_param::ParamTable;
 use swreq_symbols::Text;
 use swreq_text::append_bytes;
-use swreq_valid::{Machine, Protocols};
+use swreq_valid::Protocols;
 use swreq_watch::Quiet;
 use swreq_world::{FuncId, Query, World};
 

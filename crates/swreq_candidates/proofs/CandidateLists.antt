@@ -13,7 +13,7 @@ use Rattle.swreq_derive.specs.Derivation.Derives.{assoc_decl, generic}
 use Rattle.swreq_derive.specs.Derivation.Source.{Written}
 use Rattle.swreq_derive.specs.Derivation.TermRequirement.{Conforms, Equals, IsAnyObject}
 use Rattle.swreq_derive.specs.Derivation.TermStatement.{IsValid}
-use Rattle.swreq_orders.proofs.Members.{first_member, later_member, member_cases, no_member}
+use Rattle.swreq_lemmas.proofs.Members.{first_member, later_member, member_cases, no_member}
 use Rattle.swreq_word.specs.declared.symbols.Symbol.{Symbol}
 use Rattle.swreq_word.specs.declared.symbols.Symbol.TheVariants.{Layout as LayoutSymbol, Member as MemberSymbol, Name as NameSymbol, Param as ParamSymbol, Proto as ProtoSymbol}
 use Rattle.swreq_word.specs.Least.{IsLeast, IsMinimal}
@@ -33,7 +33,7 @@ use Rattle.swreq_correspondence.proofs.Orders.{has_type}
 use Rattle.swreq_correspondence.proofs.Readings.{sides_of, valid_base, valid_generic}
 use Rattle.swreq_canonical.proofs.ReducedLemmas.{same_or_not}
 use Rattle.swreq_canonical.proofs.Sorting.{some_sorted}
-use Rattle.swreq_orders.proofs.Elements.{contains_get, get_contains}
+use Rattle.swreq_lemmas.proofs.Elements.{contains_get, get_contains}
 use Rattle.swreq_candidates.specs.Candidates.{IsCandidate, IsCandidateList, IsNamed, IsReadOff, IsReducedRule, SpeaksOf}
 use Rattle.swreq_candidates.specs.Completed.{IsCompleted}
 use Rattle.swreq_candidates.proofs.Completions.{canonical_here, firsts_here, over_text, param_decided, reads_here}

@@ -11,7 +11,7 @@ use Rattle.swreq_derive.specs.Derivation.Source.{Written}
 use Rattle.swreq_derive.specs.Derivation.TermRequirement.{Conforms, Equals, IsAnyObject}
 use Rattle.swreq_derive.specs.Derivation.TermStatement.{IsValid, Requires}
 use Rattle.swreq_derive.specs.WellFormed.{HasValidSides}
-use Rattle.swreq_orders.proofs.Members.{first_member, later_member, member_cases}
+use Rattle.swreq_lemmas.proofs.Members.{first_member, later_member, member_cases}
 use Rattle.swreq_word.specs.Relations.{Linked}
 use Rattle.swreq_word.specs.Relations.Chain.{done, more}
 use Rattle.swreq_word.specs.Relations.Linked.{here as no_step, forth as step_forth, back as step_back}

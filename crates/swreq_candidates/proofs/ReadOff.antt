@@ -1,7 +1,7 @@
 -- What is read off a rule of the reduced system is canonical, so a sorted list of all candidates is enough. A rule says at most one thing.
 use Rattle.std.proofs.Common.{◌≡◌, ◌⊎◌, ℕ, List, [], ◌∷◌, ◌++◌, length, length-append, ap, ap₂, subst, sym, ◌∙◌, inl, inr, arith}
 use Rattle.std.proofs.lemmas.List.{same_from_push}
-use Rattle.swreq_orders.proofs.Elements.{same_heads}
+use Rattle.swreq_lemmas.proofs.Elements.{same_heads}
 use Rattle.swreq_param.specs.declared.ids.NameId.{NameId}
 use Rattle.swreq_param.specs.declared.ids.ParamId.{ParamId}
 use Rattle.swreq_param.specs.declared.ids.ProtoId.{ProtoId}

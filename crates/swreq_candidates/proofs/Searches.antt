@@ -5,7 +5,7 @@ use Rattle.swreq_correspondence.proofs.OneType.{one_assoc}
 use Rattle.swreq_param.specs.declared.ids.AssocId.{AssocId}
 use Rattle.swreq_param.specs.declared.ids.NameId.{NameId}
 use Rattle.swreq_param.specs.declared.ids.ParamId.{ParamId}
-use Rattle.swreq_orders.proofs.Members.{first_member, later_member, member_cases, no_member}
+use Rattle.swreq_lemmas.proofs.Members.{first_member, later_member, member_cases, no_member}
 
 pub both_decided : {A B : Type 0} → Dec A → Dec B → Dec (A × B)
 both_decided (yes a) (yes b) = yes (a, b)

@@ -10,7 +10,7 @@ use Rattle.swreq_derive.specs.Derivation.TermRequirement.{Conforms, Equals, IsAn
 use Rattle.swreq_derive.specs.Derivation.TermStatement.{Requires}
 use Rattle.swreq_derive.specs.Equivalence.{AreEquivalent}
 use Rattle.swreq_derive.specs.Reduced.{IsReduced, IsReducedTypeOf}
-use Rattle.swreq_orders.proofs.Members.{no_member}
+use Rattle.swreq_lemmas.proofs.Members.{no_member}
 use Rattle.swreq_canonical.specs.Canonical.{CanBePrincipal, HasCanonicalForm, HasReducedTypes, IsCanonical}
 use Rattle.swreq_canonical.specs.CanonicalOrder.{IsStrictlySorted}
 use Rattle.swreq_canonical.specs.Generators.{AreDecided, AreEnough, AreGeneratorsTold, IsGenerator, IsGeneratorList}

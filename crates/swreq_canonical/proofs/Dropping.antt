@@ -6,8 +6,8 @@ use Rattle.swreq_derive.specs.Derivation.{Derivable, TermFacts, TermRequirement,
 use Rattle.swreq_derive.specs.Derivation.Source.{Written}
 use Rattle.swreq_derive.specs.Derivation.TermStatement.{Requires}
 use Rattle.swreq_derive.specs.Equivalence.{AreEquivalent}
-use Rattle.swreq_orders.proofs.Members.{first_member, later_member, member_cases}
-use Rattle.swreq_orders.proofs.Elements.{same_heads, same_tails}
+use Rattle.swreq_lemmas.proofs.Members.{first_member, later_member, member_cases}
+use Rattle.swreq_lemmas.proofs.Elements.{same_heads, same_tails}
 use Rattle.swreq_correspondence.proofs.Correspondence.{of_usable}
 use Rattle.swreq_canonical.specs.CanonicalOrder.{IsStrictlySorted}
 use Rattle.swreq_canonical.specs.Generators.{AreDecided}

@@ -9,7 +9,7 @@ use Rattle.swreq_derive.specs.Derivation.Source.{Written}
 use Rattle.swreq_derive.specs.Derivation.TermRequirement.{Conforms, Equals, IsAnyObject}
 use Rattle.swreq_derive.specs.Derivation.TermStatement.{IsValid, Requires}
 use Rattle.swreq_derive.specs.WellFormed.{HasValidSides}
-use Rattle.swreq_orders.proofs.Members.{first_member, later_member, member_cases, no_member}
+use Rattle.swreq_lemmas.proofs.Members.{first_member, later_member, member_cases, no_member}
 use Rattle.swreq_derive.proofs.Monotone.{grows}
 use Rattle.swreq_derive.proofs.Substitution.{derives_members, derives_with, substitute_in-generic, substitute_into-generic}
 use Rattle.swreq_correspondence.proofs.Correspondence.{of_usable}

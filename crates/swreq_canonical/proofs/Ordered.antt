@@ -6,12 +6,12 @@ use Rattle.swreq_param.specs.Order.{TermBefore}
 use Rattle.swreq_param.specs.Terms.{Term}
 use Rattle.swreq_param.proofs.Founded.{terms_founded}
 use Rattle.swreq_param.proofs.TotalOrder.{strict, total, transitive}
-use Rattle.swreq_orders.specs.WellFounded.{IsAccessible, IsWellFounded}
-use Rattle.swreq_orders.specs.WellFounded.IsAccessible.{reached}
+use Rattle.swreq_lemmas.specs.WellFounded.{IsAccessible, IsWellFounded}
+use Rattle.swreq_lemmas.specs.WellFounded.IsAccessible.{reached}
 use Rattle.swreq_derive.specs.Derivation.{Source, TermFacts, TermRequirement}
 use Rattle.swreq_derive.specs.Derivation.TermRequirement.{Conforms, IsAnyObject, Equals}
 use Rattle.swreq_derive.specs.Reduced.{IsReduced, IsReducedTypeOf}
-use Rattle.swreq_orders.proofs.Members.{first_member, later_member, member_cases, no_member}
+use Rattle.swreq_lemmas.proofs.Members.{first_member, later_member, member_cases, no_member}
 use Rattle.swreq_derive.proofs.ReducedTypes.{reduced_is_one}
 use Rattle.swreq_canonical.specs.Canonical.{IsCanonical, principal}
 use Rattle.swreq_canonical.specs.CanonicalOrder.{KindBefore, RequirementBefore, IsStrictlySorted}

@@ -14,7 +14,7 @@ use Rattle.swreq_derive.specs.Derivation.Source.{Written}
 use Rattle.swreq_derive.specs.Derivation.TermRequirement.{Conforms, Equals, IsAnyObject}
 use Rattle.swreq_derive.specs.Derivation.TermStatement.{IsValid, Requires}
 use Rattle.swreq_derive.specs.Reduced.{IsReduced, IsReducedTypeOf}
-use Rattle.swreq_orders.proofs.Members.{no_member}
+use Rattle.swreq_lemmas.proofs.Members.{no_member}
 use Rattle.swreq_correspondence.proofs.Readings.{sides_of, valid_base, valid_bound, valid_generic, valid_name}
 use Rattle.swreq_canonical.specs.Canonical.{CanBePrincipal, HasReducedTypes, IsCanonical}
 use Rattle.swreq_canonical.specs.Generators.{Follows}

@@ -7,7 +7,7 @@ ghost use Rattle.swreq_derive.specs.Derivation.TermRequirement.{Equals};
 ghost use Rattle.swreq_derive.specs.Derivation.TermStatement.{Requires};
 ghost use Rattle.swreq_derive.specs.Derivation.Source.{Written};
 ghost use Rattle.swreq_derive.specs.Equivalence.{AreEquivalent};
-ghost use Rattle.swreq_orders.specs.WellFounded.{IsWellFounded};
+ghost use Rattle.swreq_lemmas.specs.WellFounded.{IsWellFounded};
 ghost use Rattle.swreq_canonical.specs.Canonical.{IsCanonical, HasReducedTypes, principal};
 ghost use Rattle.swreq_canonical.specs.CanonicalOrder.{RequirementBefore, IsStrictlySorted};
 ghost use Rattle.swreq_canonical.specs.Generators.{Follows, IsGenerator, IsGeneratorList, AreGeneratorsTold, AreEnough, Takes, AreDecided};

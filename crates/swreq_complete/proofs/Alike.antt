@@ -6,7 +6,7 @@ use Rattle.swreq_word.specs.Relations.Chain.{done, more}
 use Rattle.swreq_word.proofs.Chains.{linked_back, linked_chain, linked_on}
 use Rattle.swreq_word.proofs.LeastWords.{one_least}
 use Rattle.swreq_word.proofs.WordsFounded.{words_founded}
-use Rattle.swreq_orders.proofs.Induction.{by_below}
+use Rattle.swreq_lemmas.proofs.Induction.{by_below}
 use Rattle.swreq_rule.specs.declared.rules.Rule.{Rule}
 use Rattle.swreq_rule.specs.Reduction.{Reduces}
 use Rattle.swreq_rule.specs.Steps.{Step}

@@ -7,7 +7,7 @@ use Rattle.swreq_word.specs.declared.symbols.Symbol.{Symbol}
 use Rattle.swreq_word.specs.Relations.{IsIrreducible}
 use Rattle.swreq_word.proofs.Cuts.{cut_rest}
 use Rattle.swreq_word.proofs.Comparing.{greater_some}
-use Rattle.swreq_orders.proofs.Elements.{get_last, get_left, get_cases, there_is}
+use Rattle.swreq_lemmas.proofs.Elements.{get_last, get_left, get_cases, there_is}
 use Rattle.swreq_rule.specs.declared.rules.Rule.{Rule}
 use Rattle.swreq_rule.specs.Steps.{RuleAt, Step}
 use Rattle.swreq_rule.proofs.Numbers.{number_some}

@@ -6,7 +6,7 @@ use Rattle.swreq_word.specs.Relations.Linked.{forth, here}
 use Rattle.swreq_word.specs.Replacement.{Replaces, Congruent}
 use Rattle.swreq_word.proofs.Chains.{linked_by}
 use Rattle.swreq_word.proofs.Congruence.{congruent_in_place, equation_congruent}
-use Rattle.swreq_orders.proofs.Elements.{get_left, get_right, get_either, get_of_map}
+use Rattle.swreq_lemmas.proofs.Elements.{get_left, get_right, get_either, get_of_map}
 use Rattle.swreq_rule.specs.declared.rules.Rule.{Rule}
 use Rattle.swreq_rule.specs.Steps.{Step}
 use Rattle.swreq_rule.proofs.Context.{Linked-in-place}

@@ -22,7 +22,7 @@ use Rattle.swreq_complete.specs.Limits.{KeepsAll}
 use Rattle.swreq_complete.specs.Settling.{DoneWithin, StoppedAt, HasCome, HasStopped}
 use Rattle.swreq_complete.proofs.Moments.{greater_before, not_itself, not_both}
 use Rattle.swreq_complete.proofs.Progress.{settle_one}
-use Rattle.swreq_orders.proofs.Elements.{get_left, get_front}
+use Rattle.swreq_lemmas.proofs.Elements.{get_left, get_front}
 use Rattle.swreq_complete.proofs.PairOrder.{widen}
 use Rattle.swreq_complete.proofs.Telling.{Adds, place_adds, goes_on, stops, grown_none}
 use Rattle.swreq_complete.proofs.Closed.{reached}

@@ -3,7 +3,7 @@ use Rattle.std.proofs.Common.{◌≡◌, inl, inr, ℕ, ◌+◌, ◌<◌, ◌≤
 use Rattle.std.specs.List.{slice_get}
 use Rattle.std.proofs.lemmas.List.{take-append-le}
 use Rattle.std.proofs.lemmas.Option.{slice_get_within}
-use Rattle.swreq_orders.proofs.Elements.{get_cases, in_whole, there_is}
+use Rattle.swreq_lemmas.proofs.Elements.{get_cases, in_whole, there_is}
 use Rattle.swreq_word.specs.declared.symbols.Symbol.{Symbol}
 use Rattle.swreq_word.proofs.Cuts.{cut_rest}
 use Rattle.swreq_rule.specs.declared.rules.Rule.{Rule}

@@ -21,7 +21,7 @@ use Rattle.swreq_complete.specs.Reduced.{IsReduced, IsReducedOf, IsReducedSystem
 use Rattle.swreq_complete.specs.Complete.{IsFresh}
 use Rattle.swreq_complete.specs.Search.{Found, IsReducedAt}
 use Rattle.swreq_complete.proofs.Ended.{by_rule}
-use Rattle.swreq_orders.proofs.Elements.{in_front}
+use Rattle.swreq_lemmas.proofs.Elements.{in_front}
 
 -- no two rules of a fresh list have one left side
 pub fresh_apart : (rules : List Rule) → IsFresh rules → (j k : ℕ) (r s : Rule) → j < k → slice_get rules j ≡ Some r

@@ -11,7 +11,7 @@ use Rattle.swreq_word.specs.declared.symbols.Symbol.{Symbol}
 use Rattle.swreq_word.specs.Order.{WordLess}
 use Rattle.swreq_word.specs.Relations.{IsIrreducible}
 use Rattle.swreq_word.proofs.Comparing.{trichotomy, less_trans}
-use Rattle.swreq_orders.proofs.Elements.{get_left, get_last, get_cases}
+use Rattle.swreq_lemmas.proofs.Elements.{get_left, get_last, get_cases}
 use Rattle.swreq_rule.specs.declared.rules.Rule.{Rule}
 use Rattle.swreq_rule.specs.Steps.{Step}
 use Rattle.swreq_rule.specs.Reduction.{Reduces}

@@ -21,7 +21,7 @@ use Rattle.swreq_complete.specs.Moments.{Before, HasSides}
 use Rattle.swreq_complete.specs.Progress.{Settles, SettlesPlace, Progress}
 use Rattle.swreq_complete.specs.Settling.{Grown, DoneWithin, StoppedAt, HasCome, HasStopped, HasStoppedAmong}
 use Rattle.swreq_complete.specs.Short.{IsOfEquation}
-use Rattle.swreq_orders.proofs.Elements.{get_cases, there_is}
+use Rattle.swreq_lemmas.proofs.Elements.{get_cases, there_is}
 use Rattle.swreq_complete.proofs.Closed.{reached}
 
 pub grown_none : (rules : List Rule) (told : Option (List Event)) → Grown rules rules told told

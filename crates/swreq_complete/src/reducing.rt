@@ -47,13 +47,9 @@ fn reduce_once(
     ensures no_longer { vec_len word.new ≤ vec_len word.old }
     ensures room { vec_capacity word.new ≡ vec_capacity word.old }
 {
-    match first_redex(rules, word, from) {
-        Some(redex) => {
-            take_step_of(rules.rule(redex.number - 1), word, redex.at);
-            Some(redex.at.saturating_sub(longest))
-        }
-        None => None,
-    }
+    let redex = first_redex(rules, word, from)?;
+    take_step_of(rules.rule(redex.number - 1), word, redex.at);
+    Some(redex.at.saturating_sub(longest))
 }
 
 impl Indexed<'_> {

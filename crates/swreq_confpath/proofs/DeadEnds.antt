@@ -4,7 +4,7 @@ use Rattle.std.proofs.lemmas.List.{append-nil}
 use Rattle.swreq_param.specs.declared.ids.ProtoId.{ProtoId}
 use Rattle.swreq_param.specs.Tables.{term_at}
 use Rattle.swreq_param.specs.Terms.{Term}
-use Rattle.swreq_derive.specs.Derivation.{Source, TermFacts, TermRequirement, for_self}
+use Rattle.swreq_derive.specs.Derivation.{Source, for_self}
 use Rattle.swreq_derive.specs.Derivation.TermRequirement.{Equals}
 use Rattle.swreq_derive.proofs.Substitution.{valid_sides}
 use Rattle.swreq_word.proofs.Chains.{linked_back, linked_on}
@@ -12,12 +12,10 @@ use Rattle.swreq_rule.specs.declared.rules.Rule.{Rule}
 use Rattle.swreq_rule.proofs.Context.{Linked-after}
 use Rattle.swreq_correspondence.specs.Symbols.{Symbols, Word, steps, word_of}
 use Rattle.swreq_correspondence.proofs.Spelling.{spell-append, spell-for_self}
-use Rattle.swreq_world.specs.Worlds.{TextWorld}
 use Rattle.swreq_symbols.specs.Meaning.{symbols_of}
 use Rattle.swreq_symbols.specs.Vanishing.{Links}
-use Rattle.swreq_valid.specs.Machines.{MachineView}
 use Rattle.swreq_valid.specs.Rounds.{last_rules}
-use Rattle.swreq_valid.proofs.Answering.{by_sides}
+use Rattle.swreq_machine.proofs.Answering.{by_sides}
 use Rattle.swreq_confpath.specs.declared.places.Place.{Place}
 use Rattle.swreq_confpath.specs.declared.places.Place.TheVariants as places
 use Rattle.swreq_confpath.specs.declared.sought.Sought.{Sought}
@@ -28,20 +26,8 @@ use Rattle.swreq_confpath.specs.Tried.{IsDeadEnd}
 use Rattle.swreq_confpath.proofs.Spared.{no_word, stays_apart}
 
 module _ (s : Sought) where
-  abbrev W : TextWorld
-  W = world_in s
-
-  abbrev M : MachineView
-  M = s.machine.now
-
   abbrev m : Symbols
   m = symbols_of s.world.now.lexicon
-
-  abbrev F : TermFacts
-  F = facts_in s
-
-  abbrev L : List TermRequirement
-  L = list_in s
 
   abbrev S : Source
   S = source_in s
@@ -59,7 +45,7 @@ module _ (s : Sought) where
 
   -- where numbers lead on to is after the word of the place from which they do
   behind : (ns : List ℕ) (u : Term) (q : ProtoId) (w : Word) (e : TermPlace) → Links rules (word_of m S u) w
-      → LeadTo F L (Conformance u q) ns e → IsBehind w e
+      → LeadTo (facts_in s) (list_in s) (Conformance u q) ns e → IsBehind w e
   behind [] u q w e l h = record {
     subject = u;
     proto = q;
@@ -73,7 +59,8 @@ module _ (s : Sought) where
       spell-append m S u [] (steps m t []) ∙ sym (spell-for_self m S u t []) in
       let next : Links rules (word_of m S (for_self u t)) (w ++ steps m t []) =
       subst (λ z. Links rules z (w ++ steps m t [])) spelled (Linked-after (steps m t []) l) in
-      let rest = behind ns (for_self u t) h.1.1 (w ++ steps m t []) e next (subst (λ z. LeadTo F L z ns e) h.1.3 h.2) in
+      let rest = behind ns (for_self u t) h.1.1 (w ++ steps m t []) e next
+      (subst (λ z. LeadTo (facts_in s) (list_in s) z ns e) h.1.3 h.2) in
       record {
         subject = rest.subject;
         proto = rest.proto;
@@ -84,20 +71,21 @@ module _ (s : Sought) where
 
   module _ (known : IsKnown s) where
     -- what is like the place that is sought has a word that the rules link to its word
-    links_sought : (t : Term) (p : ProtoId) → AreAlike F S (Conformance t p) (sought_in s)
+    links_sought : (t : Term) (p : ProtoId) → AreAlike (facts_in s) S (Conformance t p) (sought_in s)
         → Links rules (word_of m S t) (word_of m S (term_at s.table.now s.subject))
     links_sought t p like =
         let u = term_at s.table.now s.subject in
-        (by_sides W known.text.closed M L known.machine (Equals t u) (valid_sides F S (Equals t u) like.1)).0 like.1
+        (by_sides (world_in s) known.text.closed s.machine.now (list_in s) known.machine (Equals t u)
+        (valid_sides (facts_in s) S (Equals t u) like.1)).0 like.1
 
     -- From a place that has parted no numbers lead on to the place that is sought.
     pub dead_end : (target place : Place) (d : TermPlace) → StandsFor s target (sought_in s) → StandsFor s place d
         → HasParted s target place
-        → IsDeadEnd F (params_in s) L (sought_in s) d
+        → IsDeadEnd (facts_in s) (params_in s) (list_in s) (sought_in s) d
     dead_end target places.Start d h k parted ns e leads like = no_word parted.front parted.rest parted.spared parted.cut
     dead_end places.Start (places.Conformance w q) d h k parted ns e leads like = absurd h
     dead_end (places.Conformance v r) (places.Conformance w q) Start h k parted ns e leads like = absurd k
     dead_end (places.Conformance v r) (places.Conformance w q) (Conformance t p) h k parted ns e leads like =
         let b = behind ns t p w e k.1.1 leads in
-        let linked = links_sought b.subject b.proto (subst (λ z. AreAlike F S z (sought_in s)) b.is like) in
+        let linked = links_sought b.subject b.proto (subst (λ z. AreAlike (facts_in s) S z (sought_in s)) b.is like) in
         stays_apart rules known.complete v w b.tail h.1.0 k.1.0 parted (linked_on (linked_back b.links) (linked_on linked h.1.1))

@@ -3,7 +3,7 @@ use Rattle.std.proofs.Common.{◌≡◌, ℕ, ◌+◌, ◌-◌, ◌<◌, ◌^◌
 use Rattle.std.proofs.lemmas.List.{length-map}
 use Rattle.std.proofs.lemmas.List.Elements.{All-get_or}
 use Rattle.std.proofs.lemmas.Option.{slice_get-get_or}
-use Rattle.swreq_orders.proofs.Members.{contains_of_map}
+use Rattle.swreq_lemmas.proofs.Members.{contains_of_map}
 use Rattle.swreq_param.specs.declared.ids.ParamId.{ParamId}
 use Rattle.swreq_param.specs.declared.ids.ProtoId.{ProtoId}
 use Rattle.swreq_param.specs.Tables.{term_at}
@@ -27,7 +27,7 @@ use Rattle.swreq_world.specs.Short.{IsShort}
 use Rattle.swreq_world.specs.Worlds.{IdWorld, SignatureOver, no_signature, requirements_of, signature_at}
 use Rattle.swreq_symbols.specs.Known.{IsRequirementIn, IsTextOver}
 use Rattle.swreq_symbols.proofs.OfText.{protocol_written, requirements_placed, signature_is, signature_written}
-use Rattle.swreq_valid.specs.Machines.{IsMachineOf}
+use Rattle.swreq_machine.specs.Machines.{IsMachineOf}
 use Rattle.swreq_valid.specs.Plans.{AreKnown, bare, listed}
 use Rattle.swreq_valid.specs.Rounds.{last_rules}
 use Rattle.swreq_valid.proofs.Made.{written_known}

@@ -4,8 +4,8 @@ use Rattle.std.proofs.Math.Seq.{take-append-add}
 use Rattle.std.proofs.lemmas.Bool.{cases_lt}
 use Rattle.std.proofs.lemmas.List.Elements.{Contains-append_left, Contains-append_right, Contains-push_cases}
 use Rattle.std.proofs.lemmas.Option.{slice_get_within}
-use Rattle.swreq_orders.proofs.Elements.{contains_get, get_contains, get_front, get_left, in_front, same_heads, same_tails, take_one, there_is}
-use Rattle.swreq_orders.proofs.Numbers.{last_or_below}
+use Rattle.swreq_lemmas.proofs.Elements.{contains_get, get_contains, get_front, get_left, in_front, same_heads, same_tails, take_one, there_is}
+use Rattle.swreq_lemmas.proofs.Numbers.{last_or_below}
 use Rattle.swreq_derive.proofs.LineLemmas.{get_take}
 use Rattle.swreq_word.specs.declared.symbols.Symbol.{Symbol}
 use Rattle.swreq_word.specs.declared.symbols.Symbol.TheVariants.{Proto}

@@ -12,7 +12,7 @@ use Rattle.swreq_derive.proofs.Substitution.{valid_sides}
 use Rattle.swreq_word.specs.declared.symbols.Symbol.{Symbol}
 use Rattle.swreq_word.proofs.Chains.{linked_back, linked_on}
 use Rattle.swreq_word.proofs.Comparing.{by_length}
-use Rattle.swreq_orders.proofs.Elements.{take_one}
+use Rattle.swreq_lemmas.proofs.Elements.{take_one}
 use Rattle.swreq_rule.specs.declared.rules.Rule.{Rule}
 use Rattle.swreq_rule.proofs.Context.{Linked-after}
 use Rattle.swreq_correspondence.specs.Symbols.{Symbols, Word, right_side, start, steps, word_of}
@@ -23,10 +23,10 @@ use Rattle.swreq_symbols.specs.Overs.{source_by}
 use Rattle.swreq_symbols.specs.Vanishing.{IsLeastBy, Links}
 use Rattle.swreq_symbols.proofs.OfText.{own_requirements}
 use Rattle.swreq_symbols.proofs.Walking.{one_least}
-use Rattle.swreq_valid.specs.Asked.{IsLeastWord}
-use Rattle.swreq_valid.specs.Machines.{MachineView}
+use Rattle.swreq_machine.specs.Asked.{IsLeastWord}
+use Rattle.swreq_machine.specs.Machines.{MachineView}
 use Rattle.swreq_valid.specs.Rounds.{last_rules}
-use Rattle.swreq_valid.proofs.Answering.{by_sides}
+use Rattle.swreq_machine.proofs.Answering.{by_sides}
 use Rattle.swreq_confpath.specs.declared.places.Place.{Place}
 use Rattle.swreq_confpath.specs.declared.places.Place.TheVariants as places
 use Rattle.swreq_confpath.specs.declared.sought.Sought.{Sought}

@@ -7,8 +7,8 @@ use Rattle.swreq_param.specs.declared.ids.ParamId.{ParamId}
 use Rattle.swreq_derive.specs.Derivation.{TermRequirement, TermFacts, Source}
 use Rattle.swreq_derive.specs.Derivation.Source.{Written}
 use Rattle.swreq_derive.specs.WellFormed.{AreProtocolsWellFormed, IsListWellFormed}
-use Rattle.swreq_orders.proofs.Elements.{get_cases, get_contains, get_left}
-use Rattle.swreq_orders.proofs.Members.{only_member}
+use Rattle.swreq_lemmas.proofs.Elements.{get_cases, get_contains, get_left}
+use Rattle.swreq_lemmas.proofs.Members.{only_member}
 use Rattle.swreq_confpath.specs.Routes.{TermPlace, GoesTo, LeadTo, AreAlike, ComesBefore}
 use Rattle.swreq_confpath.specs.Routes.TermPlace.{Start}
 use Rattle.swreq_confpath.specs.Tried.{TermSpot, start, IsSettled, AreReady, AreTriedUpTo}

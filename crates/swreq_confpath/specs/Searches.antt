@@ -19,8 +19,8 @@ use Rattle.swreq_world.specs.Worlds.{IdWorld, TextWorld, requirements_of, signat
 use Rattle.swreq_complete.specs.Complete.{IsComplete}
 use Rattle.swreq_symbols.specs.Known.{IsTextOver}
 use Rattle.swreq_symbols.specs.Vanishing.{IsLeastBy}
-use Rattle.swreq_valid.specs.Asked.{IsLeastWord}
-use Rattle.swreq_valid.specs.Machines.{IsMachineOf, MachineView}
+use Rattle.swreq_machine.specs.Asked.{IsLeastWord}
+use Rattle.swreq_machine.specs.Machines.{IsMachineOf, MachineView}
 use Rattle.swreq_valid.specs.Plans.{AreKnown, bare, listed}
 use Rattle.swreq_valid.specs.Rounds.{last_rules}
 use Rattle.swreq_confpath.specs.declared.path.ConfPath.{ConfPath}

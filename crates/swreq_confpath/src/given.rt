@@ -23,8 +23,8 @@ use crate::tried::Tried;
 use crate::trying::go_on;
 use std::alloc::{AllocError, Global};
 use swreq_lowering::FuncId;
+use swreq_machine::Machine;
 use swreq_param::{ParamTable, ProtoId, TermId};
-use swreq_valid::Machine;
 use swreq_world::World;
 
 /// The path that is given for the conformance that is sought, whose place this is.

@@ -113,7 +113,7 @@ abbrev pub root : Source → ParamId → Term
 root (Written gs rs) g = Generic g
 root (SelfOf p) g = self
 
-substitute-self : {f : TermFacts} {p : ProtoId} (u : Term) → Derivable f (SelfOf p) (IsValid u) → for_self self u ≡ u
+pub substitute-self : {f : TermFacts} {p : ProtoId} (u : Term) → Derivable f (SelfOf p) (IsValid u) → for_self self u ≡ u
 substitute-self (Generic g) v = ap Generic (sym (valid_generic v))
 substitute-self (Member u x) v = ap (λ t. Member t x) (substitute-self u (valid_base x v))
 

@@ -8,7 +8,7 @@ use Rattle.swreq_param.specs.declared.ids.ParamId.{ParamId}
 use Rattle.swreq_param.specs.declared.ids.Step.TheVariants.{Bound, Name}
 use Rattle.swreq_derive.specs.Derivation.{Source, TermFacts}
 use Rattle.swreq_word.specs.declared.symbols.Symbol.TheVariants.{Member as MemberSymbol, Param as ParamSymbol}
-use Rattle.swreq_orders.proofs.Elements.{same_heads, same_tails}
+use Rattle.swreq_lemmas.proofs.Elements.{same_heads, same_tails}
 use Rattle.swreq_word.proofs.SameSymbols.{same_members, same_params}
 use Rattle.swreq_correspondence.specs.Symbols.{Symbols, Word, name_of}
 use Rattle.swreq_correspondence.specs.Types.{BeginsAs, IsFirstFor, IsTypeOf}

@@ -1,4 +1,4 @@
--- The source by its lines and by its lines as they are written.
+-- The source and the calls by their lines and by their lines as they are written.
 use Rattle.std.specs.Prelude.{[], ◌∷◌}
 use Rattle.swreq_grammar.specs.Grammar.{unlimited, at_most, mapped, labelled}
 use Rattle.swreq_decl.specs.declared.terminal.Terminal.TheVariants.{Query, Protocol, AssociatedType, Func, Struct, Where, OpenBrace, CloseBrace, OpenParenthesis, CloseParenthesis, Comma, Colon, Dot, EqualEqual}
@@ -7,7 +7,8 @@ use Rattle.swreq_decl.specs.declared.skeleton.ReqDecl.TheVariants as requirement
 use Rattle.swreq_decl.specs.declared.skeleton.Ask.TheVariants as asks
 use Rattle.swreq_decl.specs.declared.skeleton.Item.TheVariants as items
 use Rattle.swreq_decl.specs.Source as lines
-use Rattle.swreq_decl.specs.Source.{mark, after, before, or_else, skipped}
+use Rattle.swreq_decl.specs.Source.{mark, after, before, or_else, separated, skipped}
+use Rattle.swreq_decl.specs.Calls as calls
 use Rattle.swreq_decl.specs.Written as written
 use Rattle.swreq_decl.specs.Written.{SameTexts}
 use Rattle.swreq_decl.proofs.SameTexts.{same, then, mapped_same, sequence_same, either, repetition_same, after_same, before_same, or_else_same, separated_same}
@@ -104,3 +105,19 @@ item_as_written =
 pub source_as_written : SameTexts lines.source written.source
 unfolding lines.source
 source_as_written = repetition_same unlimited item_as_written
+
+-- ---- calls
+
+call_types_as_written : SameTexts calls.call_types (or_else [] (separated (Comma ∷ []) written.qtype))
+unfolding calls.call_types calls.qtypes
+call_types_as_written = or_else_same [] (separated_same (Comma ∷ []) qtype_as_written)
+
+call_as_written : SameTexts calls.call written.call
+unfolding calls.call
+call_as_written =
+    mapped_same calls.call_decl (sequence_same (same lines.sname) (after_same (mark Colon) (sequence_same (same lines.sname)
+    (after_same (mark OpenParenthesis) (before_same (mark CloseParenthesis) call_types_as_written)))))
+
+pub calls_as_written : SameTexts calls.calls written.calls
+unfolding calls.calls
+calls_as_written = repetition_same unlimited (before_same lines.semicolon call_as_written)

@@ -2,6 +2,7 @@ pub mod Slices
 pub mod Predictive
 pub mod Growing
 pub mod Answering
+pub mod AnsweringCalls
 pub mod SameTexts
 pub mod Factoring
 pub mod Separating

@@ -1,7 +1,8 @@
 pub mod Terminals
 pub mod Kinds
 pub mod Source
-pub mod Written
 pub mod Skeletons
+pub mod Calls
+pub mod Written
 pub mod Spellings
 pub mod Signatures

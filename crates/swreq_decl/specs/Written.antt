@@ -1,5 +1,5 @@
--- The source as it is written in docs/LANGUAGE.md, its lines nested as they stand there. A line that contains none whose
--- alternatives begin alike is that of `Source`.
+-- The source and the calls as they are written in docs/LANGUAGE.md, their lines nested as they stand there. A line that contains none
+-- whose alternatives begin alike is that of `Source`.
 use Rattle.std.specs.Prelude.{List, [], ◌∷◌, ◌++◌}
 use Rattle.swreq_grammar.specs.declared.token.Token.{Token}
 use Rattle.swreq_grammar.specs.Grammar.{unlimited, at_most, mapped, sequence, alternative, repetition, labelled, Matches}
@@ -18,10 +18,12 @@ use Rattle.swreq_decl.specs.declared.skeleton.StructDecl.{StructDecl}
 use Rattle.swreq_decl.specs.declared.skeleton.Ask.{Ask}
 use Rattle.swreq_decl.specs.declared.skeleton.Ask.TheVariants as asks
 use Rattle.swreq_decl.specs.declared.skeleton.QueryDecl.{QueryDecl}
+use Rattle.swreq_decl.specs.declared.skeleton.CallDecl.{CallDecl}
 use Rattle.swreq_decl.specs.declared.skeleton.Item.{Item}
 use Rattle.swreq_decl.specs.declared.skeleton.Item.TheVariants as items
 use Rattle.swreq_decl.specs.Terminals.{number}
 use Rattle.swreq_decl.specs.Source.{Line, mark, after, before, in_braces, in_parentheses, or_else, separated, skipped, name, semicolon, access, written_type, qentity, bounds, primary_names, params, no_body, bound_step, plain_step, sname}
+use Rattle.swreq_decl.specs.Calls.{call_decl}
 
 -- The lines have the same texts, with the same values.
 pub record SameTexts {A : Type 0} (g h : Line A) : Type 0 where
@@ -99,3 +101,12 @@ item = alternative (before (mapped (λ p. items.Protocol p) protocol) semicolon)
 -- source = item*
 abbrev pub source : Line (List Item)
 source = repetition unlimited item
+
+-- call = sname ":" sname "(" (qtype ("," qtype)*)? ")"
+abbrev pub call : Line CallDecl
+call = mapped call_decl
+    (sequence sname (after (mark Colon) (sequence sname (in_parentheses (or_else [] (separated (Comma ∷ []) qtype))))))
+
+-- calls = (call ";"?)*
+abbrev pub calls : Line (List CallDecl)
+calls = repetition unlimited (before call semicolon)

@@ -1,15 +1,17 @@
-//! What holds of the skeletons and refusals of each text.
+//! What holds of the skeletons and refusals of each text, and of the calls and refusals of each part of it.
 
-ghost use Rattle.std.specs.Prelude.{◌≡◌, ◌⊎◌, ℕ, List, Option, Some, map};
+ghost use Rattle.std.specs.Prelude.{◌≡◌, ◌≤◌, ◌⊎◌, ℕ, List, Option, Some, length, map};
 ghost use Rattle.std.specs.List.{flat_map};
 ghost use Rattle.swreq_lex.specs.declared.token.Token as lexed;
 ghost use Rattle.swreq_lex.specs.Marks.{spellings};
-ghost use Rattle.swreq_lex.specs.Tokens.{HasTokens};
+ghost use Rattle.swreq_lex.specs.Tokens.{HasTokens, HasTokensFrom};
 ghost use Rattle.swreq_lex.specs.Words.{reserved};
 ghost use Rattle.swreq_decl.specs.declared.kind.Kind.{Kind};
+ghost use Rattle.swreq_decl.specs.declared.skeleton.CallDecl.{CallDecl};
 ghost use Rattle.swreq_decl.specs.declared.skeleton.Item.{Item};
 ghost use Rattle.swreq_decl.specs.declared.skeleton.Skeleton.{Skeleton};
 ghost use Rattle.swreq_decl.specs.declared.terminal.Terminal.TheVariants.{Query};
+ghost use Rattle.swreq_decl.specs.Calls as calls;
 ghost use Rattle.swreq_decl.specs.Signatures.{HasParts, item_signatures, signature_decls};
 ghost use Rattle.swreq_decl.specs.Skeletons.{RefusedFor, StandsFor, skeleton_of};
 ghost use Rattle.swreq_decl.specs.Source as lines;
@@ -18,7 +20,7 @@ ghost use Rattle.swreq_decl.specs.Terminals.{marks, query_word, reserved_words};
 ghost use Rattle.swreq_decl.specs.Written as written;
 ghost use Rattle.swreq_decl.specs.Written.{SameTexts};
 
-use swreq_lex::laws::{one_reading, tokens_are_slices};
+use swreq_lex::laws::{one_reading, one_reading_from, tokens_are_slices};
 
 /// At most one skeleton stands for a text.
 pub fn one_skeleton(text: &[u8])
@@ -42,6 +44,34 @@ pub fn one_verdict(text: &[u8])
 /// The source has the texts and values that it has by its lines as they are written.
 pub fn source_as_written()
     ensures { SameTexts lines.source written.source }
+{}
+
+/// At most one list of calls stands for a part of a text.
+pub fn one_list_of_calls(text: &[u8], from: u32)
+    requires { from ≤ length text.now }
+    ensures { (a b : List CallDecl) → calls.StandsFor text.now from a
+        → calls.StandsFor text.now from b → a ≡ b }
+{
+    one_reading_from(text, from);
+}
+
+/// A part that has tokens stands for calls or is refused at one place, and not both.
+pub fn one_verdict_on_calls(text: &[u8], from: u32)
+    requires { from ≤ length text.now }
+    ensures some { (ts : List lexed.Token) → HasTokensFrom text.now from ts
+        → ((a : List CallDecl) × calls.StandsFor text.now from a)
+        ⊎ ((at : ℕ) × calls.RefusedAt text.now from at) }
+    ensures one { (at place : ℕ) → calls.RefusedAt text.now from at
+        → calls.RefusedAt text.now from place → at ≡ place }
+    ensures never_both { (a : List CallDecl) (at : ℕ) → calls.StandsFor text.now from a
+        → ¬ (calls.RefusedAt text.now from at) }
+{
+    one_reading_from(text, from);
+}
+
+/// The calls have the texts and values that they have by the lines of their grammar as they are written.
+pub fn calls_as_written()
+    ensures { SameTexts calls.calls written.calls }
 {}
 
 /// The signatures that are read off the skeleton of a text are those of its parts, in written order.

@@ -1,6 +1,7 @@
-//! The skeleton that stands for a source text, or where the text is refused.
+//! The skeleton or the calls for which a text stands, or where the text is refused.
 #![tactic(auto)]
 
+mod calls;
 mod functions;
 mod items;
 mod kind;
@@ -18,9 +19,9 @@ mod tokens;
 mod types;
 
 pub use kind::Kind;
-pub use parser::parse;
+pub use parser::{parse, parse_calls};
 pub use refusal::ParseErr;
 pub use skeleton::{
-    Ask, AssocDecl, Entity, FunctionDecl, ParamDecl, ProtocolDecl, QueryDecl, ReqDecl, Skeleton,
-    Span, StepDecl, StructDecl, TypeDecl,
+    Ask, AssocDecl, CallDecl, Entity, FunctionDecl, ParamDecl, ProtocolDecl, QueryDecl, ReqDecl,
+    Skeleton, Span, StepDecl, StructDecl, TypeDecl,
 };

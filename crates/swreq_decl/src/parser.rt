@@ -1,24 +1,27 @@
-//! The skeleton of a text, or where the text is refused.
+//! The skeleton of a text, or the calls of a part of one, or where the text is refused.
 
-ghost use Rattle.std.specs.Prelude.{◌≡◌, ◌≤◌, ℕ, List, length, IfOk, Ok, Err, Some, None};
+ghost use Rattle.std.specs.Prelude.{◌≡◌, ◌≤◌, ◌⊎◌, ℕ, List, length, IfOk, IfErr, MatchResult, Ok, Err, Some, None};
 ghost use Rattle.swreq_lex.specs.declared.lexer.TheConstants.{TEXT_LIMIT};
 ghost use Rattle.swreq_lex.specs.declared.refusal.LexErr.{LexErr};
-ghost use Rattle.swreq_lex.specs.Refusals.{HasRefusal};
+ghost use Rattle.swreq_lex.specs.Refusals.{HasRefusal, HasRefusalFrom};
 ghost use Rattle.swreq_decl.specs.declared.kind.Kind.{Kind};
+ghost use Rattle.swreq_decl.specs.declared.skeleton.CallDecl.{CallDecl};
 ghost use Rattle.swreq_decl.specs.declared.skeleton.Skeleton.{Skeleton};
-ghost use Rattle.swreq_decl.specs.declared.refusal.ParseErr.TheVariants.{Lex, Syntax, Unsupported};
+ghost use Rattle.swreq_decl.specs.declared.refusal.ParseErr.TheVariants.{Lex, Memory, Syntax, Unsupported};
+ghost use Rattle.swreq_decl.specs.Calls as calls;
 ghost use Rattle.swreq_decl.specs.Terminals.{with_terminals};
 ghost use Rattle.swreq_decl.specs.Skeletons.{Exactly, RefusedFor, StandsFor, Tells, refused_kind, start_of, error_of, skeleton_of};
 
+use crate::calls::all_calls;
 use crate::items::all_items;
 use crate::kind::{Kind, kind_of};
 use crate::refusal::ParseErr;
-use crate::skeleton::{Item, Skeleton};
+use crate::skeleton::{CallDecl, Item, Skeleton};
 use crate::terminal::Terminal;
 use crate::tokens::with_terminals;
 use std::alloc::{AllocError, Global};
 use swreq_grammar::{Stop, Token};
-use swreq_lex::{LexErr, TEXT_LIMIT, tokens};
+use swreq_lex::{LexErr, TEXT_LIMIT, tokens, tokens_from};
 use swreq_text::Seq;
 
 /// The skeleton that stands for a text of at most [`TEXT_LIMIT`] bytes, or why none does: a lexical refusal, or a refusal
@@ -119,5 +122,57 @@ fn refusal(end: u32, stop: Stop<'_, Terminal, Kind>) -> ParseErr
                 None => ParseErr::Syntax { at },
             }
         }
+    }
+}
+
+/// The calls for which the part of a text that begins at `from` stands, in written order, or why it stands for none: the part's
+/// lexical refusal, or a syntax error at the first token such that no calls begin with the tokens up to and with it.
+///
+/// Calls have the terminals of the text and its lines for signatures and types (docs/LANGUAGE.md), and are refused for no kind.
+/// Offsets are those of the whole text. Where the part ends too early the place is its length.
+pub fn parse_calls(alloc: Global, text: &[u8], from: u32) -> Result<Vec<CallDecl>, ParseErr>
+    requires limit { length text.now ≤ TEXT_LIMIT }
+    requires from { from ≤ length text.now }
+    ensures ok { IfOk result (λ found. calls.StandsFor text.now from found.items) }
+    ensures err { IfErr result (calls.IsReason text.now from) }
+    ensures calls { (written : List CallDecl) → calls.StandsFor text.now from written →
+        MatchResult result (λ found. found.items ≡ written) (λ e. e ≡ Memory) }
+    ensures lex { (fault : LexErr) → HasRefusalFrom text.now from fault →
+        MatchResult result (λ _. ⊥) (λ e. (e ≡ Memory) ⊎ (e ≡ Lex fault)) }
+    ensures syntax { (at : ℕ) → calls.RefusedAt text.now from at →
+        MatchResult result (λ _. ⊥) (λ e. (e ≡ Memory) ⊎ (e ≡ Syntax at)) }
+{
+    match tokens_from(alloc, text, from) {
+        Ok(found) => parse_call_tokens(alloc, text, &found),
+        Err(LexErr::Memory) => Err(ParseErr::Memory),
+        Err(fault) => Err(ParseErr::Lex { fault }),
+    }
+}
+
+/// The calls for which the tokens of a part of the text stand.
+fn parse_call_tokens(
+    alloc: Global,
+    text: &[u8],
+    found: &[swreq_lex::Token],
+) -> Result<Vec<CallDecl>, ParseErr>
+    requires { length text.now ≤ TEXT_LIMIT }
+    ensures { calls.Tells (length text.now) (with_terminals text.now found.now) result }
+{
+    let coded = with_terminals(alloc, text, found)?;
+    match all_calls(alloc, &coded) {
+        Ok(found) => Ok(found),
+        Err(stop) => Err(refusal_of_calls(text.len() as u32, stop)),
+    }
+}
+
+/// The refusal of calls in a text with this end.
+fn refusal_of_calls(end: u32, stop: Stop<'_, Terminal, Kind>) -> ParseErr
+    ensures { result ≡ calls.error_of end stop.entry }
+{
+    match stop {
+        Stop::Memory => ParseErr::Memory,
+        Stop::Refused(rest, _) => ParseErr::Syntax {
+            at: start_of(end, rest),
+        },
     }
 }

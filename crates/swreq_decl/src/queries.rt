@@ -28,7 +28,7 @@ fn bound_step(tokens: &[Token<Terminal>]) -> Read<'_, StepDecl>
     Ok((StepDecl::Bound { proto, name }, rest))
 }
 
-/// A step of a type in a query.
+/// A step of a type in a query or a call.
 struct QueryStep;
 
 impl Part for QueryStep {
@@ -59,9 +59,9 @@ impl Part for QueryStep {
     }
 }
 
-/// Reads a type in a query.
+/// Reads a type in a query or a call.
 #[tactic(auto, unfolding(crate::specs::Source::qtype, crate::specs::Source::qstep))]
-fn query_type(alloc: Global, tokens: &[Token<Terminal>]) -> Read<'_, TypeDecl>
+pub fn query_type(alloc: Global, tokens: &[Token<Terminal>]) -> Read<'_, TypeDecl>
     ensures { Gives (λ x. (x.0, x.1.now)) result (read number lines.qtype tokens.now) }
 {
     let (head, rest) = name(tokens)?;
@@ -117,9 +117,9 @@ fn asked(alloc: Global, tokens: &[Token<Terminal>]) -> Read<'_, Ask>
     Ok((Ask::Signature, tokens))
 }
 
-/// Reads the struct, if one is named, and the signature of a query.
+/// Reads the struct, if one is named, and the signature of a query or a call.
 #[tactic(auto, unfolding(crate::specs::Source::sname))]
-fn signature_name(tokens: &[Token<Terminal>]) -> Read<'_, (Option<Span>, Span)>
+pub fn signature_name(tokens: &[Token<Terminal>]) -> Read<'_, (Option<Span>, Span)>
     ensures { Gives (λ x. (x.0, x.1.now)) result (read number lines.sname tokens.now) }
 {
     let (first, rest) = name(tokens)?;

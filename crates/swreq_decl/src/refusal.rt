@@ -1,4 +1,4 @@
-//! Why no skeleton stands for a text.
+//! Why a text stands for no skeleton, or for no calls.
 
 ghost use Rattle.std.specs.Prelude.{◌≡◌};
 ghost use Rattle.swreq_decl.specs.declared.refusal.ParseErr.TheVariants.{Memory};
@@ -7,7 +7,7 @@ use crate::kind::Kind;
 use std::alloc::{AllocError, AllocFailed};
 use swreq_lex::LexErr;
 
-/// Why no skeleton stands for a text, with the offset of the place in bytes.
+/// Why a text stands for no skeleton, or a part of it for no calls, with the offset of the place in bytes.
 #[derive(Debug, Drop)]
 pub enum ParseErr {
     /// The text has no tokens; the fault is never [`LexErr::Memory`].

@@ -1,4 +1,4 @@
-//! The parts of a text as they are written.
+//! The parts of a text, and calls, as they are written.
 
 use swreq_text::Seq;
 
@@ -103,6 +103,17 @@ pub struct QueryDecl {
     pub outer: Option<Span>,
     pub function: Span,
     pub ask: Ask,
+}
+
+/// A call: the signature `caller` calls the signature `callee` with these types. Each of the two is of the struct that is named
+/// before it, or where none is named a struct or a function at the top.
+#[derive(Debug, Drop)]
+pub struct CallDecl {
+    pub caller_outer: Option<Span>,
+    pub caller: Span,
+    pub callee_outer: Option<Span>,
+    pub callee: Span,
+    pub args: Seq<TypeDecl>,
 }
 
 /// One of the parts of a text.

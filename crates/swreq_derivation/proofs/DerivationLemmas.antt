@@ -17,7 +17,7 @@ use Rattle.swreq_derive.specs.Derivation.TermStatement.{IsValid, Requires}
 use Rattle.swreq_derive.specs.Facts.{statement_of}
 use Rattle.swreq_derive.specs.Instances.{HasNumber, AreStated, Follows, IsInstance, IsDerivation, TermLine, statements_of}
 use Rattle.swreq_derive.specs.Lines.{line_of, stated_by}
-use Rattle.swreq_orders.proofs.Elements.{get_map, get_of_map}
+use Rattle.swreq_lemmas.proofs.Elements.{get_map, get_of_map}
 use Rattle.swreq_derive.proofs.LineLists.{number_left, number_last}
 use Rattle.swreq_derivation.specs.declared.derivation.Derivation.{Derivation}
 use Rattle.swreq_derivation.specs.UnderWay.{AddsLines, AreIdsIn, Assumptions, IsUnderWay, States, StaysDerived, statements_in}
@@ -215,6 +215,10 @@ same_lines old new e (l ∷ ls) h =
 same_said : (old new : List Term) → Extends old new → (ls : List Line) → AllIn old ls
     → map (statement_of new) (stated_by ls) ≡ map (statement_of old) (stated_by ls)
 same_said old new e ls h = sym (statements_are new ls) ∙ ap statements_of (same_lines old new e ls h) ∙ statements_are old ls
+
+-- the derivation with another table
+abbrev pub with_table : Derivation → List Term → Derivation
+with_table s terms = record { alloc = s.alloc; table = terms; lines = s.lines; stated = s.stated }
 
 pub grown_by_terms : (old new : Derivation) → IsUnderWay old → Extends old.table new.table → new.stated ≡ old.stated
     → new.lines.items ≡ old.lines.items

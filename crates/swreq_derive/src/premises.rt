@@ -47,8 +47,5 @@ fn stated(earlier: &[Line], number: usize) -> Option<Statement>
     if number == 0 {
         return None;
     }
-    match earlier.get(number - 1) {
-        None => None,
-        Some(line) => Some(line.statement),
-    }
+    Some(earlier.get(number - 1)?.statement)
 }

@@ -35,13 +35,10 @@ impl Statement {
             ((t : TermId) (p : ProtoId) → self ≡ Holds (Conf t p) → ⊥)
             (λ x. self ≡ Holds (Conf x.0 x.1)) }
     {
-        match self.as_requirement() {
-            None => None,
-            Some(r) => match r {
-                Requirement::Conf { subject, proto } => Some((subject, proto)),
-                Requirement::Layout { subject: _ } => None,
-                Requirement::Same { left: _, right: _ } => None,
-            },
+        match self.as_requirement()? {
+            Requirement::Conf { subject, proto } => Some((subject, proto)),
+            Requirement::Layout { subject: _ } => None,
+            Requirement::Same { left: _, right: _ } => None,
         }
     }
 
@@ -50,16 +47,13 @@ impl Statement {
             ((t : TermId) → self ≡ Holds (Layout t) → ⊥)
             (λ t. self ≡ Holds (Layout t)) }
     {
-        match self.as_requirement() {
-            None => None,
-            Some(r) => match r {
-                Requirement::Conf {
-                    subject: _,
-                    proto: _,
-                } => None,
-                Requirement::Layout { subject } => Some(subject),
-                Requirement::Same { left: _, right: _ } => None,
-            },
+        match self.as_requirement()? {
+            Requirement::Conf {
+                subject: _,
+                proto: _,
+            } => None,
+            Requirement::Layout { subject } => Some(subject),
+            Requirement::Same { left: _, right: _ } => None,
         }
     }
 
@@ -68,16 +62,13 @@ impl Statement {
             ((t u : TermId) → self ≡ Holds (Same t u) → ⊥)
             (λ x. self ≡ Holds (Same x.0 x.1)) }
     {
-        match self.as_requirement() {
-            None => None,
-            Some(r) => match r {
-                Requirement::Conf {
-                    subject: _,
-                    proto: _,
-                } => None,
-                Requirement::Layout { subject: _ } => None,
-                Requirement::Same { left, right } => Some((left, right)),
-            },
+        match self.as_requirement()? {
+            Requirement::Conf {
+                subject: _,
+                proto: _,
+            } => None,
+            Requirement::Layout { subject: _ } => None,
+            Requirement::Same { left, right } => Some((left, right)),
         }
     }
 }
@@ -91,10 +82,7 @@ pub(crate) fn requirement_at(list: &[Requirement], number: u32) -> Option<Requir
     if number == 0 {
         return None;
     }
-    match list.get(number as usize - 1) {
-        None => None,
-        Some(r) => Some(*r),
-    }
+    Some(*list.get(number as usize - 1)?)
 }
 
 pub(crate) fn is_same(a: Statement, b: Statement) -> bool

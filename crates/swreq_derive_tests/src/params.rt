@@ -57,17 +57,23 @@ fn compare_owned(
     Ok(t.cmp(&u))
 }
 
-/// How each compares with the last one. Generic parameters come before members, and of three members with one base, those bound to
-/// associated types come in their order, and then the name.
-const ORDERS: [Ordering; 8] = [
-    Ordering::Less,
-    Ordering::Less,
-    Ordering::Less,
-    Ordering::Greater,
-    Ordering::Greater,
-    Ordering::Less,
-    Ordering::Greater,
-    Ordering::Equal,
+/// Each by name, and how it compares with the last one. Generic parameters come before members, and of three members with one base, those
+/// bound to associated types come in their order, and then the name.
+const ORDERS: [(&str, Ordering); 8] = [
+    ("the base of the last one", Ordering::Less),
+    ("the second generic parameter", Ordering::Less),
+    ("the third generic parameter", Ordering::Less),
+    ("a name on the same base", Ordering::Greater),
+    ("a name on a later base", Ordering::Greater),
+    (
+        "an earlier associated type on the same base",
+        Ordering::Less,
+    ),
+    (
+        "an earlier associated type on a later base",
+        Ordering::Greater,
+    ),
+    ("the last one itself", Ordering::Equal),
 ];
 
 /// Whether the two compare so in the table and outside of it.
@@ -90,8 +96,9 @@ fn assert_orders(rt: &impl Abort, alloc: Global, table: &ParamTable) -> Result<(
     assert!(rt; table.len() == 8);
     let last = TermId { place: 7 };
     for place in 0..8 {
-        let holds = compare_so(alloc, table, TermId { place }, last, ORDERS[place])?;
-        assert!(rt; holds, "{place}");
+        let (name, wanted) = ORDERS[place];
+        let holds = compare_so(alloc, table, TermId { place }, last, wanted)?;
+        assert!(rt; holds, "{name}");
     }
     Ok(())
 }

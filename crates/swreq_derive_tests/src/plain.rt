@@ -45,25 +45,25 @@ const WRITTEN: &[Conformance] = &[
     },
 ];
 
-/// A generic parameter, a protocol, and whether the one conforms to the other.
-const ASKED: &[(ParamId, ProtoId, bool)] = &[
-    (T, P2, true),
-    (T, P1, true),
-    (T, P0, true),
-    (T, P3, false),
-    (U, P3, true),
-    (U, P0, false),
-    (V, P0, true),
-    (V, P1, false),
+/// By name, a generic parameter, a protocol, and whether the one conforms to the other.
+const ASKED: &[(&str, ParamId, ProtoId, bool)] = &[
+    ("as it is written", T, P2, true),
+    ("the parent of what is written", T, P1, true),
+    ("the parent's parent", T, P0, true),
+    ("a protocol without heirs or parents", T, P3, false),
+    ("as it is written, without a parent", U, P3, true),
+    ("a protocol of other generic parameters", U, P0, false),
+    ("as it is written, with heirs", V, P0, true),
+    ("an heir of what is written", V, P1, false),
 ];
 
 #[test]
 fn inheritance_goes_one_way(rt: HostRuntime) {
-    for (param, proto, answer) in ASKED {
+    for (name, param, proto, answer) in ASKED {
         let asked = Conformance {
             param: *param,
             proto: *proto,
         };
-        assert_eq!(rt; is_derivable(ENTRIES, WRITTEN, asked), *answer, "{asked:?}");
+        assert_eq!(rt; is_derivable(ENTRIES, WRITTEN, asked), *answer, "{name}");
     }
 }

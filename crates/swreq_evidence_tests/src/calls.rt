@@ -4,8 +4,7 @@ ghost use Rattle.swreq_subst.specs.Saying.{HaveIds};
 use crate::worlds::world_of;
 use std::alloc::{AllocError, Global};
 use std::test::Fail;
-use swreq_calls::CallDecl;
-use swreq_decl::{Span, TypeDecl};
+use swreq_decl::{CallDecl, Span, TypeDecl};
 use swreq_param::ParamTable;
 use swreq_subst::resolve_calls;
 use swreq_text::Seq;
@@ -73,18 +72,18 @@ fn put_refused_with(alloc: Global, count: usize, out: &mut String) -> Result<(),
     put_refused(alloc, &[backwards(types)], out)
 }
 
-/// How many types a call is given, and what is refused of it.
-const CALLS: &[(usize, &str)] = &[
-    (1, "unknown signature at 4"),
-    (2, "wrong number of arguments at 2"),
+/// By name, how many types a call is given, and what is refused of it.
+const CALLS: &[(&str, usize, &str)] = &[
+    ("as many types as f has", 1, "unknown signature at 4"),
+    ("more types than f has", 2, "wrong number of arguments at 2"),
 ];
 
 #[test]
 fn types_of_an_unknown_caller_are_counted_and_not_looked_at(rt: HostRuntime) -> Result<(), Fail> {
-    for (count, wanted) in CALLS {
+    for (name, count, wanted) in CALLS {
         let mut refused = String::new(rt.alloc());
         put_refused_with(rt.alloc(), *count, &mut refused)?;
-        assert_eq!(rt; refused.as_str(), *wanted, "of {count} types");
+        assert_eq!(rt; refused.as_str(), *wanted, "{name}");
     }
     Ok(())
 }

@@ -4,6 +4,8 @@
 #[cfg(test)]
 mod calls;
 #[cfg(test)]
+mod names;
+#[cfg(test)]
 mod paths;
 #[cfg(test)]
 mod printed;

@@ -5,7 +5,7 @@ ghost use Rattle.swreq_derive.specs.WellFormed.{AreProtocolsWellFormed};
 ghost use Rattle.swreq_lowering.specs.ByTable.{HasQueryIdsOf, query_by};
 ghost use Rattle.swreq_symbols.specs.Known.{IsRequirementIn, IsTextOver};
 ghost use Rattle.swreq_symbols.specs.Meaning.{facts_of};
-ghost use Rattle.swreq_valid.specs.Machines.{AreRulesOf};
+ghost use Rattle.swreq_valid.specs.Protocols.{AreRulesOf};
 ghost use Rattle.swreq_valid.specs.Rounds.{last_rules};
 ghost use Rattle.swreq_world.specs.ByTable.{world_by};
 ghost use Rattle.swreq_world.specs.Closed.{IsQueryOf};
@@ -18,9 +18,10 @@ use std::test::Fail;
 use swreq_confpath::{ConfPath, shortest};
 use swreq_derive::Requirement;
 use swreq_lowering::Query;
+use swreq_machine::Machine;
 use swreq_param::{ParamTable, ProtoId, TermId};
 use swreq_symbols::Text;
-use swreq_valid::{Machine, Protocols};
+use swreq_valid::Protocols;
 use swreq_world::{FuncId, World};
 
 /// Writes the numbers of a path, with blanks between them, as a line.

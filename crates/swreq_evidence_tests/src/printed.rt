@@ -1,4 +1,4 @@
-//! What a caller of the library gets of a small text: answers, a minimised list, a reduced system, and names.
+//! What a caller of the library gets of a small text: answers, a minimised list, and a reduced system.
 ghost use Rattle.std.specs.Prelude.{◌≡◌, ◌<◌, List, IfSome, length};
 ghost use Rattle.swreq_map.specs.Follows.{IsMapOf};
 ghost use Rattle.swreq_param.specs.Terms.{Term};
@@ -7,7 +7,7 @@ ghost use Rattle.swreq_lowering.specs.ByTable.{HasQueryIdsOf};
 ghost use Rattle.swreq_query.specs.Asked.{IsQueryIn};
 ghost use Rattle.swreq_symbols.specs.Known.{IsTextOver};
 ghost use Rattle.swreq_symbols.specs.Meaning.{facts_of};
-ghost use Rattle.swreq_valid.specs.Machines.{AreRulesOf};
+ghost use Rattle.swreq_valid.specs.Protocols.{AreRulesOf};
 ghost use Rattle.swreq_valid.specs.Rounds.{last_rules};
 ghost use Rattle.swreq_world.specs.ByTable.{world_by};
 ghost use Rattle.swreq_confpath.specs.Searches.{IsMachineFor};
@@ -17,11 +17,11 @@ use crate::worlds::{LIMITS, machine_of, protocols_of, world_of};
 use std::alloc::{AllocError, Global};
 use std::test::Fail;
 use swreq_lowering::Query;
+use swreq_machine::{Machine, Scratch};
 use swreq_map::PropertyMap;
 use swreq_param::{ParamTable, TermId};
-use swreq_query::{answer, full_name, minimised_line, system_text};
-use swreq_text::append_bytes;
-use swreq_valid::{Machine, Protocols, Scratch};
+use swreq_query::{answer, minimised_line, system_text};
+use swreq_valid::Protocols;
 use swreq_watch::Quiet;
 use swreq_world::{FuncId, World};
 
@@ -140,7 +140,7 @@ fn put_minimised(own: &Own<'_, '_>, table: &mut ParamTable, out: &mut Vec<u8>) -
         (last_rules own.now.protocols.now.rounds) }
     requires machine { IsMachineFor table.old own.now.world.now own.now.f own.now.machine.now }
 {
-    match minimised_line(
+    minimised_line(
         own.alloc,
         own.world,
         table,
@@ -150,10 +150,8 @@ fn put_minimised(own: &Own<'_, '_>, table: &mut ParamTable, out: &mut Vec<u8>) -
         LIMITS,
         &mut Quiet,
         out,
-    ) {
-        Ok(()) => Ok(()),
-        Err(_) => Err("no line".into()),
-    }
+    )?;
+    Ok(())
 }
 
 /// Appends the reduced system of the signature.
@@ -245,44 +243,6 @@ fn put_printed(alloc: Global, text: &str, what: Printed, out: &mut Vec<u8>) -> R
     put_in(alloc, text, &mut table, what, out)
 }
 
-/// Appends the name of a signature as a line.
-fn put_name(
-    world: &World,
-    table: &ParamTable,
-    f: FuncId,
-    out: &mut Vec<u8>,
-) -> Result<(), AllocError>
-    requires { f.place < length world.now.signatures }
-{
-    full_name(world, table, f, out)?;
-    append_bytes(out, b"\n")
-}
-
-/// Appends the names of the signatures of a world, each as a line.
-fn put_each_name(world: &World, table: &ParamTable, out: &mut Vec<u8>) -> Result<(), AllocError> {
-    for place in 0..world.functions() {
-        put_name(world, table, FuncId { place }, out)?;
-    }
-    Ok(())
-}
-
-/// Appends the names of the signatures of a text, over the table.
-fn put_names_in(
-    alloc: Global,
-    text: &str,
-    table: &mut ParamTable,
-    out: &mut Vec<u8>,
-) -> Result<(), Fail> {
-    let world = world_of(alloc, text, table)?;
-    Ok(put_each_name(&world, table, out)?)
-}
-
-/// Appends the names of the signatures of a text, each as a line.
-fn put_names(alloc: Global, text: &str, out: &mut Vec<u8>) -> Result<(), Fail> {
-    let mut table = ParamTable::new(alloc);
-    put_names_in(alloc, text, &mut table, out)
-}
-
 /// A text of two protocols and one function. U is the member A of T, so it conforms to Base, and so does T, by inheritance.
 const TEXT: &str = "\
 protocol Base { }
@@ -336,18 +296,5 @@ fn a_reduced_system_has_its_name_its_number_and_its_rules(rt: HostRuntime) -> Re
     let mut out = Vec::new(rt.alloc());
     put_printed(rt.alloc(), TEXT, Printed::System, &mut out)?;
     assert_eq!(rt; out.as_slice(), SYSTEM.as_bytes());
-    Ok(())
-}
-
-/// A struct stands before its functions.
-#[test]
-fn the_function_of_a_struct_is_named_behind_it(rt: HostRuntime) -> Result<(), Fail> {
-    let mut out = Vec::new(rt.alloc());
-    put_names(
-        rt.alloc(),
-        "func f() struct S<T> { func f<U>() func g() }",
-        &mut out,
-    )?;
-    assert_eq!(rt; out.as_slice(), b"f\nS\nS.f\nS.g\n".as_slice());
     Ok(())
 }

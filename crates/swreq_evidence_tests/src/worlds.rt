@@ -3,7 +3,7 @@ ghost use Rattle.std.specs.Prelude.{◌<◌, IfOk, length};
 ghost use Rattle.swreq_derive.specs.WellFormed.{AreProtocolsWellFormed};
 ghost use Rattle.swreq_symbols.specs.Known.{IsTextOver};
 ghost use Rattle.swreq_symbols.specs.Meaning.{facts_of};
-ghost use Rattle.swreq_valid.specs.Machines.{AreRulesOf};
+ghost use Rattle.swreq_valid.specs.Protocols.{AreRulesOf};
 ghost use Rattle.swreq_valid.specs.Rounds.{last_rules};
 ghost use Rattle.swreq_world.specs.ByTable.{world_by};
 ghost use Rattle.swreq_world.specs.Short.{IsShort};
@@ -13,12 +13,13 @@ ghost use Rattle.swreq_subst.specs.Saying.{HaveIds};
 use std::alloc::Global;
 use std::test::Fail;
 use swreq_complete::Limits;
+use swreq_machine::Machine;
 use swreq_param::ParamTable;
 use swreq_reqsig::laws::valid_sides_are_well_formed;
 use swreq_samples::skeleton_of;
 use swreq_subst::laws::names_have_ids;
 use swreq_symbols::Text;
-use swreq_valid::{Machine, Protocols};
+use swreq_valid::Protocols;
 use swreq_watch::Quiet;
 use swreq_world::{FuncId, World};
 
@@ -40,10 +41,8 @@ pub(crate) fn world_of(alloc: Global, text: &str, table: &mut ParamTable) -> Res
     }
     names_have_ids(bytes);
     let skeleton = skeleton_of(alloc, bytes)?;
-    match World::resolve(alloc, bytes, &skeleton, table) {
-        Ok(world) => Ok(world),
-        Err(_) => Err("no world".into()),
-    }
+    let world = World::resolve(alloc, bytes, &skeleton, table)?;
+    Ok(world)
 }
 
 /// The rules of the protocols, which are well formed.
@@ -59,10 +58,8 @@ pub(crate) fn protocols_of(
         (λ p. AreRulesOf (world_by table.now world.now) (last_rules p.rounds)) }
 {
     valid_sides_are_well_formed();
-    match Protocols::build(alloc, world, table, LIMITS, &mut Quiet) {
-        Ok(protocols) => Ok(protocols),
-        Err(_) => Err("no rules".into()),
-    }
+    let protocols = Protocols::build(alloc, world, table, LIMITS, &mut Quiet)?;
+    Ok(protocols)
 }
 
 /// The machine of a signature.
@@ -80,8 +77,6 @@ pub(crate) fn machine_of<'b>(
     ensures { IfOk result (IsMachineFor table.now world.now f) }
 {
     let text = Text { world, table };
-    match Machine::of_signature(alloc, &text, protocols, f, LIMITS, &mut Quiet) {
-        Ok(machine) => Ok(machine),
-        Err(_) => Err("no machine".into()),
-    }
+    let machine = Machine::of_signature(alloc, &text, protocols, f, LIMITS, &mut Quiet)?;
+    Ok(machine)
 }

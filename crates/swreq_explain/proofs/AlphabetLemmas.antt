@@ -1,7 +1,7 @@
 -- The alphabet of a world has the inheritance of the world, its symbols, and its facts.
-use Rattle.std.proofs.Common.{◌≡◌, ◌∙◌, ◌⊎◌, inl, inr, ℕ, zero, suc, ◌-◌, ◌≤◌, Bool, true, false, cond, List, Some, Contains, ap, arith, length, refl, slice_get, subst, sym}
-use Rattle.swreq_orders.proofs.Elements.{contains_get, get_contains, get_map, get_of_map}
-use Rattle.swreq_closure.specs.Bits.{count_below}
+use Rattle.std.proofs.Common.{◌≡◌, ◌∙◌, ◌⊎◌, inl, inr, ℕ, suc, ◌-◌, ◌≤◌, true, List, Some, Contains, ap, arith, length, refl, slice_get, subst, sym}
+use Rattle.swreq_lemmas.proofs.Elements.{contains_get, get_contains, get_map, get_of_map}
+use Rattle.swreq_closure.proofs.Counts.{count_le}
 use Rattle.swreq_param.specs.declared.ids.ProtoId.{ProtoId}
 use Rattle.swreq_param.specs.Terms.{Term, self}
 use Rattle.swreq_derive.specs.declared.known.Params.{Params}
@@ -31,15 +31,6 @@ use Rattle.swreq_symbols.proofs.Declared.{at_rank, from_rank, symbol_at}
 use Rattle.swreq_symbols.proofs.Symbols.{text_law}
 use Rattle.swreq_explain.specs.declared.alphabets.TextNames.{TextNames}
 use Rattle.swreq_explain.specs.TextAlphabet.{AreNamesOf, IsAlphabetOf, alphabet_from, named_by, parent}
-
--- no more numbers below n pass a test than there are
-below_count : (test : ℕ → Bool) (n : ℕ) → count_below test n ≤ n
-below_count test zero = omega arith
-below_count test (suc n) = let h = below_count test n in let e = one (test n) in omega (arith, h, e)
-  where
-    one : (b : Bool) → cond b 1 0 ≤ 1
-    one true = omega arith
-    one false = omega arith
 
 -- The names of the text, with the generic parameters of a list, are the alphabet of the world.
 pub alphabet_is : (terms : List Term) (w : IdWorld) (params : Params) (n : TextNames) → AreNamesOf (world_by terms w) n
@@ -133,7 +124,7 @@ module _ (terms : List Term) (w : IdWorld) (params : Params) (g : Alphabet) (is 
   pub is_inherited : IsInherited g
   is_inherited = record {
     depth = depth x;
-    bounded = λ p. subst (λ n. depth x p ≤ n) (sym is.protocols) (below_count (λ q. inherits x p (over.protocol q)) (length x.protocols));
+    bounded = λ p. subst (λ n. depth x p ≤ n) (sym is.protocols) (count_le (λ q. inherits x p (over.protocol q)) (length x.protocols));
     goes_down = λ e c.
         let (n, at) = is.parents.written e c in
         let direct : InheritsDirectly f e.heir e.proto = get_contains (f.of_protocol e.heir) (e.number - 1) (Conforms self e.proto) at in

@@ -1,6 +1,6 @@
 -- The first lines of a derivation, up to the line that states this.
 use Rattle.std.proofs.Common.{◌≡◌, ◌∙◌, ℕ, zero, suc, ◌-◌, ◌≤◌, List, [], ◌∷◌, ap, arith, map, refl, subst, sym, take}
-use Rattle.swreq_orders.proofs.Elements.{get_map, get_of_map, in_whole, take_one}
+use Rattle.swreq_lemmas.proofs.Elements.{get_map, get_of_map, in_whole, take_one}
 use Rattle.swreq_param.specs.Tables.{AreDistinct}
 use Rattle.swreq_param.specs.Terms.{Term}
 use Rattle.swreq_derive.specs.declared.lines.Line.{Line}

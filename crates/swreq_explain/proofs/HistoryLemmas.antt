@@ -2,7 +2,7 @@
 use Rattle.std.proofs.Common.{◌≡◌, ◌∙◌, inl, inr, ℕ, suc, ◌+◌, ◌-◌, ◌<◌, ◌≤◌, ◌^◌, List, [], ◌∷◌, ◌++◌, Option, Some, None, ap, ap₂, arith, length, length-append, map, refl, slice_get, subst, sym}
 use Rattle.std.proofs.lemmas.List.{map-append}
 use Rattle.std.proofs.lemmas.Option.{get_or_from_slice_get, same_Some, slice_get-get_or, slice_get_within}
-use Rattle.swreq_orders.proofs.Elements.{get_after, get_cases, get_either, get_left, get_map, in_front, there_is}
+use Rattle.swreq_lemmas.proofs.Elements.{get_after, get_cases, get_either, get_left, get_map, in_front, there_is}
 use Rattle.swreq_param.specs.declared.ids.ParamId.{ParamId}
 use Rattle.swreq_param.specs.declared.ids.ProtoId.{ProtoId}
 use Rattle.swreq_param.specs.Owned.{as_term}
@@ -36,7 +36,8 @@ use Rattle.swreq_births.specs.declared.history.Reason.TheVariants.{Doubled, Name
 use Rattle.swreq_births.specs.declared.history.System.{System}
 use Rattle.swreq_births.specs.Systems.{AreSymbols, FitsHistory, HasShownSides, IsGivenBy, IsHistory, IsShown, IsSystem, IsWritten, given_of, requirement_by, rules_at, source_of, system_at, systems_of}
 use Rattle.swreq_valid.specs.Flags.{chosen}
-use Rattle.swreq_valid.specs.Machines.{MachineView, ProtocolsView, machine_plan, protocols_of}
+use Rattle.swreq_machine.specs.Machines.{MachineView, machine_plan}
+use Rattle.swreq_valid.specs.Protocols.{ProtocolsView, protocols_of}
 use Rattle.swreq_valid.specs.Plans.{bare, listed}
 use Rattle.swreq_valid.specs.Rounds.{RoundView, last_rules}
 use Rattle.swreq_valid.proofs.Flagged.{chosen_map}

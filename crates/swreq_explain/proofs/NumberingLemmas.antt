@@ -1,7 +1,7 @@
 -- Written requirements with their numbers, and their equations.
 use Rattle.std.proofs.Common.{◌≡◌, ◌∙◌, inl, inr, ℕ, zero, suc, ◌+◌, ◌-◌, ◌<◌, ◌≤◌, Bool, List, [], ◌∷◌, ◌++◌, Option, Some, None, ap, ap₂, append_assoc, arith, drop, get_or, length, map, refl, slice_get, subst, sym, take, take_all, true, false}
 use Rattle.std.proofs.lemmas.List.{append-nil, drop_all, drop_more, map-append}
-use Rattle.swreq_orders.proofs.Elements.{contains_get, get_cases, get_contains, get_either, get_map, get_of_map}
+use Rattle.swreq_lemmas.proofs.Elements.{contains_get, get_cases, get_contains, get_either, get_map, get_of_map}
 use Rattle.swreq_param.specs.declared.ids.ParamId.{ParamId}
 use Rattle.swreq_param.specs.declared.ids.ProtoId.{ProtoId}
 use Rattle.swreq_param.specs.Terms.{Term, head}

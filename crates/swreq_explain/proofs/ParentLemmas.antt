@@ -4,8 +4,8 @@ use Rattle.std.proofs.lemmas.Bool.{cases_lt}
 use Rattle.std.proofs.lemmas.List.{get_or_past, length-map}
 use Rattle.std.proofs.lemmas.List.Elements.{All-contains, All-get_or, Contains-append_cases, Contains-append_left, Contains-append_right}
 use Rattle.std.proofs.lemmas.Option.{slice_get_within}
-use Rattle.swreq_orders.proofs.Elements.{get_map}
-use Rattle.swreq_orders.proofs.Members.{contains_map, first_member, no_member, only_member}
+use Rattle.swreq_lemmas.proofs.Elements.{get_map}
+use Rattle.swreq_lemmas.proofs.Members.{contains_map, first_member, no_member, only_member}
 use Rattle.swreq_param.specs.declared.ids.ProtoId.{ProtoId}
 use Rattle.swreq_param.specs.Terms.{Term, self}
 use Rattle.swreq_derive.specs.declared.requirements.Requirement.{Requirement}

@@ -1,7 +1,7 @@
 -- What lines are derived from, over a table that has grown.
 use Rattle.std.proofs.Common.{◌≡◌, ◌∙◌, ℕ, ◌<◌, List, [], ◌∷◌, Contains, Some, ap, length, map, refl, slice_get, subst, sym}
-use Rattle.swreq_orders.proofs.Elements.{contains_get, get_contains}
-use Rattle.swreq_orders.proofs.Members.{contains_of_map, first_member, later_member}
+use Rattle.swreq_lemmas.proofs.Elements.{contains_get, get_contains}
+use Rattle.swreq_lemmas.proofs.Members.{contains_of_map, first_member, later_member}
 use Rattle.swreq_param.specs.declared.ids.ProtoId.{ProtoId}
 use Rattle.swreq_param.specs.Tables.{Extends}
 use Rattle.swreq_param.specs.Terms.{Term}
@@ -27,12 +27,12 @@ use Rattle.swreq_births.specs.declared.history.System.{System}
 use Rattle.swreq_births.specs.Systems.{FitsHistory}
 use Rattle.swreq_correspondence.specs.Symbols.{Symbols, left_side, right_side}
 use Rattle.swreq_lexicon.specs.Views.{LexiconView}
-use Rattle.swreq_lowering.specs.ByTable.{HasIdsOf}
+use Rattle.swreq_lowering.proofs.Growing.{requirement_stays}
 use Rattle.swreq_symbols.specs.Known.{IsRequirementIn, IsTextOver}
 use Rattle.swreq_symbols.specs.Meaning.{symbols_of}
 use Rattle.swreq_symbols.specs.Overs.{source_by}
 use Rattle.swreq_valid.specs.Flags.{chosen}
-use Rattle.swreq_valid.specs.Machines.{ProtocolsView}
+use Rattle.swreq_valid.specs.Protocols.{ProtocolsView}
 use Rattle.swreq_symbols.proofs.Growing.{world_stays}
 use Rattle.swreq_symbols.proofs.OfText.{are_facts, facts_are, requirements_placed, signature_is}
 use Rattle.swreq_world.specs.ByTable.{IsOverTable, world_by}
@@ -104,16 +104,12 @@ history_stays old new w f b more over h = subst (λ (z : TextWorld). IsHistoryFo
 -- ---- the history of a text
 
 module _ (old new : List Term) (more : Extends old new) where
-  requirement_stays : (r : Requirement) → HasIdsOf old r → requirement_of new r ≡ requirement_of old r
-  requirement_stays (Conf t p) h = let e = more.stands t h in cc
-  requirement_stays (Layout t) h = let e = more.stands t h in cc
-  requirement_stays (Same t u) h = let e = more.stands t h.0 in let f = more.stands u h.1 in cc
-
   module _ (m : Symbols) (x : LexiconView) where
     equation_stays : (n : Numbered) (shown : ℕ) (e : Equation) → IsRequirementIn old x n.requirement → IsEquationOf m old n shown e
         → IsEquationOf m new n shown e
     equation_stays n shown e known is =
-        let same : requirement_of old n.requirement ≡ requirement_of new n.requirement = sym (requirement_stays n.requirement known.0) in
+        let same : requirement_of old n.requirement ≡ requirement_of new n.requirement
+        = sym (requirement_stays old new n.requirement more known.0) in
         record {
           left = is.left ∙ ap (left_side m (source_by n.owner)) same;
           right = is.right ∙ ap (right_side m (source_by n.owner)) same;

@@ -1,6 +1,6 @@
 -- The lines of a derivation over the facts of a world mention only what the world has.
 use Rattle.std.proofs.Common.{◌≡◌, ℕ, zero, suc, ◌-◌, ◌<◌, List, [], ◌∷◌, Contains, Some, arith, length, map, slice_get, subst, sym, take}
-use Rattle.swreq_orders.proofs.Elements.{contains_get, get_contains, get_map, get_of_map}
+use Rattle.swreq_lemmas.proofs.Elements.{contains_get, get_contains, get_map, get_of_map}
 use Rattle.swreq_param.specs.declared.ids.ParamId.{ParamId}
 use Rattle.swreq_param.specs.declared.ids.ProtoId.{ProtoId}
 use Rattle.swreq_param.specs.declared.ids.NameId.{NameId}

@@ -14,7 +14,8 @@ use Rattle.swreq_world.specs.ByTable.{world_by}
 use Rattle.swreq_world.specs.FactsAt.{facts_of, source_of}
 use Rattle.swreq_world.specs.Worlds.{IdWorld, signature_at}
 use Rattle.swreq_symbols.specs.Known.{IsRequirementIn}
-use Rattle.swreq_valid.specs.Machines.{IsMachineOf, MachineView, ProtocolsView, machine_plan, protocols_of}
+use Rattle.swreq_machine.specs.Machines.{IsMachineOf, MachineView, machine_plan}
+use Rattle.swreq_valid.specs.Protocols.{ProtocolsView, protocols_of}
 use Rattle.swreq_valid.specs.Plans.{bare, listed}
 use Rattle.swreq_valid.specs.Rounds.{AreRounds, last_rules}
 

@@ -12,7 +12,8 @@ use Rattle.swreq_derivation.specs.UnderWay.{Assumptions}
 use Rattle.swreq_symbols.specs.Meaning.{symbols_of}
 use Rattle.swreq_births.specs.declared.history.History.{History}
 use Rattle.swreq_births.specs.Systems.{AreSymbols, FitsHistory, IsHistory, rules_at, systems_of}
-use Rattle.swreq_valid.specs.Machines.{MachineView, ProtocolsView}
+use Rattle.swreq_machine.specs.Machines.{MachineView}
+use Rattle.swreq_valid.specs.Protocols.{ProtocolsView}
 use Rattle.swreq_valid.specs.Plans.{bare}
 use Rattle.swreq_valid.specs.Rounds.{RoundView, last_rules}
 use Rattle.swreq_world.specs.FactsAt.{facts_of, source_of, written_list}

@@ -27,9 +27,10 @@ use std::alloc::{AllocError, Global};
 use swreq_births::History;
 use swreq_derive::{Line, Requirement};
 use swreq_lowering::{FuncId, Query};
+use swreq_machine::Machine;
 use swreq_param::ParamTable;
 use swreq_symbols::{Text, equation};
-use swreq_valid::{Machine, Protocols};
+use swreq_valid::Protocols;
 use swreq_world::World;
 
 /// The requirement that a query asks of its signature, or None for a query of a type or of a signature.

@@ -18,9 +18,10 @@ use crate::text_history::TextHistory;
 use std::alloc::{AllocError, Global};
 use swreq_births::{Equation, History, System};
 use swreq_lowering::FuncId;
+use swreq_machine::Machine;
 use swreq_symbols::Text;
 use swreq_text::Seq;
-use swreq_valid::{Machine, Protocols};
+use swreq_valid::Protocols;
 
 /// The system of a round, with these basic equations. Its first `base` rules are those of the system at `below`.
 pub(crate) fn system_of(

@@ -3,7 +3,7 @@ ghost use Rattle.std.specs.Prelude.{◌≡◌, ◌+◌, ◌<◌, IfOk, length};
 ghost use Rattle.swreq_complete.specs.declared.limit.Limits.{Limits};
 ghost use Rattle.swreq_symbols.specs.Known.{IsTextOver};
 ghost use Rattle.swreq_symbols.specs.Meaning.{symbols_of};
-ghost use Rattle.swreq_valid.specs.Machines.{protocols_of};
+ghost use Rattle.swreq_valid.specs.Protocols.{protocols_of};
 ghost use Rattle.swreq_valid.specs.Rounds.{AreRounds};
 ghost use Rattle.swreq_world.specs.ByTable.{world_by};
 ghost use Rattle.swreq_world.specs.Short.{IsShort};

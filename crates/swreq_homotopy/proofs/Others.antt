@@ -3,7 +3,7 @@ use Rattle.std.proofs.Common.{◌≡◌, ◌≢◌, ℕ, zero, suc, ◌+◌, ◌
 use Rattle.std.specs.List.{slice_get}
 use Rattle.std.proofs.Math.Seq.{take-append_seam, take-length}
 use Rattle.swreq_word.specs.declared.symbols.Symbol.{Symbol}
-use Rattle.swreq_orders.proofs.Elements.{get_either}
+use Rattle.swreq_lemmas.proofs.Elements.{get_either}
 use Rattle.swreq_path.specs.declared.steps.RewriteStep.{RewriteStep}
 use Rattle.swreq_path.specs.declared.paths.Loop.{Loop}
 use Rattle.swreq_path.specs.Inverse.{inverse_step, inverse}

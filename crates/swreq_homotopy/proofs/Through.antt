@@ -16,7 +16,8 @@ use Rattle.swreq_path.specs.Paths.{StepsLead, HasTarget}
 use Rattle.swreq_path.proofs.Leading.{one_end}
 use Rattle.swreq_path.proofs.Reducing.{reduce_lead, reduce_chain}
 use Rattle.swreq_homotopy.specs.Loops.{SidesReduceToOne, ReducesThrough, IsLoopOfPair}
-use Rattle.swreq_homotopy.proofs.PairSteps.{side_is, both_put}
+use Rattle.swreq_pair.proofs.PairWords.{both_put}
+use Rattle.swreq_homotopy.proofs.PairSteps.{side_is}
 
 module _ (rules : List Rule) where
   pub through_leads : (steps : List RewriteStep) (at number : ℕ) (w side end : List Symbol)

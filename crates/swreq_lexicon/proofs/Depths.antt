@@ -1,7 +1,7 @@
 -- A protocol inherits more protocols than each protocol that it inherits.
 use Rattle.std.proofs.Common.{◌≡◌, ℕ, zero, suc, ◌<◌, ◌≤◌, ⊎_elim, Bool, true, false, cond, length, refl, sym, ap, ◌∙◌, arith}
 use Rattle.std.proofs.lemmas.Bool.{false_from_ne_true}
-use Rattle.swreq_orders.proofs.Numbers.{last_or_below}
+use Rattle.swreq_lemmas.proofs.Numbers.{last_or_below}
 use Rattle.swreq_closure.proofs.Marks.{joined_chains}
 use Rattle.swreq_decl.specs.declared.skeleton.Skeleton.{Skeleton}
 use Rattle.swreq_names.specs.Inheritance.{inheritance}

@@ -6,7 +6,7 @@ use Rattle.std.proofs.Math.Bool.{and-false, and-true}
 use Rattle.std.proofs.lemmas.Cmp.{nat_list_cmp_total}
 use Rattle.std.proofs.lemmas.List.{length-map}
 use Rattle.std.proofs.lemmas.Option.{slice_get_within, slice_get-get_or, same_Some}
-use Rattle.swreq_orders.proofs.Numbers.{last_or_below}
+use Rattle.swreq_lemmas.proofs.Numbers.{last_or_below}
 use Rattle.swreq_closure.specs.Bits.{has, room, count_below}
 use Rattle.swreq_closure.specs.Chains.{Matrix, leads}
 use Rattle.swreq_closure.specs.Walks.{AreApart}

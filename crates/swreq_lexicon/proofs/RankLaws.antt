@@ -16,9 +16,9 @@ use Rattle.std.proofs.lemmas.List.Elements.{Contains-append_right}
 use Rattle.std.proofs.lemmas.List.Quantifiers.{position-Some}
 use Rattle.std.proofs.lemmas.Option.{slice_get-get_or, slice_get-map, slice_get_within, get_or_from_slice_get, same_Some}
 use Rattle.std.proofs.lemmas.Slice.Eq.{bytes_eq-Decides}
-use Rattle.swreq_orders.proofs.Numbers.{above}
-use Rattle.swreq_orders.proofs.Elements.{get_contains}
-use Rattle.swreq_orders.proofs.Members.{no_member, member_cases}
+use Rattle.swreq_lemmas.proofs.Numbers.{above}
+use Rattle.swreq_lemmas.proofs.Elements.{get_contains}
+use Rattle.swreq_lemmas.proofs.Members.{no_member, member_cases}
 use Rattle.swreq_decl.specs.declared.skeleton.ProtocolDecl.{ProtocolDecl}
 use Rattle.swreq_decl.specs.declared.skeleton.Skeleton.{Skeleton}
 use Rattle.swreq_derive.specs.Derivation.{AssociatedType}

@@ -6,8 +6,8 @@ use Rattle.swreq_derive.specs.Instances.{TermLine}
 use Rattle.swreq_derive.specs.Lines.{line_of}
 use Rattle.swreq_lexicon.specs.Views.{LexiconView}
 use Rattle.swreq_param.specs.Terms.{Term}
-use Rattle.swreq_parts.specs.Lines.{lines}
-use Rattle.swreq_parts.proofs.Lined.{lines-line}
+use Rattle.swreq_text.specs.Lines.{lines}
+use Rattle.swreq_text.proofs.Lined.{lines-line}
 use Rattle.swreq_print.specs.Names.{Text}
 use Rattle.swreq_print.specs.Reading.{TellsApart}
 use Rattle.swreq_lines.specs.GoodLines.{AreLinesOf, AreTextsOf, IsFirstNotGood, IsGood, IsReadableLine}

@@ -5,7 +5,7 @@ use Rattle.std.specs.List.{list_all, position_or_len}
 use Rattle.std.proofs.lemmas.Bool.{and_from, and_parts, eq-eqb, eqb-true}
 use Rattle.std.proofs.lemmas.List.{append-nil, take_rest}
 use Rattle.std.proofs.lemmas.List.Elements.{All-cons, All-nil}
-use Rattle.swreq_parts.specs.Lines.{IsOneLine, line_feed}
+use Rattle.swreq_text.specs.Lines.{IsOneLine, line_feed}
 use Rattle.swreq_print.specs.Names.{Text}
 use Rattle.swreq_lines.specs.Pieces.{Ends, IsWithout, behind}
 

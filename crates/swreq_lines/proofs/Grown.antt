@@ -1,31 +1,22 @@
 -- What stays the same in a table that begins with the old one.
 use Rattle.std.proofs.Common.{◌≡◌, ◌∷◌, [], refl, ap, ap₂, List, map, Contains}
 use Rattle.swreq_derive.specs.declared.lines.Line.{Line}
-use Rattle.swreq_derive.specs.declared.requirements.Requirement.{Requirement}
-use Rattle.swreq_derive.specs.declared.requirements.Requirement.TheVariants.{Conf, Layout, Same}
 use Rattle.swreq_derive.specs.declared.requirements.Statement.{Statement}
 use Rattle.swreq_derive.specs.declared.requirements.Statement.TheVariants.{Holds, Valid}
-use Rattle.swreq_derive.specs.Derivation.TermRequirement.{Conforms, Equals, IsAnyObject}
 use Rattle.swreq_derive.specs.Derivation.TermStatement.{IsValid, Requires}
-use Rattle.swreq_derive.specs.Facts.{requirement_of, statement_of}
+use Rattle.swreq_derive.specs.Facts.{statement_of}
 use Rattle.swreq_derive.specs.Lines.{line_of}
 use Rattle.swreq_lexicon.specs.Views.{LexiconView}
-use Rattle.swreq_lowering.specs.ByTable.{HasIdsOf}
 use Rattle.swreq_param.specs.Tables.{Extends}
 use Rattle.swreq_param.specs.Terms.{Term}
-use Rattle.swreq_lowering.proofs.Growing.{ids_stay, of_stays}
-use Rattle.swreq_orders.proofs.Members.{first_member, later_member}
+use Rattle.swreq_lowering.proofs.Growing.{ids_stay, of_stays, requirement_stays}
+use Rattle.swreq_lemmas.proofs.Members.{first_member, later_member}
 use Rattle.swreq_lines.specs.LineTexts.{HasLineIds, HasStatementIds}
 
 module _ (old new : List Term) (grown : Extends old new) where
-  requirement_still : (r : Requirement) → HasIdsOf old r → requirement_of new r ≡ requirement_of old r
-  requirement_still (Conf t p) h = ap (λ u. Conforms u p) (grown.stands t h)
-  requirement_still (Layout t) h = ap IsAnyObject (grown.stands t h)
-  requirement_still (Same t u) h = ap₂ Equals (grown.stands t h.0) (grown.stands u h.1)
-
   pub statement_still : (st : Statement) → HasStatementIds old st → statement_of new st ≡ statement_of old st
   statement_still (Valid t) h = ap IsValid (grown.stands t h)
-  statement_still (Holds r) h = ap Requires (requirement_still r h)
+  statement_still (Holds r) h = ap Requires (requirement_stays old new r grown h)
 
   statement_ids : (st : Statement) → HasStatementIds old st → HasStatementIds new st
   statement_ids (Valid t) h = of_stays old new t grown h

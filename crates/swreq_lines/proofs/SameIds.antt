@@ -10,7 +10,7 @@ use Rattle.swreq_derive.specs.Instances.{TermLine}
 use Rattle.swreq_derive.specs.Lines.{line_of}
 use Rattle.swreq_lexicon.specs.Views.{LexiconView}
 use Rattle.swreq_lowering.specs.ByTable.{HasIdsOf}
-use Rattle.swreq_orders.proofs.Members.{first_member, later_member}
+use Rattle.swreq_lemmas.proofs.Members.{first_member, later_member}
 use Rattle.swreq_param.specs.Tables.{AreDistinct, term_at}
 use Rattle.swreq_param.specs.Terms.{Term}
 use Rattle.swreq_lines.specs.LineTexts.{HasLineIds, HasStatementIds}

@@ -8,7 +8,7 @@ use Rattle.swreq_derive.specs.Derivation.TermStatement.{IsValid, Requires}
 use Rattle.swreq_derive.specs.Instances.{HasNumber, TermLine}
 use Rattle.swreq_derive.specs.Lines.{line_of}
 use Rattle.swreq_lexicon.specs.Views.{LexiconView}
-use Rattle.swreq_parts.specs.Lines.{lines}
+use Rattle.swreq_text.specs.Lines.{lines}
 use Rattle.swreq_print.specs.Names.{Text}
 use Rattle.swreq_print.specs.Reading.{IsReadableRequirement, IsReadableType}
 use Rattle.swreq_lines.specs.declared.lines.LinesErr.{LinesErr}

@@ -14,7 +14,7 @@ use std::alloc::{AllocError, Global};
 use swreq_derive::Line;
 use swreq_lexicon::Lexicon;
 use swreq_param::ParamTable;
-use swreq_parts::first_line;
+use swreq_text::first_line;
 
 /// Why lines are refused.
 #[derive(Clone, Copy, Debug, PartialEq, Eq)]

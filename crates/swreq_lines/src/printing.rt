@@ -101,7 +101,7 @@ impl Print<usize> for Numbers {
 
     ghost fits = { λ _ _. ⊤ };
 
-    #[tactic(auto, using(swreq_text::proofs::Parts::none_grew))]
+    #[tactic(auto, using(swreq_text::proofs::Grown::none_grew))]
     fn put(&self, out: &mut Vec<u8>, item: &usize) -> Result<(), AllocError> {
         append_number(out, *item as u64)
     }

@@ -13,9 +13,9 @@ use Rattle.swreq_rule.specs.declared.rules.Rule.{Rule}
 use Rattle.swreq_correspondence.specs.Symbols.{IsInText, left_side, right_side}
 use Rattle.swreq_rounds.specs.Presents.{AreListRules}
 use Rattle.swreq_symbols.specs.Vanishing.{Links}
-use Rattle.swreq_valid.specs.Machines.{IsMachineOf, MachineView}
+use Rattle.swreq_machine.specs.Machines.{IsMachineOf, MachineView}
 use Rattle.swreq_valid.specs.Rounds.{ended_round, last_rules}
-use Rattle.swreq_valid.proofs.Answering.{by_sides, derivable_shown, shown_derivable}
+use Rattle.swreq_machine.proofs.Answering.{by_sides, derivable_shown, shown_derivable}
 use Rattle.swreq_list_rules.specs.declared.setting.Setting.{Setting}
 use Rattle.swreq_list_rules.specs.ListRules.{AreRulesOfList, AreShownBy}
 use Rattle.swreq_list_rules.specs.Settings.{IsSetting, facts_in, source_in, symbols_in, text_in}

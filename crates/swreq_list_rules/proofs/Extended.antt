@@ -1,7 +1,7 @@
 -- The rules of a list, completed by the equation of one requirement more.
 use Rattle.std.proofs.Common.{◌≡◌, ◌⊎◌, ◌∙◌, inl, inr, refl, sym, ap, subst, subst₂, List, [], ◌∷◌, ◌++◌, length, Contains}
 use Rattle.std.proofs.lemmas.List.Elements.{Contains-append_left, Contains-append_right, Contains-push_cases}
-use Rattle.swreq_orders.proofs.Members.{first_member, only_member}
+use Rattle.swreq_lemmas.proofs.Members.{first_member, only_member}
 use Rattle.swreq_param.specs.declared.ids.ParamId.{ParamId}
 use Rattle.swreq_derive.specs.Derivation.{Derivable, TermFacts, TermRequirement, TermStatement}
 use Rattle.swreq_derive.specs.Derivation.Source.{Written}

@@ -3,7 +3,7 @@ use Rattle.std.proofs.Common.{◌≡◌, ◌⊎◌, inl, inr, refl, sym, subst, 
 use Rattle.std.specs.Prelude.{remove}
 use Rattle.std.proofs.lemmas.List.{map-append}
 use Rattle.std.proofs.lemmas.List.Elements.{Contains-append_cases, Contains-append_left, Contains-append_right, Contains-get_or, Contains-push_cases}
-use Rattle.swreq_orders.proofs.Members.{contains_map, contains_of_map, first_member, no_member}
+use Rattle.swreq_lemmas.proofs.Members.{contains_map, contains_of_map, first_member, no_member}
 use Rattle.swreq_derive.specs.declared.requirements.Requirement.{Requirement}
 use Rattle.swreq_derive.specs.Derivation.{TermRequirement}
 use Rattle.swreq_derive.specs.Derivation.Source.{Written}
@@ -21,7 +21,7 @@ use Rattle.swreq_correspondence.specs.Equations.{UsableEquation}
 use Rattle.swreq_rounds.specs.Presents.{ProtocolEquation}
 use Rattle.swreq_rounds.proofs.Presented.{presents_to}
 use Rattle.swreq_valid.specs.Rounds.{last_rules}
-use Rattle.swreq_valid.proofs.Listing.{list_in_text}
+use Rattle.swreq_machine.proofs.Listing.{list_in_text}
 use Rattle.swreq_list_rules.specs.declared.setting.Setting.{Setting}
 use Rattle.swreq_list_rules.specs.ListRules.{AreCompletedBy, AreOfList, AreRulesOfList, AreShownBy, AreUnderway, ListRulesView}
 use Rattle.swreq_list_rules.specs.Settings.{AreKnownIn, IsSetting, facts_in, params_in, said_in, source_in, symbols_in}

@@ -12,7 +12,8 @@ use Rattle.swreq_symbols.specs.Known.{IsTextOver}
 use Rattle.swreq_symbols.specs.Meaning.{facts_of, symbols_of}
 use Rattle.swreq_world.specs.ByTable.{world_by}
 use Rattle.swreq_world.specs.Worlds.{TextWorld}
-use Rattle.swreq_valid.specs.Machines.{AreRulesOf, list_of}
+use Rattle.swreq_valid.specs.Protocols.{AreRulesOf}
+use Rattle.swreq_machine.specs.Machines.{list_of}
 use Rattle.swreq_valid.specs.Plans.{AreKnown, listed}
 use Rattle.swreq_valid.specs.Rounds.{last_rules}
 use Rattle.swreq_list_rules.specs.declared.setting.Setting.{Setting}

@@ -34,7 +34,8 @@ ids_stay old new (Conf t p) b h = of_stays old new t b h
 ids_stay old new (Layout t) b h = of_stays old new t b h
 ids_stay old new (Same t u) b h = (of_stays old new t b h.0, of_stays old new u b h.1)
 
-requirement_stays : (old new : List Term) (r : Requirement) → Extends old new → HasIdsOf old r → requirement_of new r ≡ requirement_of old r
+pub requirement_stays : (old new : List Term) (r : Requirement) → Extends old new → HasIdsOf old r
+    → requirement_of new r ≡ requirement_of old r
 requirement_stays old new (Conf t p) b h = let e = b.stands t h in cc
 requirement_stays old new (Layout t) b h = let e = b.stands t h in cc
 requirement_stays old new (Same t u) b h = let e = b.stands t h.0 in let f = b.stands u h.1 in cc

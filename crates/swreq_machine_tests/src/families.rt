@@ -23,10 +23,8 @@ fn are_well_formed(alloc: Global, world: &World, table: &ParamTable) -> Result<(
     ensures { OnOk result (AreProtocolsWellFormed (facts_of (world_by table.now world.now))) }
 {
     valid_sides_are_well_formed();
-    match Protocols::build(alloc, world, table, LIMITS, &mut Quiet) {
-        Ok(_) => Ok(()),
-        Err(_) => Err("no rules".into()),
-    }
+    let _protocols = Protocols::build(alloc, world, table, LIMITS, &mut Quiet)?;
+    Ok(())
 }
 
 /// Appends the lines of the family of a world whose protocols are well formed, or why there is none.
@@ -87,18 +85,25 @@ fn put_within(alloc: Global, text: &[u8], max_rules: u32, out: &mut Vec<u8>) -> 
 
 const TEXT: &[u8] = b"protocol N { associatedtype Next: N, N }";
 
-/// The limit of rules that the family has, and its lines.
+/// By name, the limit of rules that the family has, and its lines.
 ///
 /// Whether the second of two equal requirements follows is asked by the rounds of the first, the last of which bears 5 rules. The first is
 /// then unsaid, and no rounds are run for it.
-const FAMILIES: &[(u32, &[u8])] = &[(5, b"N: <Self where Self.Next : N>\n"), (4, b"limit")];
+const FAMILIES: &[(&str, u32, &[u8])] = &[
+    (
+        "the last rule has the number of the limit",
+        5,
+        b"N: <Self where Self.Next : N>\n",
+    ),
+    ("the last rule passes the limit", 4, b"limit"),
+];
 
 #[test]
 fn families_keep_their_own_limit(rt: HostRuntime) -> Result<(), Fail> {
-    for (max_rules, lines) in FAMILIES {
+    for (name, max_rules, lines) in FAMILIES {
         let mut out = Vec::new(rt.alloc());
         put_within(rt.alloc(), TEXT, *max_rules, &mut out)?;
-        assert_eq!(&rt; out.as_slice(), *lines, "within {max_rules}");
+        assert_eq!(&rt; out.as_slice(), *lines, "{name}");
     }
     Ok(())
 }

@@ -3,7 +3,7 @@ ghost use Rattle.std.specs.Prelude.{◌<◌, length};
 ghost use Rattle.swreq_complete.specs.Limits.{AreInRange};
 ghost use Rattle.swreq_symbols.specs.Known.{IsTextOver};
 ghost use Rattle.swreq_world.specs.ByTable.{world_by};
-ghost use Rattle.swreq_valid.specs.Machines.{AreRulesOf};
+ghost use Rattle.swreq_valid.specs.Protocols.{AreRulesOf};
 ghost use Rattle.swreq_valid.specs.Rounds.{last_rules};
 
 use crate::worlds::{LIMITS, limits_of, world_of};
@@ -11,10 +11,11 @@ use std::alloc::Global;
 use std::test::Fail;
 use swreq_complete::{Failed, Limits};
 use swreq_derive::Requirement;
+use swreq_machine::Machine;
 use swreq_minimal::minimise;
 use swreq_param::ParamTable;
 use swreq_symbols::Text;
-use swreq_valid::{Machine, Protocols};
+use swreq_valid::Protocols;
 use swreq_watch::{Quiet, Recorder};
 use swreq_world::{FuncId, World};
 
@@ -44,10 +45,8 @@ fn count_over(
 {
     let text = Text { world, table };
     let f = FuncId { place: 0 };
-    match Machine::of_signature(alloc, &text, protocols, f, LIMITS, &mut Quiet) {
-        Ok(machine) => count_of(minimise(alloc, world, table, protocols, &machine, limits, watch)),
-        Err(_) => Err("no machine".into()),
-    }
+    let machine = Machine::of_signature(alloc, &text, protocols, f, LIMITS, &mut Quiet)?;
+    count_of(minimise(alloc, world, table, protocols, &machine, limits, watch))
 }
 
 /// How many requirements minimising keeps of the list of the first signature of a world, or None where it passes a limit.
@@ -64,10 +63,8 @@ fn count_of_first(
     if world.functions() == 0 {
         return Err("no signature".into());
     }
-    match Protocols::build(alloc, world, table, LIMITS, &mut Quiet) {
-        Ok(protocols) => count_over(alloc, world, table, &protocols, limits, watch),
-        Err(_) => Err("no rules".into()),
-    }
+    let protocols = Protocols::build(alloc, world, table, LIMITS, &mut Quiet)?;
+    count_over(alloc, world, table, &protocols, limits, watch)
 }
 
 /// How many requirements minimising keeps of the list of the first signature of a text, over the table, or None where it passes a limit.
@@ -108,25 +105,30 @@ protocol P { associatedtype A: Q }
 func f<T: P, U: Q>() where T.A == U
 ";
 
-/// Texts, each with the limit of rules that minimising has, and how many requirements it keeps.
+/// Texts by name, each with the limit of rules that minimising has, and how many requirements it keeps.
 ///
 /// The rules of `T : P` and `U : Q` are eight: five of the protocols, two of `T : P`, and one of `U : Q`. Those of `T : P` and `T.A == U` are
 /// nine, so a completion of them passes this limit, but a loop shows that `U : Q` follows from them.
-const TEXTS: &[(&str, u32, Option<usize>)] = &[
-    (ONE, 5, Some(1)),
-    (TWO, 7, Some(2)),
-    (TWO, 6, None),
-    (IMPLIED, 8, Some(2)),
+const TEXTS: &[(&str, &str, u32, Option<usize>)] = &[
+    ("one conformance within the limit", ONE, 5, Some(1)),
+    ("two conformances within the limit", TWO, 7, Some(2)),
+    ("two conformances past the limit", TWO, 6, None),
+    (
+        "a loop shows what a completion past the limit would",
+        IMPLIED,
+        8,
+        Some(2),
+    ),
 ];
 
 /// The rules of each list that minimising meets grow from those of another list. So no list is completed from its beginning, and nothing is
 /// told.
 #[test]
 fn minimising_keeps_its_own_limit_and_spares_completions(rt: HostRuntime) -> Result<(), Fail> {
-    for (text, max_rules, kept) in TEXTS {
+    for (name, text, max_rules, kept) in TEXTS {
         let mut recorder = Recorder::new(rt.alloc());
         let found = count_within(rt.alloc(), text, *max_rules, &mut recorder)?;
-        assert_eq!(&rt; found, *kept, "within {max_rules}");
+        assert_eq!(&rt; found, *kept, "{name}");
     }
     let mut recorder = Recorder::new(rt.alloc());
     count_within(rt.alloc(), IMPLIED, 4000, &mut recorder)?;

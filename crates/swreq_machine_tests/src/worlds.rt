@@ -38,8 +38,6 @@ pub(crate) fn world_of(alloc: Global, text: &[u8], table: &mut ParamTable) -> Re
         return Err("a text that is too long".into());
     }
     let skeleton = skeleton_of(alloc, text)?;
-    match World::resolve(alloc, text, &skeleton, table) {
-        Ok(world) => Ok(world),
-        Err(_) => Err("no world".into()),
-    }
+    let world = World::resolve(alloc, text, &skeleton, table)?;
+    Ok(world)
 }

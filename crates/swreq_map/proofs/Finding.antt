@@ -10,13 +10,13 @@ use Rattle.swreq_word.specs.declared.symbols.Symbol.TheVariants.{Proto}
 use Rattle.swreq_word.specs.Least.{IsLeast}
 use Rattle.swreq_word.specs.Relations.{Linked}
 use Rattle.swreq_word.proofs.SameSymbols.{same_protocols}
-use Rattle.swreq_orders.proofs.Elements.{get_contains, take_one}
-use Rattle.swreq_orders.proofs.Members.{only_member}
+use Rattle.swreq_lemmas.proofs.Elements.{get_contains, take_one}
+use Rattle.swreq_lemmas.proofs.Members.{only_member}
 use Rattle.swreq_rule.specs.declared.rules.Rule.{Rule}
 use Rattle.swreq_rule.specs.Search.{NoneLonger}
 use Rattle.swreq_rule.specs.Steps.{Step}
 use Rattle.swreq_complete.specs.Complete.{IsComplete}
-use Rattle.swreq_map.specs.Follows.{AreConforming, Follows, IsMapOf, MapView}
+use Rattle.swreq_map.specs.Follows.{AreConforming, IsKept, IsMapOf, MapView}
 use Rattle.swreq_map.specs.Properties.{IsProperty, Vanishes}
 use Rattle.swreq_map.proofs.Ending.{ends_left_side}
 
@@ -62,7 +62,7 @@ module _ (rules : List Rule) (complete : IsComplete rules) (m : MapView) (map : 
     (least : IsLeast (Linked (Step rules)) u) where
   -- a property that vanishes after the word follows an ending of it that is no longer than the left sides
   pub vanishing_follows : (longest : ℕ) → NoneLonger rules longest → (x : Symbol) → IsProperty m.protocols x → Vanishes rules u x
-      → (at : ℕ) × (length u - longest ≤ at) × (at ≤ length u) × Follows m.words m.lists (drop at u) x
+      → (at : ℕ) × (length u - longest ≤ at) × (at ≤ length u) × IsKept m (drop at u) x
   vanishing_follows longest short x p v =
       let e = ends_left_side rules complete u least x v in
       let size = simp (length-append, length-drop) at (ap length e.5) in
@@ -71,7 +71,7 @@ module _ (rules : List Rule) (complete : IsComplete rules) (m : MapView) (map : 
 
   -- all protocols that vanish after the word are among the symbols that follow its endings
   pub all_conforming : (longest : ℕ) → NoneLonger rules longest → (symbols : List Symbol) (found : List ℕ)
-      → ((at : ℕ) (x : Symbol) → length u - longest ≤ at → at ≤ length u → Follows m.words m.lists (drop at u) x → Contains symbols x)
+      → ((at : ℕ) (x : Symbol) → length u - longest ≤ at → at ≤ length u → IsKept m (drop at u) x → Contains symbols x)
       → AreConforming rules m.protocols u symbols found
       → (p : ℕ) → Contains found p ↔ ((p < m.protocols) × Vanishes rules u (Proto p))
   all_conforming longest short symbols found followers are p = (

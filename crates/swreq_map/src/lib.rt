@@ -2,10 +2,12 @@
 #![tactic(auto)]
 
 mod appending;
+mod endings;
 mod followers;
 mod map;
 mod vanishing;
 
 pub use appending::append;
+pub use endings::Endings;
 pub use map::{Properties, PropertyMap};
 pub use vanishing::vanishes;

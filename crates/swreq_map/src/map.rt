@@ -3,20 +3,19 @@ ghost use Rattle.std.specs.Prelude.{◌≡◌, ℕ, ◌+◌, ◌<◌, ◌≤◌,
 ghost use Rattle.std.specs.Bool.{Decides};
 ghost use Rattle.swreq_word.specs.declared.symbols.Symbol.{Symbol};
 ghost use Rattle.swreq_word.specs.declared.symbols.Symbol.TheVariants.{Proto};
-ghost use Rattle.swreq_word.specs.Interned.{AreDistinct};
 ghost use Rattle.swreq_word.specs.Least.{IsLeast};
 ghost use Rattle.swreq_word.specs.Relations.{Linked};
 ghost use Rattle.swreq_rule.specs.Steps.{Step};
-ghost use Rattle.swreq_map.specs.Follows.{AreConforming, Follows, IsMapOf};
+ghost use Rattle.swreq_map.specs.Follows.{AreConforming, AreEndingsOf, FollowsBelow, IsKept, IsMapOf};
 ghost use Rattle.swreq_map.specs.Properties.{ArePropertiesOf, IsProperty, Vanishes};
 
-use crate::followers::{add_end, followers};
+use crate::endings::Endings;
 use crate::vanishing::vanishes;
 use std::alloc::{AllocError, Global};
 use std::marker::Model;
 use swreq_complete::CompleteRules;
 use swreq_text::Seq;
-use swreq_word::{Symbol, WordTable};
+use swreq_word::Symbol;
 
 /// The protocols to which a word conforms, ascending, and whether it has the layout.
 #[derive(Debug, Drop)]
@@ -25,23 +24,21 @@ pub struct Properties {
     pub layout: bool,
 }
 
-/// For each ending of a word the properties that rules may give to the word.
+/// For each ending of a word the properties that rules may give to the word. What some of the rules keep may be borrowed.
 #[derive(Drop)]
-pub struct PropertyMap {
+pub struct PropertyMap<'b> {
     protocols: u32,
-    table: WordTable,
-    lists: Vec<Vec<Symbol>>,
+    below: Option<&'b Endings>,
+    own: Endings,
 }
 
-impl Model for PropertyMap {
-    ghost use Rattle.swreq_word.specs.Interned.{AreDistinct};
+impl<'b> Model for PropertyMap<'b> {
+    ghost use Rattle.std.specs.Option.{option_copied};
     ghost use Rattle.swreq_map.specs.Follows.{MapView};
 
     ghost Value = { MapView };
 
-    ghost view = { λ m. record { protocols = m.protocols; words = m.table; lists = m.lists.items } };
-
-    ghost invariant = { λ m. AreDistinct m.table };
+    ghost view = { λ m. record { protocols = m.protocols; below = option_copied m.below; own = m.own } };
 }
 
 /// The least word of a class by rules, and the number below which the protocols are that it is asked about.
@@ -52,62 +49,97 @@ struct Class<'a, 'b> {
     protocols: u32,
 }
 
-/// The symbols that are kept with some ending of a word that begins at this place or after it.
-fn candidates(
-    alloc: Global,
-    table: &WordTable,
-    lists: &[Vec<Symbol>],
-    u: &[Symbol],
-    from: usize,
-) -> Result<Vec<Symbol>, AllocError>
-    requires { AreDistinct table.now }
-    ensures { IfOk result (λ v. (at : ℕ) (x : Symbol) → from ≤ at → at ≤ length u.now
-        → Follows table.now lists.now (drop at u.now) x
-        → Contains v.items x) }
-{
-    let mut found: Vec<Symbol> = Vec::new(alloc);
-    for at in from..u.len() + 1 {
-        found.extend_from_slice(followers(table, lists, &u[at..]))?;
-    }
-    Ok(found)
-}
-
-impl PropertyMap {
+impl<'b> PropertyMap<'b> {
     /// The map of the rules, where the protocols are those below a number.
     pub fn build(
         alloc: Global,
         rules: &CompleteRules<'_>,
         protocols: u32,
-    ) -> Result<PropertyMap, AllocError>
+    ) -> Result<PropertyMap<'b>, AllocError>
         ensures protocols { IfOk result (λ m. m.protocols ≡ protocols) }
         ensures map { IfOk result (IsMapOf rules.now) }
     {
-        let mut table = WordTable::new(alloc);
-        let mut lists: Vec<Vec<Symbol>> = Vec::new(alloc);
-        for k in 0..rules.count() {
-            let rule = rules.rule(k);
-            add_end(
-                alloc,
-                &mut table,
-                &mut lists,
-                protocols,
-                rule.left.symbols(),
-            )?;
-        }
+        let own = Endings::of(alloc, rules, protocols)?;
         Ok(PropertyMap {
             protocols,
-            table,
-            lists,
+            below: None,
+            own,
         })
+    }
+
+    /// The map of the rules, over what the first of them, this many, keep with the endings of words.
+    pub fn over(
+        alloc: Global,
+        below: &'b Endings,
+        count: usize,
+        rules: &CompleteRules<'_>,
+        protocols: u32,
+    ) -> Result<PropertyMap<'b>, AllocError>
+        requires below { AreEndingsOf protocols (take count rules.now) below.now }
+        ensures protocols { IfOk result (λ m. m.protocols ≡ protocols) }
+        ensures map { IfOk result (IsMapOf rules.now) }
+    {
+        let own = Endings::after(alloc, rules, count, protocols)?;
+        Ok(PropertyMap {
+            protocols,
+            below: Some(below),
+            own,
+        })
+    }
+
+    /// The symbols that are kept with the word in what is borrowed.
+    fn below(&self, word: &[Symbol]) -> &[Symbol]
+        ensures { (x : Symbol) → FollowsBelow self.now.below word.now x → Contains result.now x }
+    {
+        match self.below {
+            None => &[],
+            Some(endings) => endings.with(word),
+        }
+    }
+
+    /// Puts the symbols that are kept with the word last.
+    fn add_kept(&self, word: &[Symbol], found: &mut Vec<Symbol>) -> Result<(), AllocError>
+        ensures added { OnOk result
+            ((x : Symbol) → IsKept self.now word.now x → Contains found.new.items x) }
+        ensures kept { OnOk result
+            ((x : Symbol) → Contains found.old.items x → Contains found.new.items x) }
+    {
+        found.extend_from_slice(self.below(word))?;
+        found.extend_from_slice(self.own.with(word))?;
+        Ok(())
+    }
+
+    /// The symbols that are kept with some ending of a word that begins at this place or after it.
+    fn candidates(
+        &self,
+        alloc: Global,
+        u: &[Symbol],
+        from: usize,
+    ) -> Result<Vec<Symbol>, AllocError>
+        ensures { IfOk result (λ v. (at : ℕ) (x : Symbol) → from ≤ at → at ≤ length u.now
+            → IsKept self.now (drop at u.now) x → Contains v.items x) }
+    {
+        let mut found: Vec<Symbol> = Vec::new(alloc);
+        for at in from..u.len() + 1 {
+            self.add_kept(&u[at..], &mut found)?;
+        }
+        Ok(found)
+    }
+
+    /// Whether the symbol is among those that are kept with the word.
+    fn keeps(&self, word: &[Symbol], x: Symbol) -> bool
+        ensures { IsKept self.now word.now x → result ≡ true }
+    {
+        is_among(self.below(word), x) || is_among(self.own.with(word), x)
     }
 
     /// Whether the map keeps the symbol with some ending of a word that begins at this place or after it.
     fn is_candidate(&self, u: &[Symbol], from: usize, x: Symbol) -> bool
         ensures { (at : ℕ) → from ≤ at → at ≤ length u.now
-            → Follows self.now.words self.now.lists (drop at u.now) x → result ≡ true }
+            → IsKept self.now (drop at u.now) x → result ≡ true }
     {
         for at in from..u.len() + 1 {
-            if is_among(followers(&self.table, &self.lists, &u[at..]), x) {
+            if self.keeps(&u[at..], x) {
                 return true;
             }
         }
@@ -153,7 +185,7 @@ impl PropertyMap {
         let _complete = rules.count();
         let longest = rules.longest();
         let from = u.len().saturating_sub(longest);
-        let candidates = candidates(alloc, &self.table, &self.lists, u, from)?;
+        let candidates = self.candidates(alloc, u, from)?;
         let mut room = Vec::with_capacity(alloc, u.len() + 1)?;
         let class = Class {
             rules,

@@ -6,7 +6,7 @@ use Rattle.swreq_derive.specs.declared.known.Params.{Params}
 use Rattle.swreq_derive.specs.Derivation.{Source, TermFacts, TermRequirement}
 use Rattle.swreq_derive.specs.Derivation.Source.{Written}
 use Rattle.swreq_derive.specs.Facts.{generic_params}
-use Rattle.swreq_orders.proofs.Members.{no_member}
+use Rattle.swreq_lemmas.proofs.Members.{no_member}
 use Rattle.swreq_word.specs.Least.{IsMinimal}
 use Rattle.swreq_word.specs.Relations.{Linked}
 use Rattle.swreq_word.proofs.Chains.{joined}
@@ -29,7 +29,7 @@ use Rattle.swreq_candidates.proofs.Completions.{canonical_here}
 use Rattle.swreq_symbols.specs.Meaning.{facts_of, symbols_of}
 use Rattle.swreq_world.specs.Closed.{IsClosed}
 use Rattle.swreq_world.specs.Worlds.{TextWorld}
-use Rattle.swreq_valid.specs.Machines.{IsMachineOf, MachineView}
+use Rattle.swreq_machine.specs.Machines.{IsMachineOf, MachineView}
 use Rattle.swreq_valid.specs.Rounds.{last_rules}
 use Rattle.swreq_minimal.specs.OfParams.{AreOfParams, BeginsWithParam}
 use Rattle.swreq_minimal.specs.Sorted.{IsOfFirstRules, IsListOfFirstRules}

@@ -3,28 +3,22 @@ use Rattle.std.proofs.Common.{◌≡◌, refl, sym, ap₂, subst, List, [], ◌�
 use Rattle.swreq_param.specs.Tables.{Extends}
 use Rattle.swreq_param.specs.Terms.{Term}
 use Rattle.swreq_derive.specs.declared.requirements.Requirement.{Requirement}
-use Rattle.swreq_derive.specs.declared.requirements.Requirement.TheVariants.{Conf, Layout, Same}
-use Rattle.swreq_derive.specs.Facts.{requirement_of}
-use Rattle.swreq_orders.proofs.Members.{first_member, later_member}
+use Rattle.swreq_lemmas.proofs.Members.{first_member, later_member}
 use Rattle.swreq_lowering.specs.ByTable.{HasIdsOf}
-use Rattle.swreq_lowering.proofs.Growing.{ids_stay}
+use Rattle.swreq_lowering.proofs.Growing.{ids_stay, requirement_stays}
 use Rattle.swreq_world.specs.Closed.{IsRequirementOf}
 use Rattle.swreq_lexicon.specs.Views.{LexiconView}
 use Rattle.swreq_symbols.specs.Known.{IsRequirementIn}
 use Rattle.swreq_valid.specs.Plans.{AreKnown, listed}
 
 module _ (old new : List Term) (more : Extends old new) where
-  pub requirement_stays : (r : Requirement) → HasIdsOf old r → requirement_of new r ≡ requirement_of old r
-  requirement_stays (Conf t p) h = let e = more.stands t h in cc
-  requirement_stays (Layout t) h = let e = more.stands t h in cc
-  requirement_stays (Same t u) h = let e = more.stands t h.0 in let f = more.stands u h.1 in cc
-
   pub listed_stays : (rs : List Requirement) → ((r : Requirement) → Contains rs r → HasIdsOf old r) → listed new rs ≡ listed old rs
   listed_stays [] h = refl
-  listed_stays (r ∷ rs) h = ap₂ ◌∷◌ (requirement_stays r (h r (first_member r rs))) (listed_stays rs (λ q i. h q (later_member r q rs i)))
+  listed_stays (r ∷ rs) h =
+      ap₂ ◌∷◌ (requirement_stays old new r more (h r (first_member r rs))) (listed_stays rs (λ q i. h q (later_member r q rs i)))
 
   known_stays : (x : LexiconView) (r : Requirement) → IsRequirementIn old x r → IsRequirementIn new x r
-  known_stays x r h = (ids_stay old new r more h.0, subst (IsRequirementOf x) (sym (requirement_stays r h.0)) h.1)
+  known_stays x r h = (ids_stay old new r more h.0, subst (IsRequirementOf x) (sym (requirement_stays old new r more h.0)) h.1)
 
   pub all_known : (x : LexiconView) (rs : List Requirement) → AreKnown old x rs → AreKnown new x rs
   all_known x rs h r i = known_stays x r (h r i)

@@ -12,8 +12,8 @@ use Rattle.swreq_derive.specs.declared.requirements.Requirement.{Requirement}
 use Rattle.swreq_derive.specs.declared.requirements.Requirement.TheVariants.{Conf, Layout, Same}
 use Rattle.swreq_derive.specs.Derivation.{Source, TermFacts, TermRequirement}
 use Rattle.swreq_derive.specs.Facts.{requirement_of}
-use Rattle.swreq_orders.proofs.Elements.{same_heads}
-use Rattle.swreq_orders.proofs.Members.{first_member, later_member, member_cases, no_member}
+use Rattle.swreq_lemmas.proofs.Elements.{same_heads}
+use Rattle.swreq_lemmas.proofs.Members.{first_member, later_member, member_cases, no_member}
 use Rattle.swreq_lowering.specs.ByTable.{HasIdsOf}
 use Rattle.swreq_canonical.specs.Canonical.{IsCanonical, principal}
 use Rattle.swreq_canonical.specs.CanonicalOrder.{IsStrictlySorted, KindBefore, RequirementBefore}

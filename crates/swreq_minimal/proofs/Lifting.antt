@@ -29,10 +29,10 @@ use Rattle.swreq_symbols.proofs.Symbols.{ranks_law, symbols_law, text_law}
 use Rattle.swreq_map.specs.Properties.{Vanishes}
 use Rattle.swreq_world.specs.Closed.{IsClosed}
 use Rattle.swreq_world.specs.Worlds.{TextWorld}
-use Rattle.swreq_valid.specs.Machines.{IsMachineOf, MachineView}
+use Rattle.swreq_machine.specs.Machines.{IsMachineOf, MachineView}
 use Rattle.swreq_valid.specs.Rounds.{last_rules}
 use Rattle.swreq_symbols.specs.Vanishing.{IsFirstBehind}
-use Rattle.swreq_valid.proofs.Reducing.{first_behind, vanishing}
+use Rattle.swreq_machine.proofs.Reducing.{first_behind, vanishing}
 use Rattle.swreq_minimal.specs.Typed.{IsTypeBy, IsRequirementOfRule, IsSubjectOf}
 
 -- ---- the fronts of words of a type

@@ -15,7 +15,7 @@ use Rattle.swreq_world.specs.Worlds.{TextWorld}
 use Rattle.swreq_candidates.specs.Blocks.{AreMembersDeclared, AreMembersNamed}
 use Rattle.swreq_candidates.proofs.Inherited.{declared_named}
 use Rattle.swreq_symbols.specs.Meaning.{facts_of, symbols_of}
-use Rattle.swreq_orders.proofs.Elements.{get_contains}
+use Rattle.swreq_lemmas.proofs.Elements.{get_contains}
 use Rattle.swreq_symbols.proofs.Declared.{from_rank, member_is, of_rank}
 
 module _ (w : TextWorld) (closed : IsClosed w) where

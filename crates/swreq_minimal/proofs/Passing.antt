@@ -4,8 +4,8 @@ use Rattle.std.specs.Prelude.{insert, remove}
 use Rattle.std.proofs.Math.Seq.{drop-append_seam, take-append_seam}
 use Rattle.std.proofs.lemmas.List.{drop_all, length-map, map-append, map_more, take-append-drop, take_all, take_more}
 use Rattle.std.proofs.lemmas.List.Elements.{Contains-append_cases, Contains-append_left, Contains-append_right}
-use Rattle.swreq_orders.proofs.Elements.{same_heads, same_tails}
-use Rattle.swreq_orders.proofs.Members.{later_member}
+use Rattle.swreq_lemmas.proofs.Elements.{same_heads, same_tails}
+use Rattle.swreq_lemmas.proofs.Members.{later_member}
 use Rattle.std.proofs.lemmas.List.Edits.{remove-append_right}
 use Rattle.swreq_param.specs.declared.ids.ParamId.{ParamId}
 use Rattle.swreq_param.specs.Terms.{Term}

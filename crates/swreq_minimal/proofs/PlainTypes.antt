@@ -14,7 +14,7 @@ use Rattle.swreq_derive.specs.Derivation.TermRequirement.{Conforms, Equals, IsAn
 use Rattle.swreq_derive.specs.Derivation.TermStatement.{IsValid}
 use Rattle.swreq_derive.specs.Facts.{requirement_of}
 use Rattle.swreq_derive.specs.WellFormed.{HasValidSides}
-use Rattle.swreq_orders.proofs.Members.{no_member}
+use Rattle.swreq_lemmas.proofs.Members.{no_member}
 use Rattle.swreq_candidates.specs.Evidence.{HasPlainTypes, IsPlain, IsPlainIn}
 use Rattle.swreq_candidates.proofs.Inherited.{reached}
 use Rattle.swreq_valid.specs.Plans.{listed}

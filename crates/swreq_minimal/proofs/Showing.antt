@@ -8,7 +8,7 @@ use Rattle.swreq_derive.specs.Derivation.TermRequirement.{Conforms, Equals, IsAn
 use Rattle.swreq_derive.specs.Derivation.TermStatement.{Requires}
 use Rattle.swreq_word.specs.Relations.{Linked}
 use Rattle.swreq_word.specs.Relations.Linked.{forth, here}
-use Rattle.swreq_orders.proofs.Elements.{get_cases, get_last}
+use Rattle.swreq_lemmas.proofs.Elements.{get_cases, get_last}
 use Rattle.swreq_rule.specs.declared.rules.Rule.{Rule}
 use Rattle.swreq_rule.specs.Steps.{RuleAt, Step}
 use Rattle.swreq_pair.specs.declared.pairs.Pair.{Pair}

@@ -16,7 +16,7 @@ use Rattle.swreq_word.specs.declared.symbols.Symbol.{Symbol}
 use Rattle.swreq_word.specs.declared.symbols.Symbol.TheVariants.{Param}
 use Rattle.swreq_word.proofs.SameSymbols.{same_members}
 use Rattle.swreq_rule.specs.declared.rules.Rule.{Rule}
-use Rattle.swreq_orders.proofs.Elements.{same_heads}
+use Rattle.swreq_lemmas.proofs.Elements.{same_heads}
 use Rattle.swreq_correspondence.proofs.OneType.{one_param}
 use Rattle.swreq_symbols.specs.Vanishing.{IsFirstBehind, IsLeastBy}
 use Rattle.swreq_lexicon.specs.Lexicons.{pair}

@@ -26,7 +26,8 @@ use Rattle.swreq_symbols.specs.Known.{IsTextOver}
 use Rattle.swreq_symbols.specs.Meaning.{facts_of, symbols_of}
 use Rattle.swreq_world.specs.ByTable.{world_by}
 use Rattle.swreq_world.specs.Worlds.{IdWorld, TextWorld}
-use Rattle.swreq_valid.specs.Machines.{AreRulesOf, IsMachineOf, MachineView, list_of}
+use Rattle.swreq_valid.specs.Protocols.{AreRulesOf}
+use Rattle.swreq_machine.specs.Machines.{IsMachineOf, MachineView, list_of}
 use Rattle.swreq_valid.specs.Rounds.{last_rules}
 use Rattle.swreq_minimal.specs.Passed.{IsPassed, IsPassedOf, AreMinimisedCandidates}
 use Rattle.swreq_minimal.specs.Told.{TellsFailure, TellsParts}

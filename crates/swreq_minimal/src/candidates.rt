@@ -16,7 +16,7 @@ ghost use Rattle.swreq_symbols.specs.Known.{IsRequirementIn, IsTextOver};
 ghost use Rattle.swreq_symbols.specs.Meaning.{facts_of, symbols_of};
 ghost use Rattle.swreq_symbols.specs.Vanishing.{IsLeastBy, Links};
 ghost use Rattle.swreq_world.specs.ByTable.{world_by};
-ghost use Rattle.swreq_valid.specs.Machines.{IsMachineOf};
+ghost use Rattle.swreq_machine.specs.Machines.{IsMachineOf};
 ghost use Rattle.swreq_valid.specs.Plans.{AreKnown, listed};
 ghost use Rattle.swreq_minimal.specs.Sorted.{AreHere, BelongsAt, IsListOfFirstRules};
 ghost use Rattle.swreq_minimal.specs.Typed.{IsRequirementOfRule};
@@ -28,9 +28,9 @@ use crate::rule_requirement::rule_requirement;
 use std::alloc::{AllocError, Global};
 use swreq_complete::CompleteRules;
 use swreq_derive::Requirement;
+use swreq_machine::Machine;
 use swreq_param::ParamTable;
 use swreq_rule::Rule;
-use swreq_valid::Machine;
 use swreq_world::World;
 
 /// The place at which a requirement belongs, or None where it is there.

@@ -10,7 +10,7 @@ use std::alloc::Global;
 use swreq_complete::Failed;
 use swreq_derive::Requirement;
 use swreq_list_rules::{ListRules, Setting, is_derivable_by};
-use swreq_valid::core;
+use swreq_machine::core;
 use swreq_watch::Watch;
 
 /// Whether a requirement is derivable from a list, as the machine of the list tells.

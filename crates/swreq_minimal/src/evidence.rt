@@ -13,7 +13,7 @@ ghost use Rattle.swreq_candidates.specs.Evidence.{AreRulesOfRest};
 ghost use Rattle.swreq_symbols.specs.Known.{IsRequirementIn, IsTextOver};
 ghost use Rattle.swreq_symbols.specs.Meaning.{facts_of, symbols_of};
 ghost use Rattle.swreq_world.specs.ByTable.{world_by};
-ghost use Rattle.swreq_valid.specs.Machines.{AreRulesOf};
+ghost use Rattle.swreq_valid.specs.Protocols.{AreRulesOf};
 ghost use Rattle.swreq_valid.specs.Plans.{AreKnown, listed};
 ghost use Rattle.swreq_valid.specs.Rounds.{last_rules};
 ghost use Rattle.swreq_minimal.specs.Evident.{HasSides, IsOfEquation, LinkLast};

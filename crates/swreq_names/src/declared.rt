@@ -1,108 +1,15 @@
 // The names that a text declares.
-ghost use Rattle.std.specs.Prelude.{◌≡◌, ◌↔◌, ℕ, [], map, slice_index_or, Contains, IfOk};
-ghost use Rattle.swreq_names.specs.Spaces.{spaces, declarations, of_params, protocol_of, struct_of, signature_of, nested_in, nested_of, outer_params, own_params, param_of, declares};
+ghost use Rattle.std.specs.Prelude.{◌≡◌, ◌↔◌, ℕ, [], slice_index_or, Contains, IfOk};
+ghost use Rattle.swreq_names.specs.Spaces.{spaces, protocol_of, struct_of, signature_of, nested_in, nested_of, outer_params, own_params, param_of, declares};
 ghost use Rattle.swreq_names.specs.Directories.{names_of};
 
 use crate::declarers::Declarers;
 use crate::directory::Directory;
+use crate::kinds::{OfFunctions, OfNested, OfProtocols, OfStructs};
 use crate::signature::{Param, Signature};
-use crate::words::{Named, declarations};
 use std::alloc::{AllocError, Global};
 use std::marker::Model;
-use swreq_decl::{FunctionDecl, ProtocolDecl, Skeleton, StructDecl};
-
-/// The names of the protocols, and of what stands in each.
-#[derive(Drop)]
-struct OfProtocols {
-    names: Directory,
-    members: Vec<Directory>,
-    primaries: Vec<Directory>,
-}
-
-impl OfProtocols {
-    fn of(alloc: Global, text: &[u8], protocols: &[ProtocolDecl]) -> Result<Box<Self>, AllocError>
-        ensures names { IfOk result
-            (λ d. d.value.names ≡ declarations text.now (map (λ p. p.name) protocols.now)) }
-        ensures members { IfOk result (λ d. d.value.members.items
-            ≡ map (λ p. declarations text.now (map (λ m. m.name) p.members)) protocols.now) }
-        ensures primaries { IfOk result (λ d.
-            d.value.primaries.items ≡ map (λ p. declarations text.now p.primaries) protocols.now) }
-    {
-        let found = OfProtocols {
-            names: directory_of(alloc, text, protocols)?,
-            members: members(alloc, text, protocols)?,
-            primaries: primaries(alloc, text, protocols)?,
-        };
-        Ok(Box::new(alloc, found)?)
-    }
-}
-
-/// The names of the generic parameters of each function of a struct.
-#[derive(Drop)]
-struct OfNested {
-    params: Vec<Directory>,
-}
-
-impl Model for OfNested {
-    ghost use Rattle.std.specs.Prelude.{List};
-    ghost use Rattle.swreq_names.specs.declared.directory.Declaration.{Declaration};
-
-    ghost Value = { List (List Declaration) };
-
-    ghost view = { λ n. n.params.items };
-}
-
-/// The names of the structs, and of what stands in each.
-#[derive(Drop)]
-struct OfStructs {
-    names: Directory,
-    params: Vec<Directory>,
-    nested: Vec<Directory>,
-    nested_params: Vec<OfNested>,
-}
-
-impl OfStructs {
-    fn of(alloc: Global, text: &[u8], structs: &[StructDecl]) -> Result<Box<Self>, AllocError>
-        ensures names { IfOk result
-            (λ d. d.value.names ≡ declarations text.now (map (λ t. t.name) structs.now)) }
-        ensures params { IfOk result
-            (λ d. d.value.params.items ≡ map (λ t. of_params text.now t.params) structs.now) }
-        ensures nested { IfOk result (λ d. d.value.nested.items
-            ≡ map (λ t. declarations text.now (map (λ f. f.name) t.functions)) structs.now) }
-        ensures nested_params { IfOk result (λ d. d.value.nested_params.items
-            ≡ map (λ t. map (λ f. of_params text.now f.params) t.functions) structs.now) }
-    {
-        let found = OfStructs {
-            names: directory_of(alloc, text, structs)?,
-            params: struct_params(alloc, text, structs)?,
-            nested: nested(alloc, text, structs)?,
-            nested_params: nested_params(alloc, text, structs)?,
-        };
-        Ok(Box::new(alloc, found)?)
-    }
-}
-
-/// The names of the functions at the top, and of their generic parameters.
-#[derive(Drop)]
-struct OfFunctions {
-    names: Directory,
-    params: Vec<Directory>,
-}
-
-impl OfFunctions {
-    fn of(alloc: Global, text: &[u8], functions: &[FunctionDecl]) -> Result<Box<Self>, AllocError>
-        ensures names { IfOk result
-            (λ d. d.value.names ≡ declarations text.now (map (λ f. f.name) functions.now)) }
-        ensures params { IfOk result
-            (λ d. d.value.params.items ≡ map (λ f. of_params text.now f.params) functions.now) }
-    {
-        let found = OfFunctions {
-            names: directory_of(alloc, text, functions)?,
-            params: params(alloc, text, functions)?,
-        };
-        Ok(Box::new(alloc, found)?)
-    }
-}
+use swreq_decl::Skeleton;
 
 /// The names that a text declares, in their spaces.
 #[derive(Drop)]
@@ -218,10 +125,10 @@ impl Declared {
     {
         match self.struct_of(name) {
             Some(place) => Some(Signature::Struct(place)),
-            None => match self.functions().refers_to(self.structs(), name) {
-                Some(place) => Some(Signature::Function(place)),
-                None => None,
-            },
+            None => {
+                let place = self.functions().refers_to(self.structs(), name)?;
+                Some(Signature::Function(place))
+            }
         }
     }
 
@@ -229,20 +136,15 @@ impl Declared {
     pub fn nested_in(&self, outer: usize, name: &[u8]) -> Option<Signature>
         ensures { result ≡ nested_in self.now outer name.now }
     {
-        match self.nested(outer).find(name) {
-            Some(function) => Some(Signature::Nested { outer, function }),
-            None => None,
-        }
+        let function = self.nested(outer).find(name)?;
+        Some(Signature::Nested { outer, function })
     }
 
     /// The function that `name` refers to in the struct that `outer` refers to.
     pub fn nested_of(&self, outer: &[u8], name: &[u8]) -> Option<Signature>
         ensures { result ≡ nested_of self.now outer.now name.now }
     {
-        match self.struct_of(outer) {
-            Some(place) => self.nested_in(place, name),
-            None => None,
-        }
+        self.nested_in(self.struct_of(outer)?, name)
     }
 
     /// The generic parameters of the struct around a signature.
@@ -278,10 +180,10 @@ impl Declared {
     {
         match self.outer_params(signature).find(name) {
             Some(place) => Some(Param::Outer(place)),
-            None => match self.own_params(signature).find(name) {
-                Some(place) => Some(Param::Own(place)),
-                None => None,
-            },
+            None => {
+                let place = self.own_params(signature).find(name)?;
+                Some(Param::Own(place))
+            }
         }
     }
 
@@ -320,104 +222,4 @@ fn list_of(lists: &[OfNested], place: usize) -> &[Directory]
         Some(list) => &list.params,
         None => &[],
     }
-}
-
-/// The names of these items.
-fn directory_of<T: Named>(alloc: Global, text: &[u8], items: &[T]) -> Result<Directory, AllocError>
-    ensures { IfOk result (λ d. d ≡ declarations text.now (map T.name_of items.now)) }
-{
-    let names = declarations(alloc, text, items)?;
-    Directory::of(alloc, names)
-}
-
-fn members(
-    alloc: Global,
-    text: &[u8],
-    protocols: &[ProtocolDecl],
-) -> Result<Vec<Directory>, AllocError>
-    ensures { IfOk result (λ found. found.items
-        ≡ map (λ p. declarations text.now (map (λ m. m.name) p.members)) protocols.now) }
-{
-    let mut found = Vec::new(alloc);
-    for protocol in protocols {
-        let names = directory_of(alloc, text, protocol.members.items())?;
-        found.push(names)?;
-    }
-    Ok(found)
-}
-
-fn primaries(
-    alloc: Global,
-    text: &[u8],
-    protocols: &[ProtocolDecl],
-) -> Result<Vec<Directory>, AllocError>
-    ensures { IfOk result
-        (λ found. found.items ≡ map (λ p. declarations text.now p.primaries) protocols.now) }
-{
-    let mut found = Vec::new(alloc);
-    for protocol in protocols {
-        let names = directory_of(alloc, text, protocol.primaries.items())?;
-        found.push(names)?;
-    }
-    Ok(found)
-}
-
-fn struct_params(
-    alloc: Global,
-    text: &[u8],
-    structs: &[StructDecl],
-) -> Result<Vec<Directory>, AllocError>
-    ensures { IfOk result
-        (λ found. found.items ≡ map (λ t. of_params text.now t.params) structs.now) }
-{
-    let mut found = Vec::new(alloc);
-    for item in structs {
-        let names = directory_of(alloc, text, item.params.items())?;
-        found.push(names)?;
-    }
-    Ok(found)
-}
-
-fn nested(alloc: Global, text: &[u8], structs: &[StructDecl]) -> Result<Vec<Directory>, AllocError>
-    ensures { IfOk result (λ found. found.items
-        ≡ map (λ t. declarations text.now (map (λ f. f.name) t.functions)) structs.now) }
-{
-    let mut found = Vec::new(alloc);
-    for item in structs {
-        let names = directory_of(alloc, text, item.functions.items())?;
-        found.push(names)?;
-    }
-    Ok(found)
-}
-
-fn params(
-    alloc: Global,
-    text: &[u8],
-    functions: &[FunctionDecl],
-) -> Result<Vec<Directory>, AllocError>
-    ensures { IfOk result
-        (λ found. found.items ≡ map (λ f. of_params text.now f.params) functions.now) }
-{
-    let mut found = Vec::new(alloc);
-    for function in functions {
-        let names = directory_of(alloc, text, function.params.items())?;
-        found.push(names)?;
-    }
-    Ok(found)
-}
-
-fn nested_params(
-    alloc: Global,
-    text: &[u8],
-    structs: &[StructDecl],
-) -> Result<Vec<OfNested>, AllocError>
-    ensures { IfOk result (λ found.
-        found.items ≡ map (λ t. map (λ f. of_params text.now f.params) t.functions) structs.now) }
-{
-    let mut found = Vec::new(alloc);
-    for item in structs {
-        let params = params(alloc, text, item.functions.items())?;
-        found.push(OfNested { params })?;
-    }
-    Ok(found)
 }

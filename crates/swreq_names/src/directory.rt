@@ -61,10 +61,8 @@ impl Directory {
     pub fn find(&self, name: &[u8]) -> Option<usize>
         ensures { result ≡ place self.now name.now }
     {
-        match self.ranks.find(name) {
-            Some(rank) => first_at(&self.firsts, rank),
-            None => None,
-        }
+        let rank = self.ranks.find(name)?;
+        first_at(&self.firsts, rank)
     }
 
     /// Whether it has the name.
@@ -98,15 +96,11 @@ impl Directory {
     pub fn refers_to(&self, others: &Directory, name: &[u8]) -> Option<usize>
         ensures { result ≡ refers_to self.now others.now name.now }
     {
-        match self.find(name) {
-            Some(place) => {
-                if others.has_before(name, self.offset_of(place)) {
-                    None
-                } else {
-                    Some(place)
-                }
-            }
-            None => None,
+        let place = self.find(name)?;
+        if others.has_before(name, self.offset_of(place)) {
+            None
+        } else {
+            Some(place)
         }
     }
 }
@@ -114,10 +108,7 @@ impl Directory {
 fn first_at(firsts: &[Option<usize>], rank: usize) -> Option<usize>
     ensures { result ≡ slice_index_or firsts.now rank None }
 {
-    match firsts.get(rank) {
-        Some(first) => *first,
-        None => None,
-    }
+    *firsts.get(rank)?
 }
 
 /// The names of these declarations.

@@ -5,6 +5,7 @@ mod declared;
 mod declarers;
 mod directory;
 mod inheritance;
+mod kinds;
 pub mod laws;
 mod lookups;
 mod mentioned;

@@ -6,16 +6,24 @@ use Rattle.swreq_word.specs.Replacement.{Replaced}
 use Rattle.swreq_rule.specs.declared.rules.Rule.{Rule}
 use Rattle.swreq_rule.proofs.Numbers.{one_rule}
 use Rattle.swreq_rule.proofs.Overlapping.{containment_within}
-use Rattle.swreq_pair.specs.Pairs.{OverlapPair, ContainmentPair}
-use Rattle.swreq_pair.specs.PairWords.{PairWordLaw}
+use Rattle.swreq_rule.specs.declared.rules.Place.{Place}
+use Rattle.swreq_pair.specs.Pairs.{OverlapPair, ContainmentPair, IsPair}
+use Rattle.swreq_pair.specs.PairWords.{IsPairWord, PairWordLaw}
 use Rattle.swreq_pair.proofs.Parts.{after_is}
+
+-- the rule's right side in place of its left side at this place of w makes v
+pub record PutsAt (rule : Rule) (at : ℕ) (w v : List Symbol) : Type 0 where
+  pub before : List Symbol
+  pub after : List Symbol
+  pub source : w ≡ before ++ (rule.left ++ after)
+  pub target : v ≡ before ++ (rule.right ++ after)
+  pub at_is : length before ≡ at
 
 module _ (first second : Rule) (at : ℕ) (left right : List Symbol) where
   abbrev word : List Symbol
   word = first.left ++ drop (length first.left - at) second.left
 
-  of_overlap : OverlapPair first second at left right
-      → Replaced word left first.left first.right × Replaced word right second.left second.right
+  of_overlap : OverlapPair first second at left right → PutsAt first 0 word left × PutsAt second at word right
   of_overlap p =
       let o = p.overlap in
       let rest = after_is first.left second.left at o in
@@ -26,17 +34,18 @@ module _ (first second : Rule) (at : ℕ) (left right : List Symbol) where
           after = drop (length first.left - at) second.left;
           source = refl;
           target = p.left_is ∙ ap (λ x. first.right ++ x) (sym rest);
+          at_is = refl;
         },
         record {
           before = o.before;
           after = [];
           source = whole ∙ ap (λ x. o.before ++ x) (sym (append-nil second.left));
           target = p.right_is ∙ ap (λ x. o.before ++ x) (sym (append-nil second.right));
+          at_is = o.at_is;
         },
       )
 
-  of_containment : ContainmentPair first second at left right
-      → Replaced word left first.left first.right × Replaced word right second.left second.right
+  of_containment : ContainmentPair first second at left right → PutsAt first 0 word left × PutsAt second at word right
   of_containment p =
       let o = p.containment in
       let within = containment_within first.left second.left at o in
@@ -47,38 +56,34 @@ module _ (first second : Rule) (at : ℕ) (left right : List Symbol) where
           after = drop (length first.left - at) second.left;
           source = refl;
           target = p.left_is ∙ sym (rw none (append-nil first.right));
+          at_is = refl;
         },
-        record { before = o.before; after = o.after; source = whole ∙ o.first_is; target = p.right_is },
+        record { before = o.before; after = o.after; source = whole ∙ o.first_is; target = p.right_is; at_is = o.at_is },
       )
 
-pub pair_words : (rules : List Rule) → PairWordLaw rules
-pair_words rules place left right w p is =
+-- both rules of a pair stand in its word, and put its sides
+pub both_put : (rules : List Rule) (place : Place) (left right w : List Symbol) → (p : IsPair rules place left right)
+    → IsPairWord rules place w
+    → PutsAt p.first 0 w left × PutsAt p.second place.at w right
+both_put rules place left right w p is =
     let e = one_rule rules place.i is.first p.first is.first_at p.first_at in
     let f = one_rule rules place.j is.second p.second is.second_at p.second_at in
     let w_is : w ≡ p.first.left ++ drop (length p.first.left - place.at) p.second.left =
     is.word_is ∙ ap (λ (x : Rule). x.left ++ drop (length x.left - place.at) is.second.left) e
     ∙ ap (λ (x : Rule). p.first.left ++ drop (length p.first.left - place.at) x.left) f in
-    let whole : List Symbol = p.first.left ++ drop (length p.first.left - place.at) p.second.left in
-    let steps : Replaced whole left p.first.left p.first.right × Replaced whole right p.second.left p.second.right = elim p.kind [
+    subst (λ u. PutsAt p.first 0 u left × PutsAt p.second place.at u right) (sym w_is)
+    (elim p.kind [
       | inl o ↦ of_overlap p.first p.second place.at left right o
       | inr o ↦ of_containment p.first p.second place.at left right o.1
-    ] in (
-      (
-        record {
-          rule = p.first;
-          number = place.i;
-          is_rule = p.first_at;
-          at = subst (λ x. Replaced x left p.first.left p.first.right) (sym w_is) steps.0;
-        },
-        refl,
-      ),
-      (
-        record {
-          rule = p.second;
-          number = place.j;
-          is_rule = p.second_at;
-          at = subst (λ x. Replaced x right p.second.left p.second.right) (sym w_is) steps.1;
-        },
-        refl,
-      ),
+    ])
+
+-- the rule's left side is replaced by its right side
+replaced : (rule : Rule) (at : ℕ) (w v : List Symbol) → PutsAt rule at w v → Replaced w v rule.left rule.right
+replaced rule at w v p = record { before = p.before; after = p.after; source = p.source; target = p.target }
+
+pub pair_words : (rules : List Rule) → PairWordLaw rules
+pair_words rules place left right w p is =
+    let steps = both_put rules place left right w p is in (
+      (record { rule = p.first; number = place.i; is_rule = p.first_at; at = replaced p.first 0 w left steps.0 }, refl),
+      (record { rule = p.second; number = place.j; is_rule = p.second_at; at = replaced p.second place.at w right steps.1 }, refl),
     )

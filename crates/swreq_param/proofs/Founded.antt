@@ -1,9 +1,9 @@
 -- Nothing goes down from a type parameter for ever: by induction on the number of members, and for type parameters of one number on the
 -- base and then on the last step.
 use Rattle.std.proofs.Common.{◌≡◌, ℕ, ◌<◌, inl, inr, refl, sym, ◌∙◌, subst, arith}
-use Rattle.swreq_orders.specs.WellFounded.{IsAccessible, IsWellFounded}
-use Rattle.swreq_orders.specs.WellFounded.IsAccessible.{reached}
-use Rattle.swreq_orders.proofs.Induction.{by_below, numbers_founded}
+use Rattle.swreq_lemmas.specs.WellFounded.{IsAccessible, IsWellFounded}
+use Rattle.swreq_lemmas.specs.WellFounded.IsAccessible.{reached}
+use Rattle.swreq_lemmas.proofs.Induction.{by_below, numbers_founded}
 use Rattle.swreq_param.specs.declared.ids.ParamId.{ParamId}
 use Rattle.swreq_param.specs.declared.ids.Step.{Step}
 use Rattle.swreq_param.specs.declared.ids.Step.TheVariants.{Bound, Name}

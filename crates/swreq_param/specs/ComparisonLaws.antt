@@ -7,7 +7,7 @@ use Rattle.std.specs.Cmp.{IsTotalOrder}
 use Rattle.std.specs.Cmp.Lexicographic.{slice_cmp}
 use Rattle.std.specs.FinSet.{nat_cmp-IsAntisymmetric}
 use Rattle.std.proofs.lemmas.Cmp.{ranked, by_ranked, then_total, on_total, lists_total, nat_cmp_total}
-use Rattle.swreq_orders.proofs.Orderings.{then_equal, then_nothing}
+use Rattle.swreq_lemmas.proofs.Orderings.{then_equal, then_nothing}
 use Rattle.swreq_param.specs.declared.ids.ParamId.{ParamId}
 use Rattle.swreq_param.specs.declared.ids.Step.{Step}
 use Rattle.swreq_param.specs.declared.ids.Step.TheVariants.{Bound, Name}

@@ -4,7 +4,7 @@ use Rattle.swreq_param.specs.declared.ids.Step.{Step}
 use Rattle.std.specs.Ordering.{eq_by_cmp, as_partial_cmp}
 use Rattle.std.specs.Cmp.{IsTotalOrder, IsEquivalence, IsPartialOrder, partial_order_from_agreeing_total}
 use Rattle.std.proofs.lemmas.Cmp.{on_total, eq_by_cmp_equiv}
-use Rattle.swreq_orders.proofs.Orderings.{is_equal}
+use Rattle.swreq_lemmas.proofs.Orderings.{is_equal}
 use Rattle.swreq_param.specs.declared.owned.TypeParam.{TypeParam}
 use Rattle.swreq_param.specs.Terms.{Term, head, with_steps}
 use Rattle.swreq_param.specs.Terms.Term.{Generic, Member}

@@ -104,10 +104,8 @@ impl ParamTable {
             (λ id. IsOf self.now id × (term_at self.now id ≡ Member (term_at self.now base) step)) }
     {
         let _count = self.entries.len();
-        match self.entries.get_index_of(&Entry::Member { base, step }) {
-            Some(place) => Some(TermId { place }),
-            None => None,
-        }
+        let place = self.entries.get_index_of(&Entry::Member { base, step })?;
+        Some(TermId { place })
     }
 
     /// The number of members of a type parameter of the table.

@@ -1,7 +1,7 @@
 -- What stands at the end of a list where one of several pieces was not written.
 use Rattle.std.proofs.Common.{◌≡◌, ◌++◌, ℕ, List}
 use Rattle.swreq_text.specs.Joined.{GrewByPart}
-use Rattle.swreq_text.proofs.Parts.{grew_next, none_grew}
+use Rattle.swreq_text.proofs.Grown.{grew_next, none_grew}
 
 -- a piece, and nothing after it
 pub fails_after : (old mid new piece more : List ℕ) → mid ≡ old ++ piece → new ≡ mid → GrewByPart old (piece ++ more) new

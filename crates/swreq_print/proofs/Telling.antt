@@ -32,7 +32,7 @@ use Rattle.swreq_names.proofs.Bytes.{word_bytes}
 use Rattle.swreq_names.proofs.Whole.{members_spelled, protocols_spelled}
 use Rattle.swreq_print.specs.Names.{Text, name_text, pair_at, protocol_name}
 use Rattle.swreq_print.specs.Reading.{IsPair, IsProper, TellsApart, in_name}
-use Rattle.swreq_orders.proofs.Members.{contains_map, no_member, member_cases}
+use Rattle.swreq_lemmas.proofs.Members.{contains_map, no_member, member_cases}
 
 -- ---- bytes
 

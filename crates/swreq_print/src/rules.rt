@@ -15,7 +15,7 @@ use swreq_text::{Print, append_bytes, append_number, put_joined};
 use swreq_word::Symbol;
 
 // `[P]`
-#[tactic(auto, using(swreq_text::proofs::Parts::none_grew, swreq_text::proofs::Parts::grew_next))]
+#[tactic(auto, using(swreq_text::proofs::Grown::none_grew, swreq_text::proofs::Grown::grew_next))]
 fn put_protocol(names: &Lexicon, proto: ProtoId, out: &mut Vec<u8>) -> Result<(), AllocError>
     ensures ok { OnOk result
         (out.new.items ≡ out.old.items ++ symbol_text names.now (Proto proto.rank)) }
@@ -28,7 +28,7 @@ fn put_protocol(names: &Lexicon, proto: ProtoId, out: &mut Vec<u8>) -> Result<()
 }
 
 // `[P:A]`
-#[tactic(auto, using(swreq_text::proofs::Parts::none_grew, swreq_text::proofs::Parts::grew_next))]
+#[tactic(auto, using(swreq_text::proofs::Grown::none_grew, swreq_text::proofs::Grown::grew_next))]
 fn put_member(names: &Lexicon, pair: ProtocolName, out: &mut Vec<u8>) -> Result<(), AllocError>
     ensures ok { OnOk result (out.new.items ≡ out.old.items ++ member_text names.now pair) }
     ensures err { OnErr result
@@ -41,7 +41,7 @@ fn put_member(names: &Lexicon, pair: ProtocolName, out: &mut Vec<u8>) -> Result<
     append_bytes(out, b"]")
 }
 
-#[tactic(auto, using(swreq_text::proofs::Parts::none_grew, swreq_text::proofs::Parts::grew_next))]
+#[tactic(auto, using(swreq_text::proofs::Grown::none_grew, swreq_text::proofs::Grown::grew_next))]
 fn put_symbol(names: &Lexicon, symbol: Symbol, out: &mut Vec<u8>) -> Result<(), AllocError>
     ensures ok { OnOk result (out.new.items ≡ out.old.items ++ symbol_text names.now symbol) }
     ensures err { OnErr result

@@ -25,7 +25,7 @@ pub(crate) enum ParamForm {
 const TAU: &str = "τ_";
 
 /// Writes a generic parameter at the end. If memory runs out the first bytes of its text may stand there.
-#[tactic(auto, using(swreq_text::proofs::Parts::none_grew, swreq_text::proofs::Parts::grew_next))]
+#[tactic(auto, using(swreq_text::proofs::Grown::none_grew, swreq_text::proofs::Grown::grew_next))]
 pub(crate) fn put_param(param: ParamId, out: &mut Vec<u8>) -> Result<(), AllocError>
     ensures ok { OnOk result (out.new.items ≡ out.old.items ++ param_text param) }
     ensures err { OnErr result (GrewByPart out.old.items (param_text param) out.new.items) }

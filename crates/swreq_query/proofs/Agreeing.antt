@@ -1,14 +1,14 @@
 -- Lists with one minimised list are equivalent, where it is decided what they derive. A goal that is decided holds where it is not refuted.
 use Rattle.std.proofs.Common.{List, [], ◌∷◌, Contains, inl, inr, subst, sym}
-use Rattle.swreq_orders.specs.WellFounded.{IsAccessible}
-use Rattle.swreq_orders.specs.WellFounded.IsAccessible.{reached}
+use Rattle.swreq_lemmas.specs.WellFounded.{IsAccessible}
+use Rattle.swreq_lemmas.specs.WellFounded.IsAccessible.{reached}
 use Rattle.swreq_param.specs.declared.ids.ParamId.{ParamId}
 use Rattle.swreq_derive.specs.Derivation.{Derivable, Source, TermFacts, TermRequirement, TermStatement}
 use Rattle.swreq_derive.specs.Derivation.Source.{Written}
 use Rattle.swreq_derive.specs.Derivation.TermRequirement.{Conforms, IsAnyObject, Equals}
 use Rattle.swreq_derive.specs.Derivation.TermStatement.{Requires}
 use Rattle.swreq_derive.specs.Equivalence.{AreEquivalent}
-use Rattle.swreq_orders.proofs.Members.{first_member, later_member, member_cases, no_member}
+use Rattle.swreq_lemmas.proofs.Members.{first_member, later_member, member_cases, no_member}
 use Rattle.swreq_correspondence.specs.Symbols.{Symbols}
 use Rattle.swreq_canonical.specs.Canonical.{HasReducedTypes, IsCanonical, principal}
 use Rattle.swreq_canonical.specs.CanonicalOrder.{RequirementBefore}

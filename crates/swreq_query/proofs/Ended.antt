@@ -20,7 +20,8 @@ use Rattle.swreq_world.specs.Closed.{IsClosed}
 use Rattle.swreq_world.specs.Worlds.{SignatureOver, TextWorld}
 use Rattle.swreq_symbols.specs.Meaning.{facts_of, symbols_of}
 use Rattle.swreq_symbols.proofs.Symbols.{ranks_law, symbols_law, text_law}
-use Rattle.swreq_valid.specs.Machines.{list_of, protocols_of}
+use Rattle.swreq_machine.specs.Machines.{list_of}
+use Rattle.swreq_valid.specs.Protocols.{protocols_of}
 use Rattle.swreq_minimal.proofs.Named.{members_named}
 use Rattle.swreq_query.specs.Ended.{HasEnded}
 use Rattle.swreq_world.specs.FactsAt.{written_list}

@@ -7,12 +7,12 @@ use Rattle.swreq_derive.specs.Derivation.TermRequirement.{Equals}
 use Rattle.swreq_derive.specs.Derivation.TermStatement.{IsValid, Requires}
 use Rattle.swreq_lowering.specs.Queries.TermQuery.{AsksEquals}
 use Rattle.swreq_lowering.specs.declared.ids.FuncId.{FuncId}
-use Rattle.swreq_valid.specs.declared.having.Property.{Property}
-use Rattle.swreq_valid.specs.declared.having.Property.TheVariants.{Protocol, Layout}
+use Rattle.swreq_machine.specs.declared.having.Property.{Property}
+use Rattle.swreq_machine.specs.declared.having.Property.TheVariants.{Protocol, Layout}
 use Rattle.swreq_query.specs.Answers.{IsAnswer, IsSide, asked}
 use Rattle.swreq_query.specs.Answers.Answer.{Invalid, Yes, No}
 use Rattle.swreq_query.specs.Asked.{answer_of, asks, verdict_of}
-use Rattle.swreq_valid.specs.Having.{TellsIfEqual, TellsIfHas, has}
+use Rattle.swreq_machine.specs.Having.{TellsIfEqual, TellsIfHas, has}
 
 is_side : (f : FuncId) (t : Term) (property : Property) → IsSide (asks f t property) t
 is_side f t (Protocol p) = refl

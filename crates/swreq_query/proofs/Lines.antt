@@ -20,7 +20,7 @@ use Rattle.swreq_correspondence.specs.Equations.{AreCongruent, UsableEquation}
 use Rattle.swreq_canonical.specs.Minimised.{IsMinimised}
 use Rattle.swreq_candidates.proofs.RulesGive.{reduced_system}
 use Rattle.swreq_symbols.specs.Meaning.{facts_of, symbols_of}
-use Rattle.swreq_valid.specs.Machines.{IsMachineOf, MachineView}
+use Rattle.swreq_machine.specs.Machines.{IsMachineOf, MachineView}
 use Rattle.swreq_valid.specs.Plans.{listed}
 use Rattle.swreq_valid.specs.Rounds.{last_rules}
 use Rattle.swreq_print.specs.Signatures.{signature_text}

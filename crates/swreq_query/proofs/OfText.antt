@@ -16,7 +16,7 @@ use Rattle.swreq_derive.specs.Derivation.Derives.{generic, conf, same, layout, a
 use Rattle.swreq_derive.specs.Derivation.Source.{Written}
 use Rattle.swreq_derive.specs.Derivation.TermRequirement.{Conforms, IsAnyObject, Equals}
 use Rattle.swreq_derive.specs.Derivation.TermStatement.{IsValid, Requires}
-use Rattle.swreq_orders.proofs.Members.{first_member, later_member, no_member, each_by_recursion}
+use Rattle.swreq_lemmas.proofs.Members.{first_member, later_member, no_member, each_by_recursion}
 use Rattle.swreq_lexicon.specs.Lexicons.{pair}
 use Rattle.swreq_lexicon.specs.Views.{LexiconView, IsName}
 use Rattle.swreq_lowering.specs.Heads.{IsOver}

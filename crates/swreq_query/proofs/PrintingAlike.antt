@@ -45,7 +45,7 @@ use Rattle.swreq_query.specs.Signatures.{IsMinimisedLine}
 use Rattle.swreq_world.specs.FactsAt.{written_list}
 use Rattle.swreq_query.proofs.Agreeing.{same_by_one}
 use Rattle.swreq_query.proofs.Ended.{completed}
-use Rattle.swreq_orders.proofs.Members.{each_by_recursion}
+use Rattle.swreq_lemmas.proofs.Members.{each_by_recursion}
 use Rattle.swreq_query.proofs.OfText.{requirement_is, speaks}
 
 -- ---- generic parameters

@@ -3,7 +3,7 @@ use Rattle.std.proofs.Common.{◌≡◌, ◌∙◌, ◌++◌, ℕ, List, Some, a
 use Rattle.std.specs.List.{slice_get}
 use Rattle.std.proofs.lemmas.List.{length-map}
 use Rattle.std.proofs.lemmas.List.Folds.{flat_map-map}
-use Rattle.swreq_orders.proofs.Elements.{get_map, get_of_map}
+use Rattle.swreq_lemmas.proofs.Elements.{get_map, get_of_map}
 use Rattle.swreq_word.specs.declared.symbols.Symbol.{Symbol}
 use Rattle.swreq_word.specs.Order.{WordLess}
 use Rattle.swreq_word.proofs.Chains.{joined}

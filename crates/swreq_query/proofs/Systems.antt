@@ -4,7 +4,7 @@ use Rattle.std.proofs.lemmas.List.{drop_more}
 use Rattle.std.proofs.lemmas.List.Concat.{flat_map-cons}
 use Rattle.std.specs.List.{flat_map}
 use Rattle.swreq_text.specs.Joined.{GrewByPart}
-use Rattle.swreq_text.proofs.Parts.{grew_first, grew_on, piece_grew}
+use Rattle.swreq_text.proofs.Grown.{grew_first, grew_on, piece_grew}
 use Rattle.swreq_lexicon.specs.Views.{LexiconView}
 use Rattle.swreq_rule.specs.declared.rules.Rule.{Rule}
 use Rattle.swreq_lowering.specs.Requirements.{PlacedRequirement}

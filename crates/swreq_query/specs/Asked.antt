@@ -12,8 +12,8 @@ use Rattle.swreq_lowering.specs.Queries.{TermQuery}
 use Rattle.swreq_lowering.specs.Queries.TermQuery.{AsksAnyObject, AsksConforms, AsksSignature}
 use Rattle.swreq_lowering.specs.declared.ids.FuncId.{FuncId}
 use Rattle.swreq_lowering.specs.declared.ids.Query.{Query}
-use Rattle.swreq_valid.specs.declared.having.Property.{Property}
-use Rattle.swreq_valid.specs.declared.having.Property.TheVariants.{Protocol, Layout}
+use Rattle.swreq_machine.specs.declared.having.Property.{Property}
+use Rattle.swreq_machine.specs.declared.having.Property.TheVariants.{Protocol, Layout}
 use Rattle.swreq_query.specs.declared.verdict.Verdict.{Verdict}
 use Rattle.swreq_query.specs.declared.verdict.Verdict.TheVariants as verdicts
 use Rattle.swreq_query.specs.Answers.{Answer, IsAnswerLine, IsSide, asked}

@@ -10,7 +10,8 @@ use Rattle.swreq_rounds.specs.Rounds.{IsOutcome}
 use Rattle.swreq_lowering.specs.Requirements.{PlacedRequirement}
 use Rattle.swreq_world.specs.WorldOf.{IsWorldOf}
 use Rattle.swreq_world.specs.Worlds.{SignatureOver, TextWorld}
-use Rattle.swreq_valid.specs.Machines.{list_of, protocols_of}
+use Rattle.swreq_machine.specs.Machines.{list_of}
+use Rattle.swreq_valid.specs.Protocols.{protocols_of}
 use Rattle.swreq_world.specs.FactsAt.{written_list}
 
 -- The rounds of the protocols come to rules within the limits, and over these the rounds of the signature's list do.

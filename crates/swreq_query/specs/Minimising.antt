@@ -9,7 +9,7 @@ use Rattle.swreq_complete.specs.declared.limit.Failed.{Failed}
 use Rattle.swreq_lowering.specs.Requirements.{PlacedRequirement}
 use Rattle.swreq_world.specs.Worlds.{SignatureOver, TextWorld}
 use Rattle.swreq_symbols.specs.Meaning.{facts_of, symbols_of}
-use Rattle.swreq_valid.specs.Machines.{list_of}
+use Rattle.swreq_machine.specs.Machines.{list_of}
 use Rattle.swreq_minimal.specs.Passed.{IsPassedOf}
 use Rattle.swreq_minimal.specs.Told.{AreParts, FailsBy}
 use Rattle.swreq_world.specs.FactsAt.{written_list}

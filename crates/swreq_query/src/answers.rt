@@ -3,8 +3,8 @@ ghost use Rattle.std.specs.Prelude.{◌≡◌, List, length, OnErr, OnOk};
 ghost use Rattle.swreq_derive.specs.Derivation.{TermRequirement};
 ghost use Rattle.swreq_map.specs.Follows.{IsMapOf};
 ghost use Rattle.swreq_symbols.specs.Known.{IsTextOver};
-ghost use Rattle.swreq_valid.specs.Asked.{IsDerivable};
-ghost use Rattle.swreq_valid.specs.Machines.{IsMachineOf};
+ghost use Rattle.swreq_machine.specs.Asked.{IsDerivable};
+ghost use Rattle.swreq_machine.specs.Machines.{IsMachineOf};
 ghost use Rattle.swreq_valid.specs.Rounds.{last_rules};
 ghost use Rattle.swreq_world.specs.ByTable.{world_by};
 ghost use Rattle.swreq_lowering.specs.ByTable.{query_by};
@@ -14,11 +14,11 @@ use crate::reduced::reduced_line;
 use crate::verdict::judge;
 use std::alloc::{AllocError, Global};
 use swreq_lowering::Query;
+use swreq_machine::{Machine, Scratch};
 use swreq_map::PropertyMap;
 use swreq_param::ParamTable;
 use swreq_symbols::Text;
 use swreq_text::append_bytes;
-use swreq_valid::{Machine, Scratch};
 use swreq_world::World;
 
 /// Appends the line that answers a query of a requirement or a type, from every list of which m is the machine.

@@ -6,7 +6,8 @@ ghost use Rattle.swreq_derive.specs.Facts.{generic_params};
 ghost use Rattle.swreq_complete.specs.declared.limit.Failed.TheVariants.{Memory};
 ghost use Rattle.swreq_complete.specs.Limits.{AreInRange};
 ghost use Rattle.swreq_symbols.specs.Known.{IsTextOver};
-ghost use Rattle.swreq_valid.specs.Machines.{AreRulesOf, IsMachineOf};
+ghost use Rattle.swreq_valid.specs.Protocols.{AreRulesOf};
+ghost use Rattle.swreq_machine.specs.Machines.{IsMachineOf};
 ghost use Rattle.swreq_valid.specs.Plans.{AreKnown, listed};
 ghost use Rattle.swreq_valid.specs.Rounds.{last_rules};
 ghost use Rattle.swreq_watch.specs.declared.events.Event.{Event};
@@ -21,16 +22,17 @@ ghost use Rattle.swreq_world.specs.FactsAt.{written_list};
 use std::alloc::{AllocError, Global};
 use swreq_complete::{Failed, Limits};
 use swreq_derive::{Params, Requirement};
+use swreq_machine::Machine;
 use swreq_minimal::minimise;
 use swreq_param::ParamTable;
 use swreq_print::signature_text;
 use swreq_text::append_bytes;
-use swreq_valid::{Machine, Protocols};
+use swreq_valid::Protocols;
 use swreq_watch::Watch;
 use swreq_world::{FuncId, World};
 
 /// Writes the signature with these generic parameters and requirements as a line.
-#[tactic(auto, using(swreq_text::proofs::Parts::none_grew))]
+#[tactic(auto, using(swreq_text::proofs::Grown::none_grew))]
 fn put_signature(
     alloc: Global,
     world: &World,

@@ -13,7 +13,7 @@ use swreq_text::append_bytes;
 use swreq_world::{FuncId, World};
 
 /// Writes `S.` for a function of a struct S, and otherwise nothing.
-#[tactic(auto, using(swreq_text::proofs::Parts::none_grew, swreq_text::proofs::Parts::grew_next))]
+#[tactic(auto, using(swreq_text::proofs::Grown::none_grew, swreq_text::proofs::Grown::grew_next))]
 fn put_outer(world: &World, f: FuncId, out: &mut Vec<u8>) -> Result<(), AllocError>
     requires { f.place < length world.now.signatures }
     ensures ok { OnOk result (out.new.items ≡ out.old.items

@@ -7,8 +7,8 @@ ghost use Rattle.swreq_derive.specs.Derivation.{TermRequirement};
 ghost use Rattle.swreq_print.specs.Types.{type_text};
 ghost use Rattle.swreq_symbols.specs.Known.{IsTypeIn};
 ghost use Rattle.swreq_symbols.specs.Texts.{BelongTogether, world_of};
-ghost use Rattle.swreq_valid.specs.Asked.{IsDerivable};
-ghost use Rattle.swreq_valid.specs.Machines.{IsMachineOf};
+ghost use Rattle.swreq_machine.specs.Asked.{IsDerivable};
+ghost use Rattle.swreq_machine.specs.Machines.{IsMachineOf};
 ghost use Rattle.swreq_lowering.specs.Queries.TermQuery.{AsksReduced};
 ghost use Rattle.swreq_lowering.specs.declared.ids.FuncId.{FuncId};
 ghost use Rattle.swreq_query.specs.Asked.{AppendsAnswer};
@@ -16,11 +16,11 @@ ghost use Rattle.swreq_query.specs.Asked.{AppendsAnswer};
 use crate::verdict::Verdict;
 use std::alloc::{AllocError, Global};
 use swreq_lexicon::Lexicon;
+use swreq_machine::{Machine, Scratch};
 use swreq_param::{ParamId, Step, TermId};
 use swreq_print::steps_text;
 use swreq_symbols::Text;
 use swreq_text::append_bytes;
-use swreq_valid::{Machine, Scratch};
 
 /// Appends the line of the type parameter with this generic parameter and these steps.
 fn type_line(

@@ -3,7 +3,7 @@ ghost use Rattle.std.specs.Prelude.{◌≡◌, ◌⊎◌, ◌<◌, ◌++◌, Lis
 ghost use Rattle.std.specs.List.{flat_map};
 ghost use Rattle.swreq_text.specs.Joined.{GrewByPart};
 ghost use Rattle.swreq_symbols.specs.Known.{IsTextOver};
-ghost use Rattle.swreq_valid.specs.Machines.{IsMachineOf};
+ghost use Rattle.swreq_machine.specs.Machines.{IsMachineOf};
 ghost use Rattle.swreq_world.specs.ByTable.{world_by};
 ghost use Rattle.swreq_world.specs.Worlds.{signature_at};
 ghost use Rattle.swreq_query.specs.Signatures.{full_name};
@@ -13,15 +13,15 @@ ghost use Rattle.swreq_query.specs.Systems.{IsSystemText, rule_line, system_text
 use crate::names::full_name;
 use std::alloc::{AllocError, Global};
 use swreq_lexicon::Lexicon;
+use swreq_machine::Machine;
 use swreq_param::ParamTable;
 use swreq_print::rule_text;
 use swreq_rule::Rule;
 use swreq_text::{append_bytes, append_number};
-use swreq_valid::Machine;
 use swreq_world::{FuncId, World};
 
 /// Writes the line above this many rules of a signature.
-#[tactic(auto, using(swreq_text::proofs::Parts::none_grew, swreq_text::proofs::Parts::grew_first, swreq_text::proofs::Parts::grew_next))]
+#[tactic(auto, using(swreq_text::proofs::Grown::none_grew, swreq_text::proofs::Grown::grew_first, swreq_text::proofs::Grown::grew_next))]
 fn put_head(
     world: &World,
     table: &ParamTable,
@@ -44,7 +44,7 @@ fn put_head(
 }
 
 /// Writes a rule as a line, after two spaces.
-#[tactic(auto, using(swreq_text::proofs::Parts::none_grew, swreq_text::proofs::Parts::grew_next))]
+#[tactic(auto, using(swreq_text::proofs::Grown::none_grew, swreq_text::proofs::Grown::grew_next))]
 fn put_rule(
     alloc: Global,
     names: &Lexicon,

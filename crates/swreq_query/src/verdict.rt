@@ -7,9 +7,9 @@ ghost use Rattle.swreq_map.specs.Follows.{IsMapOf};
 ghost use Rattle.swreq_lexicon.specs.Views.{LexiconView};
 ghost use Rattle.swreq_symbols.specs.Known.{IsTextOver, IsTypeIn};
 ghost use Rattle.swreq_symbols.specs.Texts.{BelongTogether, world_of};
-ghost use Rattle.swreq_valid.specs.Asked.{IsDerivable};
-ghost use Rattle.swreq_valid.specs.Having.{IsBelow};
-ghost use Rattle.swreq_valid.specs.Machines.{IsMachineOf};
+ghost use Rattle.swreq_machine.specs.Asked.{IsDerivable};
+ghost use Rattle.swreq_machine.specs.Having.{IsBelow};
+ghost use Rattle.swreq_machine.specs.Machines.{IsMachineOf};
 ghost use Rattle.swreq_valid.specs.Rounds.{last_rules};
 ghost use Rattle.swreq_world.specs.ByTable.{world_by};
 ghost use Rattle.swreq_lowering.specs.Queries.TermQuery.{AsksEquals};
@@ -19,10 +19,10 @@ ghost use Rattle.swreq_lowering.specs.ByTable.{query_by};
 ghost use Rattle.swreq_query.specs.Asked.{AsksRequirement, IsQueryIn, IsRoomFor, answer_of, asks, verdict_of};
 
 use swreq_lowering::Query;
+use swreq_machine::{Machine, Property, Scratch};
 use swreq_map::PropertyMap;
 use swreq_param::{ParamTable, TermId};
 use swreq_symbols::Text;
-use swreq_valid::{Machine, Property, Scratch};
 use swreq_world::World;
 
 /// The answer to a query of a requirement.

@@ -9,8 +9,8 @@ use Rattle.std.proofs.lemmas.Bool.{cases_lt, cases_eq}
 use Rattle.std.proofs.lemmas.Cmp.{tied_itself}
 use Rattle.std.proofs.lemmas.Map.Keys.{Less-from_sorted}
 use Rattle.std.proofs.lemmas.Option.{slice_get_within, get_or_from_slice_get}
-use Rattle.swreq_orders.proofs.Members.{each_by_recursion}
-use Rattle.swreq_orders.proofs.Numbers.{above}
+use Rattle.swreq_lemmas.proofs.Members.{each_by_recursion}
+use Rattle.swreq_lemmas.proofs.Numbers.{above}
 
 -- Each item stands before those after it.
 abbrev pub IsRising : {K : Type 0} → (K → K → Ordering) → List K → Type 0

@@ -10,7 +10,7 @@ use Rattle.std.specs.Cmp.{IsTotalOrder}
 use Rattle.std.specs.List.{HoldsAt}
 use Rattle.std.specs.List.Sorted.{IsNonDecreasingBy, IsPartitionPoint}
 use Rattle.std.proofs.lemmas.Cmp.{tied_itself}
-use Rattle.swreq_orders.proofs.Numbers.{below, above}
+use Rattle.swreq_lemmas.proofs.Numbers.{below, above}
 use Rattle.swreq_rank.specs.Ranks.{TellsApart}
 use Rattle.swreq_rank.proofs.Rising.{IsRising}
 

@@ -196,13 +196,10 @@ carrying_on g s n a b w k d t u t' u' c grows h e f says equal =
           ((subst (AllowsWord g n t) p (word_still g s n grows t (drop k w) c.left)).1);
       first = read_step g t t' (read_word g a w) w k d h e c.first;
       second = read_step g u u' (read_word g b w) w k d h f c.second;
-      whole = λ v i y. c.whole v (grows_after s n v grows i)
+      whole = λ v i y. c.whole v (derivations.grows_then s n v grows i)
           (subst (AllowsWord g v u) (sym p) (symbol_still g n v i u x says, subst (λ z. AllowsWord g v z (drop (k + 1) w)) f y));
       equal = equal_as n t' u' (read_symbol g t x) (read_symbol g u x) e f equal;
     }
-  where
-    grows_after : (s n v : Derivation) → AddsLines s n → AddsLines n v → AddsLines s v
-    grows_after s n v i j = derivations.grows_then s n v i j
 
 -- the whole word is carried: lines allow it after b too, and it is read as equal type parameters after a and after b
 pub record IsCarried (g : Alphabet) (s : Derivation) (a b : Term) (w : List Symbol) (t u : Term) : Type 0 where

@@ -6,8 +6,8 @@ use Rattle.std.proofs.lemmas.Bool.{cases_lt}
 use Rattle.std.proofs.lemmas.List.{append-nil, get_or_past, length-map, length-take}
 use Rattle.std.proofs.lemmas.List.Elements.{All-contains}
 use Rattle.std.proofs.lemmas.Option.{same_Some, slice_get-get_or, slice_get_within}
-use Rattle.swreq_orders.proofs.Elements.{contains_get, get_contains, get_of_map, same_heads, same_tails}
-use Rattle.swreq_orders.proofs.Members.{each_by_recursion}
+use Rattle.swreq_lemmas.proofs.Elements.{contains_get, get_contains, get_of_map, same_heads, same_tails}
+use Rattle.swreq_lemmas.proofs.Members.{each_by_recursion}
 use Rattle.swreq_param.specs.declared.ids.AssocId.{AssocId}
 use Rattle.swreq_param.specs.declared.ids.NameId.{NameId}
 use Rattle.swreq_param.specs.declared.ids.ParamId.{ParamId}
@@ -26,7 +26,7 @@ use Rattle.swreq_lowering.specs.Queries.{TermQuery}
 use Rattle.swreq_lowering.specs.Queries.TermQuery.{AsksSignature, AsksReduced, AsksConforms, AsksAnyObject, AsksEquals}
 use Rattle.swreq_lowering.specs.Requirements.{PlacedRequirement}
 use Rattle.swreq_lowering.specs.Short.{HasShortLists}
-use Rattle.swreq_parts.specs.Lines.{lines}
+use Rattle.swreq_text.specs.Lines.{lines}
 use Rattle.swreq_world.specs.Closed.{IsClosed, IsQueryOf, IsSignature}
 use Rattle.swreq_world.specs.FactsAt.{facts_of, written_list}
 use Rattle.swreq_world.specs.Short.{IsShort}
@@ -49,7 +49,7 @@ use Rattle.swreq_verify.specs.Judgements.{Asked, IsJudged, asked, yes}
 use Rattle.swreq_verify.specs.SecondParts.{TermSection}
 use Rattle.swreq_verify.proofs.OneOutput.{derivation_one}
 use Rattle.swreq_reply.specs.Explained.{IsLaidUnderYes}
-use Rattle.swreq_reply.specs.Outputs.{IsDerivationText}
+use Rattle.swreq_check.specs.QueryLines.{IsDerivationText}
 
 -- ---- lines of a derivation
 

@@ -1,15 +1,10 @@
-pub mod Checked
 pub mod Explained
-pub mod Flags
-pub mod Lines
 pub mod Misfits
 pub mod OfCalls
-pub mod OneCheck
 pub mod OneOutput
 pub mod OneRefusal
-pub mod PiecesMade
-pub mod Placed
 pub mod Printed
-pub mod Settled
 pub mod Untold
 pub mod Verdicts
+pub mod ByBook
+pub mod Counted

@@ -6,9 +6,9 @@ use Rattle.swreq_lex.specs.Refusals.{HasRefusalFrom}
 use Rattle.swreq_lex.specs.Tokens.{HasTokensFrom}
 use Rattle.swreq_decl.specs.declared.refusal.ParseErr.{ParseErr}
 use Rattle.swreq_decl.specs.declared.refusal.ParseErr.TheVariants as grammar
-use Rattle.swreq_calls.specs.declared.decl.CallDecl.{CallDecl}
-use Rattle.swreq_calls.specs.Calls.{IsReason, RefusedAt, StandsFor}
-use Rattle.swreq_orders.proofs.Members.{no_member}
+use Rattle.swreq_decl.specs.declared.skeleton.CallDecl.{CallDecl}
+use Rattle.swreq_decl.specs.Calls.{IsReason, RefusedAt, StandsFor}
+use Rattle.swreq_lemmas.proofs.Members.{no_member}
 use Rattle.swreq_resolve.specs.declared.refusal.NameErr.{NameErr}
 use Rattle.swreq_resolve.specs.declared.refusal.Refusal.{Refusal}
 use Rattle.swreq_resolve.specs.Errors.{error_of}
@@ -16,7 +16,7 @@ use Rattle.swreq_resolve.proofs.Order.{one_first}
 use Rattle.swreq_print.specs.declared.refusal.RefusalKind.{RefusalKind}
 use Rattle.swreq_world.specs.Worlds.{TextWorld}
 use Rattle.swreq_subst.specs.Refusals.{RefusesCalls, refusals}
-use Rattle.swreq_reply.specs.CallLines.{HasCalls}
+use Rattle.swreq_reply.specs.Outputs.{HasCalls}
 use Rattle.swreq_reply.specs.Inputs.{Parts, second_at}
 use Rattle.swreq_reply.specs.Reports.{name_refusal, refusal_of}
 use Rattle.swreq_reply.specs.Verdict.{RefusesSecond}

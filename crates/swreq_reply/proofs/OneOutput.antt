@@ -3,6 +3,8 @@ use Rattle.std.proofs.Common.{◌≡◌, ◌≢◌, ◌⊎◌, ◌∙◌, arith,
 use Rattle.std.specs.List.{concat}
 use Rattle.swreq_decl.specs.declared.skeleton.Skeleton.{Skeleton}
 use Rattle.swreq_decl.specs.Skeletons as decl
+use Rattle.swreq_decl.specs.declared.skeleton.CallDecl.{CallDecl}
+use Rattle.swreq_decl.specs.Calls.{StandsFor}
 use Rattle.swreq_param.specs.declared.ids.ProtoId.{ProtoId}
 use Rattle.swreq_param.specs.Terms.{Term}
 use Rattle.swreq_derive.specs.Derivation.{Derives}
@@ -10,8 +12,6 @@ use Rattle.swreq_derive.specs.Facts.{generic_params}
 use Rattle.swreq_derive.proofs.PathLemmas.{given_once}
 use Rattle.swreq_print.specs.Names.{Text}
 use Rattle.swreq_print.specs.Reading.{TellsApart}
-use Rattle.swreq_calls.specs.declared.decl.CallDecl.{CallDecl}
-use Rattle.swreq_calls.specs.Calls.{StandsFor}
 use Rattle.swreq_watch.specs.declared.events.Event.{Event}
 use Rattle.swreq_words.specs.declared.command.CommandLine.{CommandLine}
 use Rattle.swreq_resolve.specs.Resolving.{Resolve}
@@ -39,17 +39,19 @@ use Rattle.swreq_verify.proofs.OneOutput.{output_one}
 use Rattle.swreq_query.proofs.PrintingOnce.{line_once, named_once, system_once}
 use Rattle.swreq_query.specs.Ended.{IsWorldOfText}
 use Rattle.swreq_reply.specs.declared.outcome.Outcome.{Outcome}
-use Rattle.swreq_reply.specs.declared.content.Backing.{Backing}
-use Rattle.swreq_reply.specs.declared.content.Backing.TheVariants.{Nothing, Derivation, Path}
-use Rattle.swreq_reply.specs.declared.content.Shown.TheVariants.{Each, Counts}
-use Rattle.swreq_reply.specs.declared.content.Content.{Content}
-use Rattle.swreq_reply.specs.declared.content.Content.TheVariants.{Answers, Signatures, Systems, Calls, Families, Judgements}
-use Rattle.swreq_reply.specs.Contents.{backing_of, content_of}
+use Rattle.swreq_check.specs.declared.content.Backing.{Backing}
+use Rattle.swreq_check.specs.declared.content.Backing.TheVariants.{Nothing, Derivation, Path}
+use Rattle.swreq_check.specs.declared.content.Shown.TheVariants.{Each, Counts}
+use Rattle.swreq_check.specs.declared.content.Content.{Content}
+use Rattle.swreq_check.specs.declared.content.Content.TheVariants.{Answers, Signatures, Systems, Calls, Families, Judgements}
+use Rattle.swreq_check.specs.Contents.{backing_of}
+use Rattle.swreq_reply.specs.Commands.{content_of}
 use Rattle.swreq_reply.specs.Inputs.{AreParts, Parts, second_at}
-use Rattle.swreq_reply.specs.Lines.{AreLines, Counted}
-use Rattle.swreq_reply.specs.Lines.AreLines.{none as no_line, more}
-use Rattle.swreq_reply.specs.Lines.Counted.{nothing, one as one_more, other as no_more}
-use Rattle.swreq_reply.specs.Outputs.{AnswersByTypes, AnswersLast, AreCounts, ArePrinted, Backs, BacksYes, HasAnswer, IsLineOf, IsOutput, IsPathLine, counts_text, signature_of}
+use Rattle.swreq_check.specs.Lines.{AreLines, Counted}
+use Rattle.swreq_check.specs.Lines.AreLines.{none as no_line, more}
+use Rattle.swreq_check.specs.Lines.Counted.{nothing, one as one_more, other as no_more}
+use Rattle.swreq_check.specs.QueryLines.{AnswersByTypes, Backs, BacksYes, HasAnswer, IsLineOf, IsPathLine, signature_of}
+use Rattle.swreq_reply.specs.Outputs.{AnswersLast, AreCounts, ArePrinted, IsOutput, counts_text}
 use Rattle.swreq_valid.specs.declared.refused.Refused.TheVariants.{Limit}
 use Rattle.swreq_reply.specs.Verdict.{HasWorld, IsRefused, IsVerdict}
 use Rattle.swreq_reply.specs.Verdict.IsRefused.{bad_calls, in_one_part, misfit, past_a_limit_of_families, too_long, unchecked, without_world}

@@ -27,31 +27,31 @@ use Rattle.swreq_words.specs.declared.command.Input.TheVariants as inputs
 use Rattle.swreq_words.specs.Commands.{input as reads}
 use Rattle.swreq_complete.specs.declared.limit.Failed.{Failed}
 use Rattle.swreq_complete.specs.declared.limit.Failed.TheVariants as failed
-use Rattle.swreq_parts.specs.Lines.{line_feed, lines}
-use Rattle.swreq_parts.specs.Parts.{Divides, divider}
-use Rattle.swreq_parts.proofs.Divided.{has_divider as divided_line, same_parts as one_division}
+use Rattle.swreq_text.specs.Lines.{line_feed, lines}
+use Rattle.swreq_text.specs.Divided.{Divides, divider}
+use Rattle.swreq_text.proofs.Divided.{has_divider as divided_line, same_parts as one_division}
 use Rattle.swreq_reqsig.specs.declared.family.Family.{Family}
 use Rattle.swreq_reqsig.specs.Families.{numbers}
 use Rattle.swreq_reqsig.specs.Told.{IsFamilyOutcome}
 use Rattle.swreq_reqsig.proofs.OneFamily.{family_outcomes_are_one}
 use Rattle.swreq_verify.specs.SecondParts.{AreSections, IsFirstMisfit, TermSection}
-use Rattle.swreq_reply.specs.declared.content.Content.{Content}
-use Rattle.swreq_reply.specs.declared.content.Content.TheVariants.{Calls, Families, Judgements}
+use Rattle.swreq_check.specs.declared.content.Content.{Content}
+use Rattle.swreq_check.specs.declared.content.Content.TheVariants.{Calls, Families, Judgements}
 use Rattle.swreq_reply.specs.declared.outcome.Outcome.{Outcome}
-use Rattle.swreq_reply.specs.CallLines.{HasCalls}
-use Rattle.swreq_reply.specs.Contents.{content_of}
+use Rattle.swreq_reply.specs.Outputs.{ArePrinted, HasCalls}
+use Rattle.swreq_reply.specs.Commands.{content_of}
 use Rattle.swreq_reply.specs.Inputs.{AreParts, HasParts, Parts, second_at}
-use Rattle.swreq_reply.specs.Machines.{IsChecked}
-use Rattle.swreq_reply.specs.Outputs.{ArePrinted}
+use Rattle.swreq_check.specs.Machines.{IsChecked}
 use Rattle.swreq_reply.specs.Reports.{name_refusal, refusal_of}
-use Rattle.swreq_reply.specs.Told.{IsMinimisedFor, TellsBehind}
+use Rattle.swreq_check.specs.Told.{IsMinimisedFor}
+use Rattle.swreq_reply.specs.Told.{TellsBehind}
 use Rattle.swreq_reply.specs.Verdict.{ChecksMachines, HasNoWorld, HasWorld, IsAnswered, IsCutShort, IsJudged, IsRefused, IsVerdict, PassesCheck, RefusesNames, RefusesSecond, limits_of, machine_outcome, refused_with, stopped_with}
 use Rattle.swreq_reply.specs.Verdict.IsRefused.{bad_calls, in_one_part, misfit, past_a_limit_of_families, too_long, unchecked, without_world}
 use Rattle.swreq_reply.specs.Verdict.IsVerdict.{answered as is_answered, cut_short as is_cut_short, judged as is_judged, refused as is_refused}
 use Rattle.swreq_reply.proofs.OfCalls.{IsOnePart, never_second, one_second}
-use Rattle.swreq_reply.proofs.Checked.{built_checked}
+use Rattle.swreq_check.proofs.OfChecks.{built_checked}
 use Rattle.swreq_reply.proofs.Misfits.{no_sections, one_misfit}
-use Rattle.swreq_reply.proofs.OneCheck.{one_check}
+use Rattle.swreq_check.proofs.OneCheck.{one_check}
 
 -- what the crates below say of every text
 pub record AreOne (text : List ℕ) : Type 0 where

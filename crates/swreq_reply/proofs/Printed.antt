@@ -26,16 +26,16 @@ use Rattle.swreq_query.proofs.OneAnswer.{one_answer}
 use Rattle.swreq_symbols.specs.Meaning.{facts_of}
 use Rattle.swreq_world.specs.FactsAt.{source_of}
 use Rattle.swreq_world.specs.Worlds.{TextWorld, signature_at}
-use Rattle.swreq_reply.specs.declared.content.Backing.TheVariants.{Nothing}
-use Rattle.swreq_reply.specs.declared.content.Made.{Made}
-use Rattle.swreq_reply.specs.declared.content.Made.TheVariants.{Lines, Lists, Systems}
+use Rattle.swreq_check.specs.declared.content.Backing.TheVariants.{Nothing}
+use Rattle.swreq_check.specs.declared.content.Made.{Made}
+use Rattle.swreq_check.specs.declared.content.Made.TheVariants.{Lines, Lists, Systems}
 use Rattle.swreq_reply.specs.declared.printing.MadePieces.{MadePieces}
-use Rattle.swreq_reply.specs.Contents.{AreAnswers, AreSignatures, AreSystems, backing_of, makes}
-use Rattle.swreq_reply.specs.Made.{AreLinesKept, AreMade, IsLineKept, IsMadeAt}
-use Rattle.swreq_reply.specs.Outputs.{Backs, HasAnswer, IsLineOf, signature_of}
-use Rattle.swreq_reply.specs.Pieces.{IsWhole, query_at, text_at, text_or_none, world_of}
-use Rattle.swreq_reply.specs.Wanted.{function_of, is_list_made, list_asked, machine_asked, machine_asked_at, made_by, places_of}
-use Rattle.swreq_reply.proofs.Flags.{asked_within, is_listed}
+use Rattle.swreq_check.specs.Contents.{AreAnswers, AreSignatures, AreSystems, backing_of, makes}
+use Rattle.swreq_check.specs.Made.{AreLinesKept, AreMade, IsLineKept, IsMadeAt, text_at, text_or_none}
+use Rattle.swreq_check.specs.QueryLines.{Backs, HasAnswer, IsLineOf, signature_of}
+use Rattle.swreq_reply.specs.Pieces.{IsWhole, query_at, world_of}
+use Rattle.swreq_check.specs.Wanted.{function_of, is_list_made, list_asked, machine_asked, machine_asked_at, made_by, places_of}
+use Rattle.swreq_check.proofs.Flags.{asked_within, is_listed}
 
 -- ---- one piece
 

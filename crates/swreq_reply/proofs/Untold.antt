@@ -3,7 +3,8 @@ use Rattle.std.proofs.Common.{◌≡◌, inl, inr, ℕ, List, []}
 use Rattle.swreq_watch.specs.declared.events.Event.{Event}
 use Rattle.swreq_words.specs.declared.command.CommandLine.{CommandLine}
 use Rattle.swreq_reply.specs.declared.outcome.Outcome.{Outcome}
-use Rattle.swreq_reply.specs.Contents.{AreJudgements, content_of}
+use Rattle.swreq_check.specs.Contents.{AreJudgements}
+use Rattle.swreq_reply.specs.Commands.{content_of}
 use Rattle.swreq_reply.specs.Replies.{TellsPart}
 use Rattle.swreq_reply.specs.Verdict.{IsRefused, IsVerdict}
 use Rattle.swreq_reply.specs.Verdict.IsRefused.{bad_calls, in_one_part, misfit, past_a_limit_of_families, too_long, unchecked, without_world}

@@ -10,6 +10,8 @@ use Rattle.swreq_decl.specs.declared.skeleton.Skeleton.{Skeleton}
 use Rattle.swreq_decl.specs.declared.refusal.ParseErr.{ParseErr}
 use Rattle.swreq_decl.specs.declared.refusal.ParseErr.TheVariants as grammar
 use Rattle.swreq_decl.specs.Skeletons.{StandsFor, RefusedFor, Exactly}
+use Rattle.swreq_decl.specs.declared.skeleton.CallDecl.{CallDecl}
+use Rattle.swreq_decl.specs.Calls as calls
 use Rattle.swreq_resolve.specs.declared.refusal.NameErr.{NameErr}
 use Rattle.swreq_resolve.specs.declared.refusal.NameErr.TheVariants as names
 use Rattle.swreq_resolve.specs.Resolving.{RefusesSkeleton}
@@ -34,39 +36,39 @@ use Rattle.swreq_valid.specs.Rounds.{last_rules}
 use Rattle.swreq_valid.specs.declared.refused.Refused.{Refused}
 use Rattle.swreq_valid.specs.declared.refused.Refused.TheVariants.{Memory}
 use Rattle.swreq_reply.specs.declared.outcome.Outcome.{Outcome}
-use Rattle.swreq_reply.specs.declared.checking.Checked.{Checked}
+use Rattle.swreq_check.specs.declared.checking.Checked.{Checked}
 use Rattle.swreq_reply.specs.declared.request.Request.{Request}
 use Rattle.swreq_query.specs.Ended.{IsWorldOfText}
-use Rattle.swreq_parts.specs.Lines.{lines}
+use Rattle.swreq_text.specs.Lines.{lines}
 use Rattle.swreq_verify.specs.Outputs as verified
 use Rattle.swreq_verify.specs.SecondParts.{IsFirstMisfit}
 use Rattle.swreq_reqsig.specs.declared.family.Family.{Family}
 use Rattle.swreq_reqsig.specs.Families.{IsGivenFamily, family_plan}
 use Rattle.swreq_reqsig.specs.Texts.{family_text}
 use Rattle.swreq_reqsig.specs.Told.{AnswersFamily, ComesSoFar}
-use Rattle.swreq_calls.specs.declared.decl.CallDecl.{CallDecl}
-use Rattle.swreq_calls.specs.Calls as calls
 use Rattle.swreq_subst.specs.Calls.{TermCall}
 use Rattle.swreq_subst.specs.Refusals.{refusals as refusals_of}
 use Rattle.swreq_subst.specs.Saying.{SayCalls}
-use Rattle.swreq_reply.specs.declared.content.Content.{Content}
-use Rattle.swreq_reply.specs.declared.content.Content.TheVariants.{Calls, Families, Judgements}
-use Rattle.swreq_reply.specs.Contents.{AreCalls, AreJudgements, PrintsPieces, content_by, content_of}
+use Rattle.swreq_check.specs.declared.content.Content.{Content}
+use Rattle.swreq_check.specs.declared.content.Content.TheVariants.{Calls, Families, Judgements}
+use Rattle.swreq_check.specs.Contents.{AreCalls, AreJudgements, PrintsPieces}
+use Rattle.swreq_reply.specs.Commands.{content_by, content_of}
 use Rattle.swreq_reply.specs.Inputs.{second_at}
-use Rattle.swreq_reply.specs.Machines.{IsBuiltOver}
+use Rattle.swreq_check.specs.Machines.{IsBuiltOver}
 use Rattle.swreq_reply.specs.Outputs.{IsOutput}
-use Rattle.swreq_reply.specs.CallLines.{AnswersCalls}
-use Rattle.swreq_reply.specs.Checks.{Checks, HavePassed}
+use Rattle.swreq_check.specs.CallLines.{AnswersCalls}
+use Rattle.swreq_check.specs.Checks.{Checks, HavePassed}
 use Rattle.swreq_reply.specs.Replies.{Finishes, IsToldVerdict, IsVerdictAlone, Replies, TellsPart, WasToldPart}
 use Rattle.swreq_reply.specs.Reports.{name_refusal, refusal_of}
 use Rattle.swreq_reply.specs.Requests.{IsRequest, limits_in, line_of, parts_of, printed_of}
-use Rattle.swreq_reply.specs.Told.{MinimisingAllTells, MinimisingEndsIn, TellsBehind}
-use Rattle.swreq_reply.specs.Told.MinimisingAllTells.{nothing}
+use Rattle.swreq_check.specs.Told.{MinimisingAllTells, MinimisingEndsIn}
+use Rattle.swreq_reply.specs.Told.{TellsBehind}
+use Rattle.swreq_check.specs.Told.MinimisingAllTells.{nothing}
 use Rattle.swreq_reply.specs.Verdict.{ChecksMachines, HasNoWorld, HasWorld, IsStopOf, IsVerdict, PassesCheck, RefusesSecond, limits_of, machine_outcome, refused_with, text_for}
 use Rattle.swreq_reply.specs.Verdict.IsRefused.{bad_calls, misfit, past_a_limit_of_families, unchecked, without_world}
 use Rattle.swreq_reply.specs.Verdict.IsVerdict.{answered as is_answered, cut_short as is_cut_short, judged as is_judged, refused as is_refused}
-use Rattle.swreq_reply.proofs.Checked.{check_tells, is_formed, stops_come}
-use Rattle.swreq_reply.proofs.Lines.{by_book}
+use Rattle.swreq_check.proofs.OfChecks.{check_tells, is_formed, stops_come}
+use Rattle.swreq_reply.proofs.ByBook.{by_book}
 
 -- ---- what is refused and what is printed
 

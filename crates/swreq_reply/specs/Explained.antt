@@ -1,6 +1,6 @@
 -- Lines after a `yes`, as they stand in a second part.
 use Rattle.std.specs.Prelude.{◌≡◌, ◌∷◌}
-use Rattle.swreq_parts.specs.Lines.{lines}
+use Rattle.swreq_text.specs.Lines.{lines}
 use Rattle.swreq_print.specs.Names.{Text}
 use Rattle.swreq_verify.specs.Judgements.{yes}
 use Rattle.swreq_verify.specs.SecondParts.{IsSection, TermSection, section_lines}

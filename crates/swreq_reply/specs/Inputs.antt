@@ -1,6 +1,6 @@
 -- What a command reads: a text, or a text and a second part.
 use Rattle.std.specs.Prelude.{◌≡◌, ◌≤◌, ◌-◌, ℕ, [], length}
-use Rattle.swreq_parts.specs.Parts.{Divides}
+use Rattle.swreq_text.specs.Divided.{Divides}
 use Rattle.swreq_print.specs.Names.{Text}
 use Rattle.swreq_words.specs.declared.command.Command.{Command}
 use Rattle.swreq_words.specs.declared.command.Input.{Input}

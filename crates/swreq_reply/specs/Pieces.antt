@@ -1,26 +1,17 @@
 -- The pieces of a text, as they are printed.
-use Rattle.std.specs.Prelude.{◌≡◌, ℕ, List, [], Option, Some, None, get_or, length}
+use Rattle.std.specs.Prelude.{◌≡◌, ℕ, get_or, length}
 use Rattle.swreq_lowering.specs.Queries.{TermQuery}
 use Rattle.swreq_lowering.specs.Queries.TermQuery.{AsksSignature}
-use Rattle.swreq_print.specs.Names.{Text}
 use Rattle.swreq_symbols.specs.Known.{IsTextOver}
 use Rattle.swreq_world.specs.ByTable.{world_by}
 use Rattle.swreq_world.specs.Worlds.{TextWorld}
 use Rattle.swreq_reply.specs.declared.printing.MadePieces.{MadePieces}
-use Rattle.swreq_reply.specs.Contents.{PrintsPieces}
-use Rattle.swreq_reply.specs.Made.{AreLinesKept, AreMade, IsPiece}
-use Rattle.swreq_reply.specs.Wanted.{count_of, maker, wants_list}
+use Rattle.swreq_check.specs.Contents.{PrintsPieces}
+use Rattle.swreq_check.specs.Made.{AreLinesKept, AreMade, IsPiece}
+use Rattle.swreq_check.specs.Wanted.{count_of, maker, wants_list}
 
 abbrev pub world_of : MadePieces → TextWorld
 world_of m = world_by m.table.now m.world.now
-
--- the text that stands there, if one does
-abbrev pub text_or_none : Option Text → Text
-text_or_none (Some text) = text
-text_or_none None = []
-
-abbrev pub text_at : List (Option Text) → ℕ → Text
-text_at pieces k = text_or_none (get_or pieces k None)
 
 -- the query at a place
 abbrev pub query_at : MadePieces → ℕ → TermQuery

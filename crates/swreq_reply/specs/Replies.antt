@@ -8,9 +8,11 @@ use Rattle.swreq_rule.specs.declared.rules.Rule.{Rule}
 use Rattle.swreq_words.specs.declared.command.CommandLine.{CommandLine}
 use Rattle.swreq_world.specs.Worlds.{TextWorld}
 use Rattle.swreq_reply.specs.declared.outcome.Outcome.{Outcome}
-use Rattle.swreq_reply.specs.Contents.{AreFamilies, content_of}
-use Rattle.swreq_reply.specs.Machines.{IsBuiltOver}
-use Rattle.swreq_reply.specs.Told.{CheckTells, FamiliesPartTell, MinimisingPartTells}
+use Rattle.swreq_check.specs.Contents.{AreFamilies}
+use Rattle.swreq_reply.specs.Commands.{content_of}
+use Rattle.swreq_check.specs.Machines.{IsBuiltOver}
+use Rattle.swreq_check.specs.Told.{CheckTells}
+use Rattle.swreq_reply.specs.Told.{FamiliesPartTell, MinimisingPartTells}
 use Rattle.swreq_reply.specs.Verdict.{ChecksMachines, HasWorld, IsRefused, IsVerdict, limits_of}
 
 -- What an input may have told when memory runs out: nothing, or, of a command that checks machines, a part of what the check of its text

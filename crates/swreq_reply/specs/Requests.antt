@@ -2,13 +2,13 @@
 use Rattle.swreq_complete.specs.Limits.{AreInRange}
 use Rattle.swreq_complete.specs.declared.limit.Limits.{Limits}
 use Rattle.swreq_words.specs.declared.command.CommandLine.{CommandLine}
-use Rattle.swreq_reply.specs.declared.content.Content.{Content}
+use Rattle.swreq_check.specs.declared.content.Content.{Content}
 use Rattle.swreq_reply.specs.declared.request.Divided.{Divided}
 use Rattle.swreq_reply.specs.declared.request.Request.{Request}
-use Rattle.swreq_reply.specs.Contents.{content_of}
+use Rattle.swreq_reply.specs.Commands.{content_of}
 use Rattle.swreq_reply.specs.Inputs.{AreParts, Parts}
 use Rattle.swreq_reply.specs.Verdict.{limits_of}
-use Rattle.swreq_reply.specs.Wanted.{HasCount}
+use Rattle.std.specs.Prelude.{◌≤◌}
 
 abbrev pub view_of : Divided → Parts
 view_of d = record { input = d.input.now; source = d.source.now; second = d.second.now }
@@ -25,6 +25,10 @@ limits_in r = limits_of (line_of r)
 -- what is printed
 abbrev pub printed_of : Request → Content
 printed_of r = content_of (line_of r)
+
+-- The number of the command is from 1 to 100.
+abbrev pub HasCount : CommandLine → Type 0
+HasCount line = (1 ≤ line.count) × (line.count ≤ 100)
 
 -- These are the parts of the input, and the numbers of the command line are in their ranges.
 pub record IsRequest (r : Request) : Type 0 where

@@ -1,88 +1,18 @@
--- What a watcher is told of a text.
-use Rattle.std.specs.Prelude.{◌≡◌, ◌⊎◌, Bool, List, [], ◌∷◌, ◌++◌, Contains, Ok}
+-- What a watcher is told after the check of a text.
+use Rattle.std.specs.Prelude.{◌≡◌, Bool, List, [], ◌++◌}
 use Rattle.swreq_rule.specs.declared.rules.Rule.{Rule}
-use Rattle.swreq_rounds.specs.Rounds.{ComesTo}
 use Rattle.swreq_complete.specs.declared.limit.Failed.{Failed}
-use Rattle.swreq_complete.specs.declared.limit.Failed.TheVariants.{Limit, Memory}
 use Rattle.swreq_complete.specs.declared.limit.Limits.{Limits}
 use Rattle.swreq_watch.specs.declared.events.Event.{Event}
-use Rattle.swreq_reply.specs.declared.content.Content.{Content}
-use Rattle.swreq_reply.specs.declared.content.Content.TheVariants.{Calls, Families}
-use Rattle.swreq_reply.specs.declared.content.Made.{Made}
-use Rattle.swreq_reply.specs.declared.content.Made.TheVariants.{Lines, Lists, Nothing, Systems}
-use Rattle.swreq_reply.specs.Contents.{makes}
-use Rattle.swreq_lowering.specs.Queries.TermQuery.{AsksSignature}
-use Rattle.swreq_lowering.specs.Requirements.{PlacedRequirement}
-use Rattle.swreq_lowering.specs.declared.ids.FuncId.{FuncId}
-use Rattle.swreq_world.specs.Worlds.{SignatureOver, TextWorld, signature_at}
-use Rattle.swreq_valid.specs.Machines.{protocols_of}
-use Rattle.swreq_valid.specs.OfSignatures.{signature_plan}
-use Rattle.swreq_query.specs.Minimising.{MinimisingFails, MinimisingTells}
+use Rattle.swreq_check.specs.declared.content.Content.{Content}
+use Rattle.swreq_check.specs.declared.content.Content.TheVariants.{Calls, Families}
+use Rattle.swreq_world.specs.Worlds.{TextWorld}
 use Rattle.swreq_reqsig.specs.Told.{ComesSoFar, WasReduced}
-use Rattle.swreq_reply.specs.Machines.{IsBuiltOver, ProtocolsCome, SignatureComes}
-
--- The minimised list of the signature is made: where lines of queries are made, if a query asks for it; where lists are made, of each; and
--- otherwise of none.
-abbrev pub IsListMade : Made → TextWorld → SignatureOver PlacedRequirement → Type 0
-IsListMade Lines w g = (f : FuncId) × Contains w.queries (AsksSignature f) × (g ≡ signature_at w f)
-IsListMade Lists w g = Contains w.signatures g
-IsListMade Systems w g = ⊥
-IsListMade Nothing w g = ⊥
-
--- The minimised list of the signature is wanted for this content.
-abbrev pub IsMinimisedFor : Content → TextWorld → SignatureOver PlacedRequirement → Type 0
-IsMinimisedFor c = IsListMade (makes c)
+use Rattle.swreq_check.specs.Machines.{IsBuiltOver}
+use Rattle.swreq_check.specs.Told.{MinimisingAllTells, MinimisingEndsIn}
 
 module _ (limits : Limits) (w : TextWorld) where
-  -- ---- minimising
-
-  module _ (wants : Content) (rules : List Rule) where
-    -- Of one signature minimising tells this where the command asks for it, and otherwise nothing.
-    abbrev pub TellsOne : SignatureOver PlacedRequirement → List Event → Type 0
-    TellsOne g told = (told ≡ []) ⊎ (IsMinimisedFor wants w g × MinimisingTells limits w rules g told)
-
-    -- Minimising fails in this way at a signature for which the command asks.
-    abbrev pub FailsAt : SignatureOver PlacedRequirement → Failed → List Event → Type 0
-    FailsAt g failed told = IsMinimisedFor wants w g × MinimisingFails limits w rules g failed told
-
-    -- Over these rules of the protocols minimising tells this: parts, one after the other, each of a signature that the command asks for.
-    pub data MinimisingAllTells : List Event → Type 0 where
-      nothing : MinimisingAllTells []
-      one_more : {before part told : List Event} (g : SignatureOver PlacedRequirement) → MinimisingAllTells before
-          → IsMinimisedFor wants w g
-          → MinimisingTells limits w rules g part → told ≡ before ++ part → MinimisingAllTells told
-
-    -- Minimising fails in this way at a signature, after such parts of those before it.
-    pub record MinimisingAllFails (failed : Failed) (told : List Event) : Type 0 where
-      pub before : List Event
-      pub last : List Event
-      pub g : SignatureOver PlacedRequirement
-      pub parts : MinimisingAllTells before
-      pub asked : IsMinimisedFor wants w g
-      pub fails : MinimisingFails limits w rules g failed last
-      pub told_is : told ≡ before ++ last
-
-    -- Minimising fails by a limit at a signature, or because memory runs out at one or after such parts.
-    abbrev pub MinimisingEndsIn : Failed → List Event → Type 0
-    MinimisingEndsIn (Limit which trace) told = MinimisingAllFails (Limit which trace) told
-    MinimisingEndsIn Memory told = MinimisingAllTells told ⊎ MinimisingAllFails Memory told
-
   -- ---- where memory runs out
-
-  -- What the checks of these signatures may have told when memory runs out.
-  pub data SignaturesTell (rules : List Rule) : List (SignatureOver PlacedRequirement) → List Event → Type 0 where
-    nothing_yet : {gs : List (SignatureOver PlacedRequirement)} → SignaturesTell rules gs []
-    in_first : {g : SignatureOver PlacedRequirement} {gs : List (SignatureOver PlacedRequirement)} {told : List Event}
-        → ComesTo limits (signature_plan w rules g) told → SignaturesTell rules (g ∷ gs) told
-    past_first : {g : SignatureOver PlacedRequirement} {gs : List (SignatureOver PlacedRequirement)} {first more told : List Event}
-        (own : List Rule) → SignatureComes limits w rules g (Ok own) first → SignaturesTell rules gs more → told ≡ first ++ more
-        → SignaturesTell rules (g ∷ gs) told
-
-  -- What the check may have told when memory runs out.
-  pub data CheckTells : List Event → Type 0 where
-    in_protocols : {told : List Event} → ComesTo limits (protocols_of w) told → CheckTells told
-    past_protocols : {first more told : List Event} (rules : List Rule) → ProtocolsCome limits w (Ok rules) first
-        → SignaturesTell rules w.signatures more → told ≡ first ++ more → CheckTells told
 
   -- What the check, which came to rules, and minimising after it may have told when memory runs out.
   pub record MinimisingPartTells (wants : Content) (told : List Event) : Type 0 where
@@ -91,7 +21,7 @@ module _ (limits : Limits) (w : TextWorld) where
     pub more : List Event
     pub built : IsBuiltOver limits w rules first
     pub failed : Failed
-    pub part : MinimisingEndsIn wants rules failed more
+    pub part : MinimisingEndsIn limits w wants rules failed more
     pub told_is : told ≡ first ++ more
 
   -- What the check, and the search for families of requirement signatures after it, may have told when memory runs out.
@@ -108,4 +38,4 @@ module _ (limits : Limits) (w : TextWorld) where
   abbrev pub TellsBehind : Content → List Rule → List Event → Type 0
   TellsBehind Families rules more = (flags : List Bool) × WasReduced limits w 0 flags more
   TellsBehind Calls rules more = more ≡ []
-  TellsBehind c rules more = MinimisingAllTells c rules more
+  TellsBehind c rules more = MinimisingAllTells limits w c rules more

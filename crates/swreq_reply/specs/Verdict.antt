@@ -6,9 +6,9 @@ use Rattle.swreq_decl.specs.declared.skeleton.Skeleton.{Skeleton}
 use Rattle.swreq_decl.specs.Skeletons.{StandsFor, RefusedFor}
 use Rattle.swreq_decl.specs.declared.refusal.ParseErr.{ParseErr}
 use Rattle.swreq_decl.specs.declared.refusal.ParseErr.TheVariants as grammar
-use Rattle.swreq_calls.specs.declared.decl.CallDecl.{CallDecl}
-use Rattle.swreq_calls.specs.Calls as calls
-use Rattle.swreq_calls.specs.Calls.{IsReason}
+use Rattle.swreq_decl.specs.declared.skeleton.CallDecl.{CallDecl}
+use Rattle.swreq_decl.specs.Calls as calls
+use Rattle.swreq_decl.specs.Calls.{IsReason}
 use Rattle.swreq_subst.specs.Refusals.{RefusesCalls}
 use Rattle.swreq_gen.specs.Generated.{generated}
 use Rattle.swreq_resolve.specs.declared.refusal.NameErr.{NameErr}
@@ -32,20 +32,22 @@ use Rattle.swreq_print.specs.Refusals.{refusal_line}
 use Rattle.swreq_print.specs.Rules.{trace_text}
 use Rattle.swreq_reply.specs.declared.outcome.Outcome.{Outcome}
 use Rattle.swreq_query.specs.Ended.{IsWorldOfText}
-use Rattle.swreq_parts.specs.Lines.{lines}
-use Rattle.swreq_parts.specs.Parts.{divider}
+use Rattle.swreq_text.specs.Lines.{lines}
+use Rattle.swreq_text.specs.Divided.{divider}
 use Rattle.swreq_reqsig.specs.Told.{IsFamilyOutcome}
 use Rattle.swreq_verify.specs.SecondParts.{IsFirstMisfit}
 use Rattle.swreq_words.specs.declared.command.Input.{Input}
 use Rattle.swreq_words.specs.declared.command.Input.TheVariants.{Nothing, TwoParts}
 use Rattle.swreq_words.specs.Commands.{input as reads}
-use Rattle.swreq_reply.specs.Contents.{AreCalls, AreFamilies, AreJudgements, content_of}
+use Rattle.swreq_check.specs.Contents.{AreCalls, AreFamilies, AreJudgements}
+use Rattle.swreq_reply.specs.Commands.{content_of}
 use Rattle.swreq_reply.specs.Inputs.{AreParts, Parts, second_at}
-use Rattle.swreq_reply.specs.Machines as machines
-use Rattle.swreq_reply.specs.Machines.{IsBuiltOver}
+use Rattle.swreq_check.specs.Machines as machines
+use Rattle.swreq_check.specs.Machines.{IsBuiltOver}
 use Rattle.swreq_reply.specs.Outputs.{IsOutput}
 use Rattle.swreq_reply.specs.Reports.{limit_refusal, name_refusal, refusal_of}
-use Rattle.swreq_reply.specs.Told.{MinimisingAllFails, TellsBehind}
+use Rattle.swreq_check.specs.Told.{MinimisingAllFails}
+use Rattle.swreq_reply.specs.Told.{TellsBehind}
 
 -- the most rules of a completion, and the most symbols on a left side
 abbrev pub limits_of : CommandLine → Limits

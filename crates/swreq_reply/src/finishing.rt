@@ -8,27 +8,26 @@ ghost use Rattle.swreq_watch.specs.declared.events.Event.{Event};
 ghost use Rattle.swreq_world.specs.ByTable.{world_by};
 ghost use Rattle.swreq_world.specs.Short.{IsShort};
 ghost use Rattle.swreq_query.specs.Ended.{IsWorldOfText};
-ghost use Rattle.swreq_reply.specs.Contents.{AreCalls, AreFamilies, PrintsPieces, content_of};
-ghost use Rattle.swreq_reply.specs.CallLines.{AnswersCalls};
-ghost use Rattle.swreq_reply.specs.Checks.{IsCheckedFor};
+ghost use Rattle.swreq_check.specs.Contents.{AreCalls, AreFamilies, PrintsPieces};
+ghost use Rattle.swreq_reply.specs.Commands.{content_of};
+ghost use Rattle.swreq_check.specs.CallLines.{AnswersCalls};
+ghost use Rattle.swreq_check.specs.Checks.{IsCheckedFor};
 ghost use Rattle.swreq_reply.specs.Outputs.{IsOutput};
 ghost use Rattle.swreq_reply.specs.Pieces.{IsWhole};
 ghost use Rattle.swreq_reply.specs.Replies.{Finishes, Replies};
 ghost use Rattle.swreq_reply.specs.Requests.{IsRequest, line_of, limits_in, parts_of, printed_of};
 ghost use Rattle.swreq_reply.specs.Verdict.{ChecksMachines, limits_of};
 
-use crate::calling::lines_of_calls;
-use crate::checking::{Asked, Checked, check};
-use crate::content::{Content, content_of};
-use crate::minimising::{Minimising, minimised_lines};
+use crate::commands::content_of;
 use crate::outcome::{Outcome, cut_short, limits_of, unchecked, unread, unresolved};
-use crate::passed::Passed;
-use crate::places::places;
 use crate::printing::{MadePieces, output};
 use crate::request::{Request, second_at};
-use crate::wanted::lists_wanted;
 use std::alloc::AllocError;
-use swreq_calls::read_calls;
+use swreq_check::{
+    Asked, Checked, Content, Minimising, Passed, check, lines_of_calls, lists_wanted,
+    minimised_lines, places,
+};
+use swreq_decl::parse_calls;
 use swreq_param::ParamTable;
 use swreq_reqsig::{family_text, kept_family};
 use swreq_subst::laws::{calls_by_table, names_have_ids};
@@ -143,7 +142,7 @@ fn called(
 {
     names_have_ids(r.parts.source);
     calls_by_table();
-    match read_calls(r.alloc, r.parts.input, second_at(r.parts)) {
+    match parse_calls(r.alloc, r.parts.input, second_at(r.parts)) {
         Ok(written) => match resolve_calls(r.alloc, world, table, r.parts.input, &written) {
             Ok(calls) => answered_calls(r, world, table, checked, &calls),
             Err(e) => unresolved(r.alloc, e),

@@ -11,11 +11,12 @@ ghost use Rattle.swreq_verify.specs.SecondParts.{TermSection};
 ghost use Rattle.swreq_words.specs.declared.command.Command.TheVariants.{Verify};
 ghost use Rattle.swreq_words.specs.declared.command.CommandLine.{CommandLine};
 ghost use Rattle.swreq_reply.specs.declared.outcome.Outcome.{Outcome};
-ghost use Rattle.swreq_reply.specs.declared.content.Backing.TheVariants.{Derivation};
-ghost use Rattle.swreq_reply.specs.Contents.{backing_of, content_of};
+ghost use Rattle.swreq_check.specs.declared.content.Backing.TheVariants.{Derivation};
+ghost use Rattle.swreq_check.specs.Contents.{backing_of};
+ghost use Rattle.swreq_reply.specs.Commands.{content_of};
 ghost use Rattle.swreq_reply.specs.Explained.{IsLaidUnderYes};
 ghost use Rattle.swreq_reply.specs.Inputs.{AreParts, Parts, second_at};
-ghost use Rattle.swreq_reply.specs.Outputs.{IsDerivationText};
+ghost use Rattle.swreq_check.specs.QueryLines.{IsDerivationText};
 ghost use Rattle.swreq_reply.specs.Replies.{TellsPart};
 ghost use Rattle.swreq_reply.specs.Verdict.{IsRefused, IsVerdict};
 
@@ -32,8 +33,8 @@ pub fn one_verdict(input: &[u8], source: &[u8], from: u32)
     swreq_decl::laws::one_verdict(source);
     swreq_world::laws::world_is_one(source);
     swreq_lex::laws::one_reading_from(input, from);
-    swreq_calls::laws::one_list_of_calls(input, from);
-    swreq_calls::laws::one_verdict(input, from);
+    swreq_decl::laws::one_list_of_calls(input, from);
+    swreq_decl::laws::one_verdict_on_calls(input, from);
 }
 
 /// An input with this source text, and with its second part from this offset on, has at most one outcome with status 0. The derivations of
@@ -51,7 +52,7 @@ pub fn one_output(input: &[u8], source: &[u8], from: u32)
     swreq_world::laws::world_is_one(source);
     swreq_world::laws::signatures_are_found_by_name(source);
     swreq_print::laws::names_tell_ids_apart(source);
-    swreq_calls::laws::one_list_of_calls(input, from);
+    swreq_decl::laws::one_list_of_calls(input, from);
 }
 
 /// With `verify` nothing is told, whether the input has a verdict or memory runs out.

@@ -1,5 +1,5 @@
 //! What a command prints of a checked text, by the pieces that were made of it.
-ghost use Rattle.std.specs.Prelude.{◌≡◌, ◌<◌, ◌++◌, ℕ, true, decimal, get_or, length, List, IfOk, OnOk};
+ghost use Rattle.std.specs.Prelude.{◌≡◌, ◌<◌, ◌++◌, true, decimal, get_or, length, List, IfOk, OnOk};
 ghost use Rattle.std.specs.Bool.{Decides};
 ghost use Rattle.std.specs.List.{concat};
 ghost use Rattle.swreq_query.specs.Signatures.{IsNamedLine};
@@ -7,17 +7,18 @@ ghost use Rattle.swreq_query.specs.Systems.{IsSystemText};
 ghost use Rattle.swreq_print.specs.Names.{Text};
 ghost use Rattle.swreq_query.specs.Asked.{answer_of};
 ghost use Rattle.swreq_world.specs.Worlds.{no_signature};
-ghost use Rattle.swreq_reply.specs.declared.content.Backing.TheVariants.{Nothing};
-ghost use Rattle.swreq_reply.specs.declared.content.Content.TheVariants.{Answers};
-ghost use Rattle.swreq_reply.specs.Contents.{AreAnswers, AreSignatures, AreSystems, backed_by, backing_of};
+ghost use Rattle.swreq_check.specs.declared.content.Backing.TheVariants.{Nothing};
+ghost use Rattle.swreq_check.specs.declared.content.Content.TheVariants.{Answers};
+ghost use Rattle.swreq_check.specs.Contents.{AreAnswers, AreSignatures, AreSystems, backing_of};
 ghost use Rattle.swreq_reply.specs.Inputs.{Parts};
-ghost use Rattle.swreq_reply.specs.Lines.{AreLinesIn, Counted};
-ghost use Rattle.swreq_reply.specs.Outputs.{AnswersLast, AreCounts, HasAnswer, IsLineOf, IsOutput, sizes_text, verdicts_text};
-ghost use Rattle.swreq_reply.specs.Pieces.{IsWhole, query_at, text_at, world_of};
+ghost use Rattle.swreq_check.specs.Lines.{AreLinesIn, Counted};
+ghost use Rattle.swreq_reply.specs.Outputs.{AnswersLast, AreCounts, IsOutput, sizes_text, verdicts_text};
+ghost use Rattle.swreq_check.specs.QueryLines.{HasAnswer, IsLineOf};
+ghost use Rattle.swreq_reply.specs.Pieces.{IsWhole, query_at, world_of};
+ghost use Rattle.swreq_check.specs.Made.{text_at};
 
-use crate::content::{Content, Shown};
-use crate::wanted::list_asked;
 use std::alloc::{AllocError, Global};
+use swreq_check::{Content, Shown, list_asked, text_at};
 use swreq_lowering::FuncId;
 use swreq_param::ParamTable;
 use swreq_query::{Verdict, full_name};
@@ -34,17 +35,6 @@ pub(crate) struct MadePieces<'a> {
     pub pieces: &'a [Option<Seq<u8>>],
     /// The line of the minimised list of each signature, by place, or None where it is not wanted.
     pub lists: &'a [Option<Seq<u8>>],
-}
-
-/// The bytes of the piece at this place, or no bytes where there is no piece.
-pub(crate) fn text_at<'a>(pieces: &'a [Option<Seq<u8>>], k: usize) -> &'a [u8]
-    requires { k < length pieces.now }
-    ensures { result.now ≡ text_at pieces.now k }
-{
-    match &pieces[k] {
-        Some(piece) => piece.items(),
-        None => &[],
-    }
 }
 
 /// What answers the query at this place: a piece of a machine, or the line of a minimised list.

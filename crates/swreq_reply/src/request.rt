@@ -1,14 +1,14 @@
 //! What is to be answered.
 ghost use Rattle.std.specs.Prelude.{◌≡◌, ◌≤◌, Contains, MatchOption, length};
-ghost use Rattle.swreq_parts.specs.Lines.{lines};
-ghost use Rattle.swreq_parts.specs.Parts.{divider};
+ghost use Rattle.swreq_text.specs.Lines.{lines};
+ghost use Rattle.swreq_text.specs.Divided.{divider};
 ghost use Rattle.swreq_words.specs.declared.command.Input.TheVariants.{TwoParts};
 ghost use Rattle.swreq_words.specs.Commands.{input as reads};
 ghost use Rattle.swreq_reply.specs.Inputs.{HasParts, second_at};
 ghost use Rattle.swreq_reply.specs.Requests.{view_of};
 
 use std::alloc::Global;
-use swreq_parts::parts;
+use swreq_text::parts;
 use swreq_words::{Command, CommandLine, Input};
 
 /// An input, the source text in it, and what follows the line that divides it.

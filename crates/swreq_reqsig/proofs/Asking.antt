@@ -1,7 +1,7 @@
 -- Whether a requirement follows from the others, asked by reach.
 use Rattle.std.proofs.Common.{◌≡◌, ◌∙◌, ◌↔◌, ◌<◌, ◌+◌, ap, arith, inl, inr, sym, subst, ℕ, Bool, false, IfOk, IsTrue, List, length, map, slice_get, OnOk, Option, Result, Some, Ok, true}
 use Rattle.std.proofs.lemmas.Option.{get_or_from_slice_get, same_Some}
-use Rattle.swreq_orders.proofs.Elements.{get_contains, get_of_map, there_is}
+use Rattle.swreq_lemmas.proofs.Elements.{get_contains, get_of_map, there_is}
 use Rattle.std.proofs.lemmas.Result.{IfOk-weaker}
 use Rattle.swreq_param.specs.declared.ids.NameId.{NameId}
 use Rattle.swreq_param.specs.declared.ids.ProtoId.{ProtoId}

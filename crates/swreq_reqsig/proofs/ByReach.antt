@@ -1,8 +1,8 @@
 -- From [τ_0_0 : P] the same is derivable with a family and with its part that P reaches.
 use Rattle.std.proofs.Common.{◌≡◌, ◌∙◌, ◌↔◌, ap₂, arith, length, inl, inr, refl, sym, subst, ℕ, suc, zero, Bool, true, false, List, [], ◌∷◌, Contains, slice_get, Some}
 use Rattle.std.proofs.lemmas.Option.{slice_get_within}
-use Rattle.swreq_orders.proofs.Elements.{there_is}
-use Rattle.swreq_orders.proofs.Members.{first_member, later_member, member_cases, no_member}
+use Rattle.swreq_lemmas.proofs.Elements.{there_is}
+use Rattle.swreq_lemmas.proofs.Members.{first_member, later_member, member_cases, no_member}
 use Rattle.swreq_param.specs.declared.ids.ProtoId.{ProtoId}
 use Rattle.swreq_param.specs.Terms.{Term}
 use Rattle.swreq_derive.specs.Derivation.{AssociatedType, Derivable, TermFacts, TermRequirement, TermStatement}

@@ -23,7 +23,7 @@ use Rattle.swreq_symbols.proofs.Symbols.{symbols_law}
 use Rattle.swreq_world.specs.Closed.{IsClosed}
 use Rattle.swreq_world.specs.Worlds.{TextWorld}
 use Rattle.swreq_valid.specs.Keeping.{kept_facts}
-use Rattle.swreq_valid.specs.Machines.{ProtocolsView}
+use Rattle.swreq_valid.specs.Protocols.{ProtocolsView}
 use Rattle.swreq_valid.specs.Rounds.{last_rules}
 use Rattle.swreq_valid.proofs.OfKept.{kept_of_text}
 use Rattle.swreq_reqsig.specs.Families.{AreRulesOfKept}

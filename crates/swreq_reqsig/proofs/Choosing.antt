@@ -1,6 +1,6 @@
 -- Parts of a list, by flags.
 use Rattle.std.proofs.Common.{◌≡◌, ◌∙◌, inl, inr, refl, sym, ap, subst, ℕ, zero, suc, ◌<◌, arith, Bool, true, false, List, [], ◌∷◌, ◌++◌, length, replicate, take, drop, slice_get, Some, Contains}
-use Rattle.swreq_orders.proofs.Members.{first_member, later_member, member_cases, no_member}
+use Rattle.swreq_lemmas.proofs.Members.{first_member, later_member, member_cases, no_member}
 use Rattle.swreq_valid.specs.Flags.{chosen}
 use Rattle.swreq_reqsig.specs.GoingThrough.{without}
 

@@ -5,21 +5,20 @@ use Rattle.std.proofs.lemmas.Bool.{eq-eqb}
 use Rattle.std.proofs.lemmas.List.{length-map}
 use Rattle.std.proofs.lemmas.List.Elements.{Contains-append_cases, Contains-append_left, Contains-append_right}
 use Rattle.std.proofs.lemmas.Option.{slice_get-get_or, slice_get_within}
-use Rattle.swreq_orders.proofs.Elements.{contains_get}
-use Rattle.swreq_orders.proofs.Members.{contains_map, contains_of_map, member_cases, no_member}
+use Rattle.swreq_lemmas.proofs.Elements.{contains_get}
+use Rattle.swreq_lemmas.proofs.Members.{contains_map, contains_of_map, member_cases, no_member}
 use Rattle.swreq_param.specs.declared.ids.ProtoId.{ProtoId}
-use Rattle.swreq_param.specs.Terms.{Term, self}
-use Rattle.swreq_param.specs.Terms.Term.{Generic, Member}
+use Rattle.swreq_param.specs.Terms.{self}
 use Rattle.swreq_derive.specs.Derivation.{AssociatedType, Derivable, TermFacts, TermRequirement, TermStatement, for_self}
 use Rattle.swreq_derive.specs.Derivation.Derives.{assoc_conf, assoc_layout, assoc_same, conf, generic}
 use Rattle.swreq_derive.specs.Derivation.Source.{SelfOf}
 use Rattle.swreq_derive.specs.Derivation.TermRequirement.{Conforms, IsAnyObject, Equals}
-use Rattle.swreq_derive.specs.Derivation.TermStatement.{IsValid, Requires}
+use Rattle.swreq_derive.specs.Derivation.TermStatement.{Requires}
 use Rattle.swreq_derive.specs.Kept.{Owned, owned_facts, owned_by}
 use Rattle.swreq_derive.specs.WellFormed.{AreProtocolsWellFormed, HasValidSides}
 use Rattle.swreq_derive.proofs.InstanceLemmas.{same_proto}
 use Rattle.swreq_derive.proofs.KeptLemmas.{grows_with_protocols, member_owned, owned_member}
-use Rattle.swreq_correspondence.proofs.Readings.{valid_base, valid_generic}
+use Rattle.swreq_correspondence.proofs.Correspondence.{substitute-self}
 use Rattle.swreq_symbols.specs.Meaning.{facts_of}
 use Rattle.swreq_symbols.proofs.Symbols.{text_law}
 use Rattle.swreq_world.specs.Closed.{IsClosed}
@@ -34,22 +33,18 @@ use Rattle.swreq_reqsig.specs.Families.{associated_types_of, family_of, flag_lis
 
 -- ---- what conforms derives
 
-for_self-valid : {f : TermFacts} {p : ProtoId} (u : Term) → Derivable f (SelfOf p) (IsValid u) → for_self self u ≡ u
-for_self-valid (Generic g) v = ap Generic (sym (valid_generic v))
-for_self-valid (Member u x) v = ap (λ t. Member t x) (for_self-valid u (valid_base x v))
-
 -- a usable requirement of P is derivable from [τ_0_0 : P]
 pub usable_derivable : (f : TermFacts) (p : ProtoId) (r : TermRequirement) → Contains (f.of_protocol p) r → HasValidSides f (SelfOf p) r
     → Derivable f (SelfOf p) (Requires r)
 usable_derivable f p (Conforms u q) c v =
-    subst (λ z. Derivable f (SelfOf p) (Requires (Conforms z q))) (for_self-valid u v)
+    subst (λ z. Derivable f (SelfOf p) (Requires (Conforms z q))) (substitute-self u v)
     (assoc_conf {u = u} (conf refl (λ _. generic refl)) c (λ _. v))
 usable_derivable f p (IsAnyObject u) c v =
-    subst (λ z. Derivable f (SelfOf p) (Requires (IsAnyObject z))) (for_self-valid u v)
+    subst (λ z. Derivable f (SelfOf p) (Requires (IsAnyObject z))) (substitute-self u v)
     (assoc_layout {u = u} (conf refl (λ _. generic refl)) c (λ _. v))
 usable_derivable f p (Equals u x) c v =
-    subst (λ z. Derivable f (SelfOf p) (Requires (Equals z x))) (for_self-valid u v.0)
-    (subst (λ z. Derivable f (SelfOf p) (Requires (Equals (for_self self u) z))) (for_self-valid x v.1)
+    subst (λ z. Derivable f (SelfOf p) (Requires (Equals z x))) (substitute-self u v.0)
+    (subst (λ z. Derivable f (SelfOf p) (Requires (Equals (for_self self u) z))) (substitute-self x v.1)
     (assoc_same {u = u} {v = x} (conf refl (λ _. generic refl)) c (λ _. v.0) (λ _. v.1)))
 
 -- ---- parts of the requirements

@@ -8,8 +8,8 @@ use Rattle.swreq_param.specs.declared.ids.ProtoId.{ProtoId}
 use Rattle.swreq_param.specs.Terms.{Term}
 use Rattle.swreq_derive.specs.declared.requirements.Requirement.{Requirement}
 use Rattle.swreq_derive.specs.Facts.{requirement_of}
-use Rattle.swreq_orders.proofs.Members.{contains_of_map, first_member, later_member, member_cases, no_member}
-use Rattle.swreq_orders.proofs.Elements.{get_contains}
+use Rattle.swreq_lemmas.proofs.Members.{contains_of_map, first_member, later_member, member_cases, no_member}
+use Rattle.swreq_lemmas.proofs.Elements.{get_contains}
 use Rattle.swreq_symbols.specs.Known.{IsRequirementIn, IsTextOver}
 use Rattle.swreq_lowering.specs.declared.ids.Written.{Written}
 use Rattle.swreq_symbols.specs.Meaning.{facts_of}

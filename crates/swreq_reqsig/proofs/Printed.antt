@@ -4,7 +4,7 @@ use Rattle.std.specs.List.{All}
 use Rattle.std.proofs.lemmas.List.{append-nil, drop-map, drop_all, map-append, take-map}
 use Rattle.std.proofs.lemmas.List.Elements.{Contains-append_cases, Contains-get_or}
 use Rattle.swreq_text.specs.Joined.{joined}
-use Rattle.swreq_orders.proofs.Members.{contains_of_map, first_member, later_member, no_member, only_member}
+use Rattle.swreq_lemmas.proofs.Members.{contains_of_map, first_member, later_member, no_member, only_member}
 use Rattle.swreq_param.specs.declared.ids.ProtoId.{ProtoId}
 use Rattle.swreq_param.specs.Terms.{Term}
 use Rattle.swreq_derive.specs.Derivation.{TermRequirement}

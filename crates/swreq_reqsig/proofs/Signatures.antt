@@ -6,8 +6,8 @@ use Rattle.std.proofs.lemmas.Bool.{cases_lt}
 use Rattle.std.proofs.lemmas.List.{get_or_past}
 use Rattle.std.proofs.lemmas.List.Elements.{All-contains, All-get_or}
 use Rattle.std.proofs.lemmas.Option.{slice_get_within}
-use Rattle.swreq_orders.proofs.Elements.{get_contains, there_is}
-use Rattle.swreq_orders.proofs.Members.{contains_of_map, no_member}
+use Rattle.swreq_lemmas.proofs.Elements.{get_contains, there_is}
+use Rattle.swreq_lemmas.proofs.Members.{contains_of_map, no_member}
 use Rattle.swreq_param.specs.declared.ids.ProtoId.{ProtoId}
 use Rattle.swreq_param.specs.Terms.{Term}
 use Rattle.swreq_derive.specs.Derivation.{AssociatedType, TermFacts, TermRequirement}

@@ -4,7 +4,7 @@ use Rattle.std.specs.Prelude.{not}
 use Rattle.std.proofs.lemmas.Bool.{cases_eq}
 use Rattle.std.proofs.lemmas.List.{length-replicate, length-set}
 use Rattle.std.proofs.lemmas.Option.{same_Some, slice_get-get_or, slice_get_within}
-use Rattle.swreq_orders.proofs.Elements.{contains_get, get_contains, get_map, get_of_map, set_cases, set_here, there_is}
+use Rattle.swreq_lemmas.proofs.Elements.{contains_get, get_contains, get_map, get_of_map, set_cases, set_here, there_is}
 use Rattle.swreq_param.specs.declared.ids.NameId.{NameId}
 use Rattle.swreq_param.specs.declared.ids.ProtoId.{ProtoId}
 use Rattle.swreq_param.specs.Terms.{Term}

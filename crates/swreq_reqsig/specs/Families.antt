@@ -11,7 +11,7 @@ use Rattle.swreq_rounds.specs.Presents.{AreProtocolRules}
 use Rattle.swreq_symbols.specs.Meaning.{facts_of, symbols_of}
 use Rattle.swreq_valid.specs.Flags.{chosen}
 use Rattle.swreq_valid.specs.Keeping.{TellUsable, kept_facts, kept_plan}
-use Rattle.swreq_valid.specs.Machines.{ProtocolsView}
+use Rattle.swreq_valid.specs.Protocols.{ProtocolsView}
 use Rattle.swreq_valid.specs.Rounds.{last_rules}
 use Rattle.swreq_world.specs.Worlds.{TextWorld, WorldOver, requirements_of}
 use Rattle.swreq_reqsig.specs.GoingThrough.{AreGiven}

@@ -32,7 +32,7 @@ impl Print<Requirement> for OfSelf<'_> {
 
     ghost fits = { λ s r. HasIdsOf s.table.now r };
 
-    #[tactic(auto, using(swreq_text::proofs::Parts::none_grew))]
+    #[tactic(auto, using(swreq_text::proofs::Grown::none_grew))]
     fn put(&self, out: &mut Vec<u8>, item: &Requirement) -> Result<(), AllocError> {
         self_text(self.alloc, self.names, self.table, item, out)
     }

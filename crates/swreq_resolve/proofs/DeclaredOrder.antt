@@ -2,7 +2,7 @@
 use Rattle.std.proofs.Common.{◌≡◌, ℕ, zero, suc, ◌≤◌, inl, inr, ⊎_elim, List, [], ◌∷◌, ◌++◌, map, get_or, Contains, sym, ap, subst, ◌∙◌, arith}
 use Rattle.std.specs.List.{AllByRecursion, filter_map}
 use Rattle.std.specs.Str.{chars}
-use Rattle.swreq_orders.proofs.Members.{no_member, first_member, later_member, member_cases}
+use Rattle.swreq_lemmas.proofs.Members.{no_member, first_member, later_member, member_cases}
 use Rattle.swreq_lex.specs.declared.token.Token as lexed
 use Rattle.swreq_lex.specs.Slices.{AreSlices, next}
 use Rattle.swreq_lex.specs.Tokens.{HasTokens, first_offset}

@@ -5,9 +5,11 @@ mod check;
 mod cycles;
 mod items;
 pub mod laws;
+mod protocols;
 mod queries;
 mod refusal;
 mod resolve;
+mod signatures;
 
 pub use refusal::{Fault, NameErr, Refusal, error_of};
 pub use resolve::{resolve_names, resolve_type};

@@ -1,19 +1,15 @@
-//! Worked rows of completion, and the calls of complete rules.
+//! Worked rows of completion: what is told of it, and how it ends.
 
 ghost use Rattle.swreq_complete.specs.Limits.{AreInRange};
-ghost use Rattle.swreq_path.specs.Paths.{IsPath};
 
-use crate::notation::{PROTOCOL, assert_line, equations, put_rule, put_word, word};
-use crate::paths::put_way;
+use crate::notation::{PROTOCOL, assert_row, equations, put_rule};
 use std::alloc::{AllocError, Global};
 use std::fmt::Write;
 use std::process::Abort;
 use swreq_complete::{CompleteRules, Failed, Limits, Which, extend};
-use swreq_path::Path;
-use swreq_rule::Rule;
 use swreq_samples::{Tally, counts, tally_at};
 use swreq_watch::{Counter, Event, Recorder};
-use swreq_word::{Symbol, Word};
+use swreq_word::Word;
 
 const AMPLE: Limits = Limits {
     max_rules: 4000,
@@ -21,20 +17,17 @@ const AMPLE: Limits = Limits {
 };
 
 /// The completion of the base by the equations. One that does not end is an error too.
-fn ended<'b>(
+pub(crate) fn ended<'b>(
     alloc: Global,
     base: CompleteRules<'b>,
     given: &[(Word, Word)],
     counter: &mut Counter,
 ) -> Result<CompleteRules<'b>, AllocError> {
-    match extend(alloc, base, given, AMPLE, counter) {
-        Ok(rules) => Ok(rules),
-        Err(_) => Err(AllocError),
-    }
+    extend(alloc, base, given, AMPLE, counter).map_err(|_| AllocError)
 }
 
 /// The rules that complete these equations.
-fn completed<'b>(
+pub(crate) fn completed<'b>(
     alloc: Global,
     text: &str,
     counter: &mut Counter,
@@ -92,62 +85,71 @@ fn put_ending(out: &mut String, ending: (usize, Option<Which>)) -> Result<(), Al
     write!(out, ": {count} {how}")
 }
 
-/// Rules over a base, the most rules and the greatest length: what is told of their completion, and the answer.
-const TOLD: &[(&str, &str, (u32, u32), &str)] = &[
+/// By name, rules over a base, the most rules and the greatest length: what is told of their completion, and the answer.
+const TOLD: &[(&str, &str, &str, (u32, u32), &str)] = &[
     (
+        "a protocol over no rules",
         "",
         PROTOCOL,
         (4000, 64),
         "over 0, NN>N 1, NA>a 2, aN>a 3, Na>a 1.2.1, aA>aa 3.2.1: 5 rules",
     ),
-    // A generic parameter that conforms to the protocol.
     (
+        "a generic parameter that conforms to the protocol",
         PROTOCOL,
         "TN=T",
         (4000, 64),
         "over 5, TN>T 1, TA>Ta 6.2.1: 7 rules",
     ),
-    // The last rule passes the limit.
     (
+        "the last rule has the number of the limit",
         PROTOCOL,
         "TN=T",
         (7, 64),
         "over 5, TN>T 1, TA>Ta 6.2.1: 7 rules",
     ),
     (
+        "the last rule passes the limit of rules",
         PROTOCOL,
         "TN=T",
         (6, 64),
         "over 5, TN>T 1, TA>Ta 6.2.1: 7 past the limit of rules",
     ),
     (
+        "the longest left side has the length of the limit",
         PROTOCOL,
         "TN=T",
         (4000, 2),
         "over 5, TN>T 1, TA>Ta 6.2.1: 7 rules",
     ),
     (
+        "a left side passes the limit of length",
         PROTOCOL,
         "TN=T",
         (4000, 1),
         "over 5, TN>T 1: 6 past the limit of length",
     ),
-    // A rule that passes both.
     (
+        "a rule that passes both",
         PROTOCOL,
         "TN=T",
         (5, 1),
         "over 5, TN>T 1: 6 past the limit of rules",
     ),
-    // An equation that bears no rule counts.
     (
+        "an equation that bears no rule counts",
         PROTOCOL,
         "NN=N TN=T",
         (6, 64),
         "over 5, TN>T 2, TA>Ta 6.2.1: 7 past the limit of rules",
     ),
-    // The base has more rules than the limit, and both sides reduce to one word by them.
-    (PROTOCOL, "NAA=aa", (4, 1), "over 5: 5 rules"),
+    (
+        "a base of more rules than the limit, and sides that reduce to one word",
+        PROTOCOL,
+        "NAA=aa",
+        (4, 1),
+        "over 5: 5 rules",
+    ),
 ];
 
 /// What is told of the completion of the base by the equations, and the answer.
@@ -222,145 +224,11 @@ fn limits_of(rt: &impl Abort, max_rules: u32, max_length: u32) -> Limits
 
 #[test]
 fn a_completion_tells_the_rules_born_up_to_its_limits(rt: HostRuntime) -> Result<(), AllocError> {
-    for (base, text, (max_rules, max_length), wanted) in TOLD {
+    for (name, base, text, (max_rules, max_length), wanted) in TOLD {
         let limits = limits_of(&rt, *max_rules, *max_length);
         let mut out = String::new(rt.alloc());
         put_told_of(rt.alloc(), base, text, limits, &mut out)?;
-        assert_line(&rt, &out, wanted);
-    }
-    Ok(())
-}
-
-fn put_rules(out: &mut String, rules: &[Rule]) -> Result<(), AllocError> {
-    for rule in rules {
-        put_rule(out, rule)?;
-    }
-    Ok(())
-}
-
-/// How many rules were born, and the reduced ones.
-fn put_reduced(
-    alloc: Global,
-    rules: &CompleteRules<'_>,
-    born: u64,
-    out: &mut String,
-) -> Result<(), AllocError> {
-    write!(out, "{born} born")?;
-    put_rules(out, &rules.canonical(alloc)?)
-}
-
-/// How many rules are born in the completion of the equations, and the reduced ones.
-fn put_reduced_of(alloc: Global, text: &str, out: &mut String) -> Result<(), AllocError> {
-    let mut counter = Counter::new();
-    let rules = completed(alloc, text, &mut counter)?;
-    put_reduced(alloc, &rules, counter.born(), out)
-}
-
-const REDUCED: &str = "5 born, B>A 3, CA>A 2.3.1, DA>AD 1.1.1, DD>A 1";
-
-#[test]
-fn the_reduced_system_has_no_reducible_side(rt: HostRuntime) -> Result<(), AllocError> {
-    let mut out = String::new(rt.alloc());
-    put_reduced_of(rt.alloc(), "DD=CB CB=A B=A", &mut out)?;
-    assert_line(&rt, &out, REDUCED);
-    Ok(())
-}
-
-/// Rules over a base, a word, the path by which they reduce it, and the word that they leave.
-const WAYS: &[(&str, &str, &str, &str)] = &[
-    ("", PROTOCOL, "NAA", "NAA +2A +5 = aa; aa"),
-    (PROTOCOL, "TN=T", "TAA", "TAA +7A T+5 = Taa; Taa"),
-    (PROTOCOL, "TN=T", "TANA", "TANA +7NA T+3A T+5 = Taa; Taa"),
-];
-
-/// A path over the rules.
-fn put_path_over(
-    alloc: Global,
-    rules: &CompleteRules<'_>,
-    path: &Path,
-    out: &mut String,
-) -> Result<(), AllocError>
-    requires { IsPath rules.now path.now }
-{
-    let rules = rules.written_out(alloc)?;
-    put_way(alloc, &rules, path, out)
-}
-
-/// The path of the word.
-fn put_path_of(
-    alloc: Global,
-    rules: &CompleteRules<'_>,
-    w: &[Symbol],
-    out: &mut String,
-) -> Result<(), AllocError> {
-    let path = rules.path(alloc, w)?;
-    put_path_over(alloc, rules, &path, out)
-}
-
-/// The path of the word, and the word that the rules leave.
-fn put_ways(
-    alloc: Global,
-    rules: &CompleteRules<'_>,
-    letters: &str,
-    out: &mut String,
-) -> Result<(), AllocError> {
-    let mut w = word(alloc, letters)?;
-    put_path_of(alloc, rules, &w, out)?;
-    rules.reduce(&mut w);
-    put_word(out, &w)
-}
-
-/// The way of these letters by rules that are borrowed.
-fn put_ways_over(
-    alloc: Global,
-    rules: &CompleteRules<'_>,
-    letters: &str,
-    out: &mut String,
-) -> Result<(), AllocError> {
-    let over = rules.over(alloc)?;
-    put_ways(alloc, &over, letters, out)
-}
-
-/// The rules that complete borrowed ones by the equations.
-fn extended<'b>(
-    alloc: Global,
-    base: &'b CompleteRules<'_>,
-    text: &str,
-) -> Result<CompleteRules<'b>, AllocError> {
-    let given = equations(alloc, text)?;
-    ended(alloc, base.over(alloc)?, &given, &mut Counter::new())
-}
-
-/// The way of these letters by the rules that complete borrowed ones by the equations.
-fn put_ways_on(
-    alloc: Global,
-    base: &CompleteRules<'_>,
-    text: &str,
-    letters: &str,
-    out: &mut String,
-) -> Result<(), AllocError> {
-    let rules = extended(alloc, base, text)?;
-    put_ways_over(alloc, &rules, letters, out)
-}
-
-/// The way of these letters by the rules that complete the base by the equations, over a base that is itself over another.
-fn put_ways_of(
-    alloc: Global,
-    base: &str,
-    text: &str,
-    letters: &str,
-    out: &mut String,
-) -> Result<(), AllocError> {
-    let base = completed(alloc, base, &mut Counter::new())?;
-    put_ways_on(alloc, &base, text, letters, out)
-}
-
-#[test]
-fn rules_over_others_reduce_to_the_least_word(rt: HostRuntime) -> Result<(), AllocError> {
-    for (base, text, letters, wanted) in WAYS {
-        let mut out = String::new(rt.alloc());
-        put_ways_of(rt.alloc(), base, text, letters, &mut out)?;
-        assert_line(&rt, &out, wanted);
+        assert_row(&rt, name, &out, wanted);
     }
     Ok(())
 }

@@ -4,7 +4,7 @@ ghost use Rattle.std.specs.Prelude.{⊤, IfOk, MatchOption};
 ghost use Rattle.swreq_path.specs.Paths.{IsLoop};
 ghost use Rattle.swreq_homotopy.specs.Evidence.{AreLoops};
 
-use crate::notation::{assert_line, put_path, rules};
+use crate::notation::{assert_row, put_path, rules};
 use std::alloc::{AllocError, Global};
 use std::fmt::Write;
 use std::process::Abort;
@@ -13,35 +13,105 @@ use swreq_pair::is_pair;
 use swreq_path::Loop;
 use swreq_rule::{Place, Rule};
 
-/// Three rules, the place of a pair, the rules that are kept and those that may go; the loop of the pair, and what it shows: a rule, and
+/// By name, three rules, the place of a pair, the rules that are kept and those that may go; the loop of the pair, and what it shows: a rule, and
 /// the path without it.
-const SHOWN: &[(&str, (u32, u32, usize), &str, &str, &str)] = &[
-    // Three rules over equal generic parameters. The step of the rule shown goes back.
-    (EQUAL, (2, 3, 0), "123", "3", "V +2 +1 -3; 3: V +2 +1"),
-    // It goes forward.
-    (EQUAL, (2, 3, 0), "123", "1", "V +2 +1 -3; 1: U -2 +3"),
-    // The first step of the loop that shows a rule.
-    (EQUAL, (2, 3, 0), "123", "123", "V +2 +1 -3; 2: V +3 -1"),
-    // The rule is not free to go, is not kept, or another rule of the loop is not.
-    (EQUAL, (2, 3, 0), "123", "", "V +2 +1 -3; "),
-    (EQUAL, (2, 3, 0), "12", "3", "V +2 +1 -3; "),
-    (EQUAL, (2, 3, 0), "23", "3", "V +2 +1 -3; "),
-    // A rule in a context is not shown.
-    (CONTEXT, (3, 2, 0), "123", "12", "CD +3 -1D -2D; "),
+const SHOWN: &[(&str, &str, (u32, u32, usize), &str, &str, &str)] = &[
     (
+        "a step back over equal generic parameters",
+        EQUAL,
+        (2, 3, 0),
+        "123",
+        "3",
+        "V +2 +1 -3; 3: V +2 +1",
+    ),
+    (
+        "a step forward over equal generic parameters",
+        EQUAL,
+        (2, 3, 0),
+        "123",
+        "1",
+        "V +2 +1 -3; 1: U -2 +3",
+    ),
+    (
+        "the first step of the loop that shows a rule",
+        EQUAL,
+        (2, 3, 0),
+        "123",
+        "123",
+        "V +2 +1 -3; 2: V +3 -1",
+    ),
+    (
+        "no rule is free to go",
+        EQUAL,
+        (2, 3, 0),
+        "123",
+        "",
+        "V +2 +1 -3; ",
+    ),
+    (
+        "the rule is not kept",
+        EQUAL,
+        (2, 3, 0),
+        "12",
+        "3",
+        "V +2 +1 -3; ",
+    ),
+    (
+        "another rule of the loop is not kept",
+        EQUAL,
+        (2, 3, 0),
+        "23",
+        "3",
+        "V +2 +1 -3; ",
+    ),
+    (
+        "a rule in a context is not shown",
+        CONTEXT,
+        (3, 2, 0),
+        "123",
+        "12",
+        "CD +3 -1D -2D; ",
+    ),
+    (
+        "the rule without a context is shown",
         CONTEXT,
         (3, 2, 0),
         "123",
         "123",
         "CD +3 -1D -2D; 3: CD +2D +1D",
     ),
-    // A rule that the loop uses twice is not shown.
-    ("D=C D=C C=A", (1, 2, 0), "123", "3", "D +1 +3 -3 -2; "),
-    // An overlap, and a containment with what stands on both sides of the second left side.
-    ("AB=C BC=D CC=AD", (1, 2, 1), "123", "", "ABC +1C +3 A-2; "),
-    ("ABC=AA B= AC=AA", (1, 2, 1), "123", "", "ABC +1 -3 A-2C; "),
-    // Sides that reduce to two words.
-    ("C=B C=A D=A", (1, 2, 0), "123", "123", "none"),
+    (
+        "a rule that the loop uses twice is not shown",
+        "D=C D=C C=A",
+        (1, 2, 0),
+        "123",
+        "3",
+        "D +1 +3 -3 -2; ",
+    ),
+    (
+        "the loop of an overlap",
+        "AB=C BC=D CC=AD",
+        (1, 2, 1),
+        "123",
+        "",
+        "ABC +1C +3 A-2; ",
+    ),
+    (
+        "the loop of a containment within",
+        "ABC=AA B= AC=AA",
+        (1, 2, 1),
+        "123",
+        "",
+        "ABC +1 -3 A-2C; ",
+    ),
+    (
+        "sides that reduce to two words",
+        "C=B C=A D=A",
+        (1, 2, 0),
+        "123",
+        "123",
+        "none",
+    ),
 ];
 
 const EQUAL: &str = "U=T V=U V=T";
@@ -150,7 +220,7 @@ fn put_shown(
 
 #[test]
 fn a_loop_shows_rules_that_it_uses_bare_and_once(rt: HostRuntime) -> Result<(), AllocError> {
-    for (text, (i, j, at), keep, may, wanted) in SHOWN {
+    for (name, text, (i, j, at), keep, may, wanted) in SHOWN {
         let place = Place {
             i: *i,
             j: *j,
@@ -158,7 +228,7 @@ fn a_loop_shows_rules_that_it_uses_bare_and_once(rt: HostRuntime) -> Result<(), 
         };
         let mut out = String::new(rt.alloc());
         put_shown(&rt, rt.alloc(), text, place, (keep, may), &mut out)?;
-        assert_line(&rt, &out, wanted);
+        assert_row(&rt, name, &out, wanted);
     }
     Ok(())
 }

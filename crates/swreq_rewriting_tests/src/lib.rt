@@ -2,6 +2,8 @@
 #![tactic(auto)]
 
 #[cfg(test)]
+mod complete_rules;
+#[cfg(test)]
 mod completions;
 #[cfg(test)]
 mod evidence;

@@ -143,3 +143,8 @@ pub(crate) fn put_path(out: &mut String, path: &Path) -> Result<(), AllocError> 
 pub(crate) fn assert_line(rt: &impl Abort, line: &str, wanted: &str) {
     assert_eq!(rt; line, wanted);
 }
+
+/// Asserts that the line is the one that is wanted in the row of this name.
+pub(crate) fn assert_row(rt: &impl Abort, name: &str, line: &str, wanted: &str) {
+    assert_eq!(rt; line, wanted, "{name}");
+}

@@ -3,7 +3,7 @@
 ghost use Rattle.std.specs.Prelude.{IfOk};
 ghost use Rattle.swreq_path.specs.Paths.{HasTarget, IsPath};
 
-use crate::notation::{assert_line, put_path, put_word, rules, word};
+use crate::notation::{assert_row, put_path, put_word, rules, word};
 use std::alloc::{AllocError, Global};
 use std::process::Abort;
 use swreq_path::{Path, compose, invert, path_of};
@@ -12,13 +12,14 @@ use swreq_rule::Rule;
 /// The rules of a protocol N with a member A, and of a generic parameter that conforms to it.
 const RULES: &str = "NN=N NA=a aN=a Na=a aA=aa TN=T TA=Ta";
 
-/// A word, and the path of its reduction, the path back, and both.
-const WAYS: &[(&str, &str)] = &[
+/// By name, a word, and the path of its reduction, the path back, and both.
+const WAYS: &[(&str, &str, &str)] = &[
     (
+        "a path of two steps",
         "TAA",
         "TAA +7A T+5 = Taa; Taa T-5 -7A = TAA; TAA +7A T+5 T-5 -7A = TAA; ",
     ),
-    ("Ta", "Ta = Ta; Ta = Ta; Ta = Ta; "),
+    ("a path of no steps", "Ta", "Ta = Ta; Ta = Ta; Ta = Ta; "),
 ];
 
 /// The word to which the path leads.
@@ -103,10 +104,10 @@ fn put_ways(
 #[test]
 fn paths_of_reduction_go_forth_and_back(rt: HostRuntime) -> Result<(), AllocError> {
     let list = rules(rt.alloc(), RULES)?;
-    for (letters, wanted) in WAYS {
+    for (name, letters, wanted) in WAYS {
         let mut out = String::new(rt.alloc());
         put_ways(&rt, rt.alloc(), list.rules(), letters, &mut out)?;
-        assert_line(&rt, &out, wanted);
+        assert_row(&rt, name, &out, wanted);
     }
     Ok(())
 }

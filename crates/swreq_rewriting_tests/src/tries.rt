@@ -2,7 +2,7 @@
 
 ghost use Rattle.std.specs.Prelude.{◌<◌, ◌≤◌, length};
 
-use crate::notation::{assert_line, word};
+use crate::notation::{assert_line, assert_row, word};
 use std::alloc::{AllocError, Global};
 use std::fmt::Write;
 use std::process::Abort;
@@ -32,10 +32,11 @@ fn stored(rt: &impl Abort, alloc: Global, sides: &[(u32, &str)]) -> Result<Trie,
     Ok(trie)
 }
 
-/// Stored sides, another side with its number, the side that is found at each of its places, and its places with the stored ones and with
-/// itself: the two numbers, and where the second side begins in the first.
-const CASES: &[(&[(u32, &str)], &str, u32, &str)] = &[
+/// By name, stored sides, another side with its number, the side that is found at each of its places, and its places with the stored ones
+/// and with itself: the two numbers, and where the second side begins in the first.
+const CASES: &[(&str, &[(u32, &str)], &str, u32, &str)] = &[
     (
+        "the sides of a protocol and a generic parameter",
         &[
             (1, "NN"),
             (2, "NA"),
@@ -49,56 +50,112 @@ const CASES: &[(&[(u32, &str)], &str, u32, &str)] = &[
         8,
         "4 5 - - of 7, longest 2; 1.8.1 3.8.1 6.8.1 8.4.0 8.5.1",
     ),
-    // The first of equal sides, and a shorter one before a longer one.
     (
+        "the first of equal sides, and a shorter one before a longer one",
         &[(1, "AB"), (2, "A"), (3, "BCD"), (4, "A")],
         "BCDBC",
         9,
         "3 - - - - - of 4, longest 3; 1.9.1 9.3.0 9.3.3 9.9.3",
     ),
-    (&[], "AB", 1, "- - - of 0, longest 0;"),
-    // By the first number and then by the second.
+    ("an empty trie", &[], "AB", 1, "- - - of 0, longest 0;"),
     (
+        "the end of a stored side is the front of the side",
         &[(1, "NN"), (2, "NA"), (3, "aN"), (4, "Na")],
         "aA",
         5,
         "- - - of 4, longest 2; 4.5.1",
     ),
     (
+        "by the first number and then by the second",
         &[(1, "NN"), (2, "NA"), (3, "aN")],
         "Na",
         4,
         "- - - of 3, longest 2; 1.4.1 3.4.1 4.3.1",
     ),
-    // Containment within, at place 0 and at the end, of the stored side and of the new one.
-    (&[(1, "ABC")], "B", 2, "- - of 1, longest 3; 1.2.1"),
-    (&[(1, "ABC")], "AB", 2, "- - - of 1, longest 3; 1.2.0"),
-    (&[(1, "ABC")], "BC", 2, "- - - of 1, longest 3; 1.2.1"),
-    (&[(1, "B")], "ABC", 2, "- 1 - - of 1, longest 1; 2.1.1"),
-    (&[(1, "AB")], "ABC", 2, "1 - - - of 1, longest 2; 2.1.0"),
-    // The same side under two numbers.
-    (&[(1, "AB")], "AB", 2, "1 - - of 1, longest 2; 1.2.0 2.1.0"),
-    // Overlaps with itself, of one symbol and of more.
-    (&[], "ABABA", 1, "- - - - - - of 0, longest 0; 1.1.2 1.1.4"),
-    // Overlaps of all but one symbol, both ways.
-    (&[(1, "ABC")], "BCD", 2, "- - - - of 1, longest 3; 1.2.1"),
-    (&[(1, "BCD")], "ABC", 2, "- - - - of 1, longest 3; 2.1.1"),
-    // Equal fronts.
     (
+        "the side stands within a stored one",
+        &[(1, "ABC")],
+        "B",
+        2,
+        "- - of 1, longest 3; 1.2.1",
+    ),
+    (
+        "the side stands at the front of a stored one",
+        &[(1, "ABC")],
+        "AB",
+        2,
+        "- - - of 1, longest 3; 1.2.0",
+    ),
+    (
+        "the side stands at the end of a stored one",
+        &[(1, "ABC")],
+        "BC",
+        2,
+        "- - - of 1, longest 3; 1.2.1",
+    ),
+    (
+        "a stored side stands within",
+        &[(1, "B")],
+        "ABC",
+        2,
+        "- 1 - - of 1, longest 1; 2.1.1",
+    ),
+    (
+        "a stored side stands at the front",
+        &[(1, "AB")],
+        "ABC",
+        2,
+        "1 - - - of 1, longest 2; 2.1.0",
+    ),
+    (
+        "the same side under two numbers",
+        &[(1, "AB")],
+        "AB",
+        2,
+        "1 - - of 1, longest 2; 1.2.0 2.1.0",
+    ),
+    (
+        "overlaps with itself, of one symbol and of more",
+        &[],
+        "ABABA",
+        1,
+        "- - - - - - of 0, longest 0; 1.1.2 1.1.4",
+    ),
+    (
+        "an overlap of all but one symbol",
+        &[(1, "ABC")],
+        "BCD",
+        2,
+        "- - - - of 1, longest 3; 1.2.1",
+    ),
+    (
+        "an overlap of all but one symbol, the other way",
+        &[(1, "BCD")],
+        "ABC",
+        2,
+        "- - - - of 1, longest 3; 2.1.1",
+    ),
+    (
+        "equal fronts",
         &[(1, "AAA")],
         "AAC",
         2,
         "- - - - of 1, longest 3; 1.2.1 1.2.2",
     ),
-    // Several, by the numbers and then by the place.
     (
+        "several, by the numbers and then by the place",
         &[(1, "AA"), (2, "AB"), (3, "BA")],
         "AAB",
         4,
         "1 2 - - of 3, longest 2; 1.4.1 3.4.1 4.1.0 4.2.1 4.3.2",
     ),
-    // A stored side with a greater number is left out.
-    (&[(3, "AB"), (1, "BC")], "BA", 2, "- - - of 2, longest 2;"),
+    (
+        "a stored side with a greater number is left out",
+        &[(3, "AB"), (1, "BC")],
+        "BA",
+        2,
+        "- - - of 2, longest 2;",
+    ),
 ];
 
 /// The side that is found at the place.
@@ -176,10 +233,10 @@ fn put_case(
 fn sides_are_found_where_they_begin_overlap_or_stand_in_each_other(
     rt: HostRuntime,
 ) -> Result<(), AllocError> {
-    for (sides, letters, number, wanted) in CASES {
+    for (name, sides, letters, number, wanted) in CASES {
         let mut out = String::new(rt.alloc());
         put_case(&rt, rt.alloc(), sides, letters, *number, &mut out)?;
-        assert_line(&rt, &out, wanted);
+        assert_row(&rt, name, &out, wanted);
     }
     Ok(())
 }

@@ -6,32 +6,50 @@ use std::alloc::{AllocError, Global};
 use std::fmt::Write;
 use swreq_word::{Symbol, Word, WordTable, compare};
 
-/// Words of one symbol go by its kind and then by its number; of two words the shorter one comes first, and of words of one length the
+/// Words by name. Those of one symbol go by its kind and then by its number; of two words the shorter one comes first, and of words of one length the
 /// first symbols in which they differ decide.
-const ASCENDING: &[&[Symbol]] = &[
-    &[],
-    &[Symbol::Proto(0)],
-    &[Symbol::Proto(9)],
-    &[Symbol::Member(0)],
-    &[Symbol::Member(4_294_967_296)],
-    &[Symbol::Param(0, 0)],
-    &[Symbol::Param(0, 9)],
-    &[Symbol::Param(1, 0)],
-    &[Symbol::Name(0)],
-    &[Symbol::Name(9)],
-    &[Symbol::Layout],
-    &[Symbol::Proto(0), Symbol::Proto(0)],
-    &[Symbol::Param(0, 0), Symbol::Proto(0)],
-    &[Symbol::Param(0, 0), Symbol::Name(0)],
-    &[Symbol::Param(0, 0), Symbol::Layout],
-    &[Symbol::Name(0), Symbol::Proto(0)],
+const ASCENDING: &[(&str, &[Symbol])] = &[
+    ("no symbol", &[]),
+    ("the first protocol", &[Symbol::Proto(0)]),
+    ("a later protocol", &[Symbol::Proto(9)]),
+    ("the first member symbol", &[Symbol::Member(0)]),
+    (
+        "a member symbol past 32 bits",
+        &[Symbol::Member(4_294_967_296)],
+    ),
+    ("the first generic parameter", &[Symbol::Param(0, 0)]),
+    ("a later generic parameter", &[Symbol::Param(0, 9)]),
+    (
+        "a generic parameter of greater depth",
+        &[Symbol::Param(1, 0)],
+    ),
+    ("the first name", &[Symbol::Name(0)]),
+    ("a later name", &[Symbol::Name(9)]),
+    ("the layout", &[Symbol::Layout]),
+    ("a protocol twice", &[Symbol::Proto(0), Symbol::Proto(0)]),
+    (
+        "a generic parameter and a protocol",
+        &[Symbol::Param(0, 0), Symbol::Proto(0)],
+    ),
+    (
+        "a generic parameter and a name",
+        &[Symbol::Param(0, 0), Symbol::Name(0)],
+    ),
+    (
+        "a generic parameter and the layout",
+        &[Symbol::Param(0, 0), Symbol::Layout],
+    ),
+    (
+        "a name and a protocol",
+        &[Symbol::Name(0), Symbol::Proto(0)],
+    ),
 ];
 
 #[test]
 fn shorter_words_come_before_longer_ones(rt: HostRuntime) {
-    for (i, a) in ASCENDING.iter().enumerate() {
-        for (j, b) in ASCENDING.iter().enumerate() {
-            assert!(rt; compare(a, b) == i.cmp(&j));
+    for (i, (name, a)) in ASCENDING.iter().enumerate() {
+        for (j, (other, b)) in ASCENDING.iter().enumerate() {
+            assert!(rt; compare(a, b) == i.cmp(&j), "{name}, and {other}");
         }
     }
 }

@@ -5,7 +5,7 @@ use Rattle.swreq_param.specs.declared.ids.ParamId.{ParamId}
 use Rattle.swreq_param.specs.declared.ids.ProtoId.{ProtoId}
 use Rattle.swreq_derive.specs.Derivation.{TermRequirement, TermFacts, Source}
 use Rattle.swreq_derive.specs.Derivation.Source.{Written, SelfOf}
-use Rattle.swreq_orders.proofs.Members.{no_member, contains_map, contains_of_map}
+use Rattle.swreq_lemmas.proofs.Members.{no_member, contains_map, contains_of_map}
 use Rattle.swreq_word.specs.Relations.{Linked}
 use Rattle.swreq_rule.specs.declared.rules.Rule.{Rule}
 use Rattle.swreq_rule.specs.Steps.{Step}

@@ -14,7 +14,7 @@ use Rattle.swreq_rule.proofs.Context.{Step-before, Step-after}
 use Rattle.swreq_complete.specs.Reached.{BeginsWith, IsEnded, IsReached}
 use Rattle.swreq_complete.specs.Laws.{all_equations}
 use Rattle.swreq_complete.proofs.Ended.{by_rule}
-use Rattle.swreq_orders.proofs.Elements.{in_whole, get_of_map, get_contains, contains_get}
+use Rattle.swreq_lemmas.proofs.Elements.{in_whole, get_of_map, get_contains, contains_get}
 use Rattle.swreq_complete.proofs.Soundness.{sound, complete}
 use Rattle.swreq_correspondence.specs.Symbols.{Word}
 use Rattle.swreq_correspondence.specs.Equations.{Link, Linking}

@@ -1,6 +1,6 @@
 -- What comes after a round that goes on.
 use Rattle.std.proofs.Common.{◌≡◌, inl, inr, sym, ap, ◌∙◌, ◌++◌, subst, List, length, Contains, Option, Some, None, Result, Ok, Err}
-use Rattle.swreq_orders.proofs.Members.{no_member}
+use Rattle.swreq_lemmas.proofs.Members.{no_member}
 use Rattle.swreq_rule.specs.declared.rules.Rule.{Rule}
 use Rattle.swreq_watch.specs.declared.events.Event.{Event}
 use Rattle.swreq_complete.specs.declared.limit.Failed.{Failed}

@@ -11,8 +11,6 @@ pub fn skeleton_of(alloc: Global, text: &[u8]) -> Result<Skeleton, Fail>
     requires { length text.now ≤ 1048576 }
     ensures { IfOk result (StandsFor text.now) }
 {
-    match parse(alloc, text) {
-        Ok(skeleton) => Ok(skeleton),
-        Err(_) => Err("no skeleton".into()),
-    }
+    let skeleton = parse(alloc, text)?;
+    Ok(skeleton)
 }

@@ -4,7 +4,7 @@ use Rattle.std.specs.Prelude.{nat_eq}
 use Rattle.std.specs.Option.{option_map}
 use Rattle.std.proofs.lemmas.List.{length-map}
 use Rattle.std.proofs.lemmas.Simd.{map-map}
-use Rattle.swreq_calls.specs.declared.decl.CallDecl.{CallDecl}
+use Rattle.swreq_decl.specs.declared.skeleton.CallDecl.{CallDecl}
 use Rattle.swreq_decl.specs.declared.skeleton.TypeDecl.{TypeDecl}
 use Rattle.swreq_names.specs.Spaces.{param_of, word}
 use Rattle.swreq_param.specs.Terms.{Term}

@@ -5,8 +5,8 @@ use Rattle.std.specs.Option.{option_map}
 use Rattle.std.proofs.lemmas.List.{length-map}
 use Rattle.std.proofs.lemmas.List.Elements.{All-contains, All-get_or}
 use Rattle.std.proofs.lemmas.Option.{slice_get-get_or}
-use Rattle.swreq_orders.proofs.Elements.{get_contains, get_map}
-use Rattle.swreq_orders.proofs.Members.{contains_map, contains_of_map}
+use Rattle.swreq_lemmas.proofs.Elements.{get_contains, get_map}
+use Rattle.swreq_lemmas.proofs.Members.{contains_map, contains_of_map}
 use Rattle.swreq_param.specs.declared.ids.TermId.{TermId}
 use Rattle.swreq_param.specs.Tables.{term_at}
 use Rattle.swreq_param.specs.Terms.{Term}

@@ -3,7 +3,7 @@ use Rattle.std.proofs.Common.{◌≡◌, ℕ, List, [], ◌∷◌, Option, Some,
 use Rattle.std.specs.Option.{option_map}
 use Rattle.std.proofs.lemmas.Option.{same_Some}
 use Rattle.std.proofs.lemmas.Simd.{map-map}
-use Rattle.swreq_orders.proofs.Elements.{get_contains}
+use Rattle.swreq_lemmas.proofs.Elements.{get_contains}
 use Rattle.swreq_decl.specs.declared.skeleton.Skeleton.{Skeleton}
 use Rattle.swreq_names.specs.declared.signature.Signature.{Signature}
 use Rattle.swreq_names.specs.Spaces.{declares, protocol_of}

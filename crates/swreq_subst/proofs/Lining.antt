@@ -4,7 +4,7 @@ use Rattle.std.specs.Prelude.{All}
 use Rattle.std.specs.Option.{option_map}
 use Rattle.std.proofs.lemmas.List.{get_or_default, take_more}
 use Rattle.std.proofs.lemmas.List.Elements.{All-append, All-cons, All-contains, All-nil}
-use Rattle.swreq_orders.proofs.Members.{contains_map, contains_of_map}
+use Rattle.swreq_lemmas.proofs.Members.{contains_map, contains_of_map}
 use Rattle.swreq_param.specs.declared.ids.TermId.{TermId}
 use Rattle.swreq_param.specs.Tables.{term_at}
 use Rattle.swreq_param.specs.Terms.{Term}

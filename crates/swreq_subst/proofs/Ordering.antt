@@ -1,7 +1,7 @@
 -- The places of generic parameters.
 use Rattle.std.proofs.Common.{◌≡◌, ℕ, zero, suc, ◌+◌, ◌<◌, ◌==◌, cond, inl, inr, [], ◌∷◌, Some, length, slice_get, Contains, refl, sym, subst, ◌∙◌, arith, length-append}
 use Rattle.std.proofs.lemmas.Bool.{cases_lt}
-use Rattle.swreq_orders.proofs.Elements.{get_after, get_last, get_left}
+use Rattle.swreq_lemmas.proofs.Elements.{get_after, get_last, get_left}
 use Rattle.swreq_param.specs.declared.ids.ParamId.{ParamId}
 use Rattle.swreq_derive.specs.declared.known.Params.{Params}
 use Rattle.swreq_derive.specs.Facts.{generic_params, params_of_depth}

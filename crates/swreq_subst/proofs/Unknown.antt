@@ -1,8 +1,8 @@
 -- Types with names that the world lacks.
 use Rattle.std.proofs.Common.{◌≡◌, List, [], ◌∷◌, Some, slice_get, inl, inr, subst}
 use Rattle.std.proofs.lemmas.Option.{slice_get_within}
-use Rattle.swreq_orders.proofs.Elements.{get_contains}
-use Rattle.swreq_orders.proofs.Members.{member_cases, no_member}
+use Rattle.swreq_lemmas.proofs.Elements.{get_contains}
+use Rattle.swreq_lemmas.proofs.Members.{member_cases, no_member}
 use Rattle.swreq_decl.specs.declared.skeleton.StepDecl.{StepDecl}
 use Rattle.swreq_decl.specs.declared.skeleton.StepDecl.TheVariants as decls
 use Rattle.swreq_names.specs.Spaces.{word}

@@ -4,8 +4,8 @@ use Rattle.std.specs.List.{AllPairs}
 use Rattle.std.proofs.lemmas.List.Elements.{Contains-get_or}
 use Rattle.std.proofs.lemmas.List.Kept.{AllPairs-from_increasing}
 use Rattle.std.proofs.lemmas.Option.{same_Some, slice_get_within}
-use Rattle.swreq_orders.proofs.Elements.{contains_get, get_contains, same_heads, same_tails}
-use Rattle.swreq_orders.proofs.Members.{contains_of_map, first_member, later_member, member_cases, no_member}
+use Rattle.swreq_lemmas.proofs.Elements.{contains_get, get_contains, same_heads, same_tails}
+use Rattle.swreq_lemmas.proofs.Members.{contains_of_map, first_member, later_member, member_cases, no_member}
 use Rattle.swreq_param.specs.Terms.{Term, self}
 use Rattle.swreq_derive.specs.declared.known.Params.{Params}
 use Rattle.swreq_derive.specs.Derivation.{Derivable, Source, TermFacts, TermRequirement, TermStatement}

@@ -9,7 +9,7 @@ use Rattle.swreq_derive.specs.Derivation.TermStatement.{IsValid}
 use Rattle.swreq_lexicon.specs.Views.{LexiconView}
 use Rattle.swreq_lowering.specs.declared.ids.FuncId.{FuncId}
 use Rattle.swreq_symbols.specs.Known.{IsTypeIn}
-use Rattle.swreq_valid.specs.Machines.{IsMachineOf, MachineView}
+use Rattle.swreq_machine.specs.Machines.{IsMachineOf, MachineView}
 use Rattle.swreq_world.specs.FactsAt.{written_list}
 use Rattle.swreq_world.specs.Worlds.{IdWorld, TextWorld, signature_at}
 use Rattle.swreq_subst.specs.declared.calls.Call.{Call}

@@ -1,7 +1,7 @@
 -- The calls that are written, by the names of a world.
 use Rattle.std.specs.Prelude.{◌≡◌, ◌↔◌, ℕ, true, List, [], ◌∷◌, Option, Some, None, Contains, slice_get}
 use Rattle.std.specs.Option.{option_map}
-use Rattle.swreq_calls.specs.declared.decl.CallDecl.{CallDecl}
+use Rattle.swreq_decl.specs.declared.skeleton.CallDecl.{CallDecl}
 use Rattle.swreq_decl.specs.declared.skeleton.StepDecl.{StepDecl}
 use Rattle.swreq_decl.specs.declared.skeleton.StepDecl.TheVariants as decls
 use Rattle.swreq_decl.specs.declared.skeleton.TypeDecl.{TypeDecl}

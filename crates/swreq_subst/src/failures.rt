@@ -8,8 +8,8 @@ ghost use Rattle.swreq_derive.specs.Derivation.TermStatement.{Requires};
 ghost use Rattle.swreq_derive.specs.Facts.{generic_params, requirement_of};
 ghost use Rattle.swreq_lowering.specs.Heads.{IsOver};
 ghost use Rattle.swreq_symbols.specs.Known.{IsRequirementIn, IsTextOver, IsTypeIn};
-ghost use Rattle.swreq_valid.specs.Asked.{IsDerivable};
-ghost use Rattle.swreq_valid.specs.Machines.{IsMachineOf};
+ghost use Rattle.swreq_machine.specs.Asked.{IsDerivable};
+ghost use Rattle.swreq_machine.specs.Machines.{IsMachineOf};
 ghost use Rattle.swreq_valid.specs.Plans.{listed};
 ghost use Rattle.swreq_world.specs.ByTable.{world_by};
 ghost use Rattle.swreq_world.specs.FactsAt.{facts_of};
@@ -22,9 +22,9 @@ use crate::arguments::requirement_with;
 use crate::calls::Call;
 use std::alloc::{AllocError, Global};
 use swreq_derive::{Params, Requirement};
+use swreq_machine::Machine;
 use swreq_param::{ParamTable, TermId};
 use swreq_symbols::Text;
-use swreq_valid::Machine;
 use swreq_world::World;
 
 /// By what the requirements of a callee are judged: the machine of the caller, and types for the generic parameters of the callee.

@@ -1,6 +1,6 @@
 //! What holds of calls.
 ghost use Rattle.std.specs.Prelude.{◌≡◌, ◌↔◌, [], ℕ, Contains, List, Some, length, slice_get};
-ghost use Rattle.swreq_calls.specs.declared.decl.CallDecl.{CallDecl};
+ghost use Rattle.swreq_decl.specs.declared.skeleton.CallDecl.{CallDecl};
 ghost use Rattle.swreq_decl.specs.declared.skeleton.Skeleton.{Skeleton};
 ghost use Rattle.swreq_decl.specs.declared.skeleton.TypeDecl.{TypeDecl};
 ghost use Rattle.swreq_decl.specs.Skeletons.{StandsFor};

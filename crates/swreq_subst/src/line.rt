@@ -6,8 +6,8 @@ ghost use Rattle.swreq_derive.specs.Derivation.TermStatement.{IsValid};
 ghost use Rattle.swreq_derive.specs.Facts.{requirement_of};
 ghost use Rattle.swreq_lowering.specs.ByTable.{HasIdsOf};
 ghost use Rattle.swreq_symbols.specs.Known.{IsTextOver, IsTypeIn};
-ghost use Rattle.swreq_valid.specs.Asked.{IsDerivable};
-ghost use Rattle.swreq_valid.specs.Machines.{IsMachineOf};
+ghost use Rattle.swreq_machine.specs.Asked.{IsDerivable};
+ghost use Rattle.swreq_machine.specs.Machines.{IsMachineOf};
 ghost use Rattle.swreq_world.specs.ByTable.{world_by};
 ghost use Rattle.swreq_world.specs.Short.{IsShort};
 ghost use Rattle.swreq_subst.specs.Calls.{AreAllValid, IsArgumentIn, IsCallIn, IsMachineOn, IsOneInvalid, IsValidThere, call_by};
@@ -18,10 +18,10 @@ use crate::failures::failing;
 use std::alloc::{AllocError, Global};
 use swreq_derive::Requirement;
 use swreq_lexicon::Lexicon;
+use swreq_machine::{Machine, Scratch};
 use swreq_param::{ParamTable, TermId};
 use swreq_print::requirement_text;
 use swreq_text::{Print, append_bytes, put_joined};
-use swreq_valid::{Machine, Scratch};
 use swreq_world::World;
 
 /// Whether t is derivable from the list of the machine.
@@ -105,7 +105,7 @@ impl Print<u32> for Numbered<'_> {
 
     ghost fits = { λ s n. (0 < n) × (n ≤ length s.list.now) × All (HasIdsOf s.table.now) s.list.now };
 
-    #[tactic(auto, using(swreq_text::proofs::Parts::none_grew))]
+    #[tactic(auto, using(swreq_text::proofs::Grown::none_grew))]
     fn put(&self, out: &mut Vec<u8>, item: &u32) -> Result<(), AllocError> {
         let place = *item as usize - 1;
         requirement_text(self.alloc, self.names, self.table, &self.list[place], out)

@@ -9,8 +9,7 @@ ghost use Rattle.swreq_subst.specs.Arguments.{param_count};
 ghost use Rattle.swreq_subst.specs.Refusals.{declared, func_called, of_call, of_count, of_name, of_types, query_on, refusals, signature_called};
 ghost use Rattle.swreq_subst.specs.Saying.{HaveIds};
 
-use swreq_calls::CallDecl;
-use swreq_decl::{Span, TypeDecl};
+use swreq_decl::{CallDecl, Span, TypeDecl};
 use swreq_derive::Params;
 use swreq_lowering::FuncId;
 use swreq_names::{Declared, Signature, word};

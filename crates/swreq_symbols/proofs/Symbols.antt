@@ -10,7 +10,7 @@ use Rattle.swreq_param.specs.declared.ids.ProtoId.{ProtoId}
 use Rattle.swreq_derive.specs.Derivation.{TermRequirement}
 use Rattle.swreq_derive.specs.Derivation.Source.{Written}
 use Rattle.swreq_derive.specs.Derivation.TermRequirement.{Conforms}
-use Rattle.swreq_orders.proofs.Members.{no_member}
+use Rattle.swreq_lemmas.proofs.Members.{no_member}
 use Rattle.swreq_lexicon.specs.declared.pair.ProtocolName.{ProtocolName}
 use Rattle.swreq_lexicon.specs.Lexicons.{pair}
 use Rattle.swreq_lexicon.specs.Views.{LexiconView, IsProtocol}
@@ -20,7 +20,7 @@ use Rattle.swreq_lowering.specs.Requirements.{PlacedRequirement}
 use Rattle.swreq_world.specs.Closed.{AreIds, IsClosed, IsOfProtocol, IsRequirementOf}
 use Rattle.swreq_world.specs.Worlds.{TextWorld, requirements_of}
 use Rattle.swreq_symbols.specs.Meaning.{facts_of, symbols_of}
-use Rattle.swreq_orders.proofs.Elements.{get_contains}
+use Rattle.swreq_lemmas.proofs.Elements.{get_contains}
 use Rattle.swreq_symbols.proofs.Declared.{at_rank, is_rank, member_is, of_rank, symbol_at}
 
 pub symbols_law : (w : TextWorld) → IsClosed w → AreSymbolsOf (symbols_of w.lexicon) (facts_of w)

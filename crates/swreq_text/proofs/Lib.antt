@@ -1,2 +1,5 @@
 pub mod SoFar
-pub mod Parts
+pub mod Grown
+pub mod Lined
+pub mod LineEnds
+pub mod Divided

@@ -68,7 +68,7 @@ fn put_followed<T, P: Print<T>>(
 }
 
 // Writes the separator, and after it the text of the item.
-#[tactic(auto, using(crate::proofs::Parts::none_grew, crate::proofs::Parts::grew_next))]
+#[tactic(auto, using(crate::proofs::Grown::none_grew, crate::proofs::Grown::grew_next))]
 fn put_after<T, P: Print<T>>(
     out: &mut Vec<u8>,
     printer: &P,

@@ -1,6 +1,8 @@
-//! Which streams tell their bytes, and which count no fault, over the definitions alone.
+//! Which streams tell their bytes, which count no fault, and how an input is divided, over the definitions alone.
 
-ghost use Rattle.std.specs.Prelude.{◌≡◌, ℕ, List, None, Some};
+ghost use Rattle.std.specs.Prelude.{◌≡◌, ℕ, List, None, Some, Contains};
+ghost use Rattle.swreq_text.specs.Divided.{Divides, divider};
+ghost use Rattle.swreq_text.specs.Lines.{lines};
 ghost use Rattle.swreq_text.specs.Memory.{SinkState, SourceState};
 
 use crate::{CountSink, MemSink, MemSource, Sink, Source, StdSink, StdSource, SureSource};
@@ -28,4 +30,13 @@ pub fn streams_of_the_system_tell<R: Read, W: Write>(_source: &StdSource<R>, _si
     ensures source_faults { ⟦<StdSource<R> as Source>⟧.faults _source.now ≡ _source.now.faults }
     ensures sink { ⟦<StdSink<W> as Sink>⟧.taken _sink.now ≡ None }
     ensures sink_faults { ⟦<StdSink<W> as Sink>⟧.faults _sink.now ≡ _sink.now.faults }
+{}
+
+/// An input is divided in one way at most, and only where it has a line `%%`.
+pub fn parts_of_an_input()
+    ensures one { (input first second before after : List ℕ) → Divides input first second
+        → Divides input before after
+        → (first ≡ before) × (second ≡ after) }
+    ensures found { (input first second : List ℕ) → Divides input first second
+        → Contains (lines input) divider }
 {}

@@ -2,10 +2,10 @@
 ghost use Rattle.std.specs.Prelude.{◌≡◌, ◌⊎◌, ℕ, ◌+◌, ◌^◌, ◌≤◌, ◌<◌, length, IfOk, OnOk, OnErr, IsErrOf};
 ghost use Rattle.std.specs.Io.KnownBytes.{Appends, Consumes, IsAtEnd};
 ghost use Rattle.swreq_text.specs.Faults.{HasRisen};
-ghost use Rattle.swreq_text.specs.declared.whole.ReadErr.TheVariants.{Memory};
+ghost use Rattle.swreq_text.specs.declared.whole.ReadErr.TheVariants.{Fault, Memory};
 ghost use Rattle.swreq_text.specs.Given.{AppendsPart, GivesCount, HasGiven};
 
-use crate::{Sink, Source};
+use crate::{IoFailed, Sink, Source};
 use std::alloc::{AllocError, Global};
 
 /// Why a source was not read to its end.
@@ -27,9 +27,23 @@ impl From<AllocError> for ReadErr {
     }
 }
 
+impl From<IoFailed> for ReadErr {
+    ghost from_gives = { λ _ e. e ≡ Fault };
+
+    fn from(_: IoFailed) -> Self {
+        ReadErr::Fault
+    }
+}
+
 /// A write failed before all was taken.
 #[derive(Clone, Copy, Debug, PartialEq, Eq)]
 pub struct WriteFault;
+
+impl From<IoFailed> for WriteFault {
+    fn from(_: IoFailed) -> Self {
+        WriteFault
+    }
+}
 
 /// How many bytes are asked for at once.
 const CHUNK: usize = 4096;
@@ -62,11 +76,10 @@ pub fn read_all<S: Source>(alloc: Global, src: &mut S, limit: u32) -> Result<Vec
     let mut buf = [0u8; CHUNK];
     while bytes.len() < most {
         let want = (most - bytes.len()).min(CHUNK);
-        let n = match src.read(&mut buf[..want]) {
-            Ok(0) => return Ok(bytes),
-            Ok(n) => n,
-            Err(_) => return Err(ReadErr::Fault),
-        };
+        let n = src.read(&mut buf[..want])?;
+        if n == 0 {
+            return Ok(bytes);
+        }
         bytes.extend_from_slice(&buf[..n])?;
     }
     Err(ReadErr::TooLarge)
@@ -84,10 +97,8 @@ pub fn write_all<K: Sink>(out: &mut K, bytes: &[u8]) -> Result<(), WriteFault>
 {
     let mut at = 0;
     while at < bytes.len() {
-        match out.write(&bytes[at..]) {
-            Ok(n) => at += n,
-            Err(_) => return Err(WriteFault),
-        }
+        let n = out.write(&bytes[at..])?;
+        at += n;
     }
     Ok(())
 }

@@ -45,16 +45,41 @@ const K: FuncId = FuncId { place: 3 };
 
 const T: ParamId = ParamId { depth: 0, index: 0 };
 
-const FOUND: &[(&str, Found)] = &[
-    ("P", (Some(P), None, None, None, None)),
-    ("Q", (Some(Q), None, None, None, None)),
-    ("A", (None, Some(A), None, None, None)),
-    ("f", (None, None, Some(F), None, None)),
-    ("g", (None, None, Some(G), None, None)),
-    ("S", (None, None, Some(S), None, None)),
-    ("k", (None, None, None, Some(K), None)),
-    ("T", (None, None, None, None, Some(T))),
-    ("U", (None, None, None, None, None)),
+/// Words by name, each with what is found of it.
+const FOUND: &[(&str, &str, Found)] = &[
+    ("the first protocol", "P", (Some(P), None, None, None, None)),
+    (
+        "the second protocol",
+        "Q",
+        (Some(Q), None, None, None, None),
+    ),
+    (
+        "a member of both protocols",
+        "A",
+        (None, Some(A), None, None, None),
+    ),
+    ("the first function", "f", (None, None, Some(F), None, None)),
+    (
+        "the second function",
+        "g",
+        (None, None, Some(G), None, None),
+    ),
+    ("the struct", "S", (None, None, Some(S), None, None)),
+    (
+        "the function of the struct",
+        "k",
+        (None, None, None, Some(K), None),
+    ),
+    (
+        "the generic parameter of g",
+        "T",
+        (None, None, None, None, Some(T)),
+    ),
+    (
+        "a generic parameter of k alone",
+        "U",
+        (None, None, None, None, None),
+    ),
 ];
 
 /// Whether this is found of the word.
@@ -71,8 +96,8 @@ fn finds(world: &World, word: &[u8], found: &Found) -> bool
 /// Asserts what is found of each word, and that P has the name A, does not inherit Q, and inherits no protocol.
 fn assert_found(rt: &impl Abort, world: &World) {
     assert!(rt; world.functions() == 4);
-    for (word, found) in FOUND {
-        assert!(rt; finds(world, word.as_bytes(), found), "{word}");
+    for (name, word, found) in FOUND {
+        assert!(rt; finds(world, word.as_bytes(), found), "{name}");
     }
     assert!(rt; world.has_member(P, A) && !world.inherits(P, Q));
     assert_eq!(rt; world.depth(P), 0);
@@ -84,13 +109,9 @@ fn assert_resolved(rt: &impl Abort, alloc: Global, text: &[u8], s: &Skeleton) ->
     requires stands { StandsFor text.now s.now }
 {
     let mut table = ParamTable::new(alloc);
-    match World::resolve(alloc, text, s, &mut table) {
-        Ok(world) => {
-            assert_found(rt, &world);
-            Ok(())
-        }
-        Err(_) => Err("no world".into()),
-    }
+    let world = World::resolve(alloc, text, s, &mut table)?;
+    assert_found(rt, &world);
+    Ok(())
 }
 
 #[test]

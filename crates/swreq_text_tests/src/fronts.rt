@@ -5,13 +5,25 @@ use std::process::Abort;
 use swreq_decl::{ParseErr, parse};
 use swreq_lex::TEXT_LIMIT;
 
-/// Texts of the grammar, with a space between all tokens.
-const WHOLES: &[&str] = &[
-    "public protocol P < A , B > : Q < A , B . C > & R , S where Self . A == B , C : D < E > { associatedtype E : F < G > where G == H ; } ",
-    "internal struct S < T : P < U > > where T : Q { public func f ( ) ; func g < V > ( ) where V == T { } } ",
-    "private func f < T : P & Q , U > ( ) where T . A : B & C , Self == U { } ",
-    "query f ( T . [ P ] A . B == U . [ Q ] C ) ",
-    "query S . f ( T . A : AnyObject ) ",
+/// Texts of the grammar by name, with a space between all tokens.
+const WHOLES: &[(&str, &str)] = &[
+    (
+        "a protocol",
+        "public protocol P < A , B > : Q < A , B . C > & R , S where Self . A == B , C : D < E > { associatedtype E : F < G > where G == H ; } ",
+    ),
+    (
+        "a struct",
+        "internal struct S < T : P < U > > where T : Q { public func f ( ) ; func g < V > ( ) where V == T { } } ",
+    ),
+    (
+        "a function",
+        "private func f < T : P & Q , U > ( ) where T . A : B & C , Self == U { } ",
+    ),
+    (
+        "a query of an equality",
+        "query f ( T . [ P ] A . B == U . [ Q ] C ) ",
+    ),
+    ("a query of a layout", "query S . f ( T . A : AnyObject ) "),
 ];
 
 /// Whether the text is of the grammar, or refused at its end.
@@ -25,13 +37,13 @@ fn is_of_the_grammar_or_ends_too_early(rt: &impl Abort, alloc: Global, text: &[u
 }
 
 /// Asserts that each front of the text before a space is of the grammar, or refused at its end.
-fn assert_fronts(rt: &impl Abort, alloc: Global, whole: &[u8]) {
+fn assert_fronts(rt: &impl Abort, alloc: Global, name: &str, whole: &[u8]) {
     for (length, byte) in whole.iter().enumerate() {
         if *byte == b' ' {
             let front = &whole[..length];
             assert!(rt;
                 is_of_the_grammar_or_ends_too_early(rt, alloc, front),
-                "{length}"
+                "{name}, {length} bytes of it"
             );
         }
     }
@@ -39,7 +51,7 @@ fn assert_fronts(rt: &impl Abort, alloc: Global, whole: &[u8]) {
 
 #[test]
 fn a_text_that_ends_in_a_construct_is_refused_at_its_end(rt: HostRuntime) {
-    for whole in WHOLES {
-        assert_fronts(&rt, rt.alloc(), whole.as_bytes());
+    for (name, whole) in WHOLES {
+        assert_fronts(&rt, rt.alloc(), name, whole.as_bytes());
     }
 }

@@ -12,7 +12,7 @@ use Rattle.swreq_decl.specs.declared.skeleton.Skeleton.{Skeleton}
 use Rattle.swreq_decl.specs.Skeletons.{RefusedFor, StandsFor, skeleton_of}
 use Rattle.swreq_decl.specs.Source.{source}
 use Rattle.swreq_decl.proofs.Answering.{not_both, one_skeleton}
-use Rattle.swreq_orders.proofs.Members.{first_member, no_member}
+use Rattle.swreq_lemmas.proofs.Members.{first_member, no_member}
 use Rattle.swreq_resolve.specs.declared.refusal.NameErr.{NameErr}
 use Rattle.swreq_resolve.specs.Resolving.{RefusesSkeleton}
 use Rattle.swreq_rule.specs.declared.rules.Birth.{Birth}
@@ -30,7 +30,7 @@ use Rattle.swreq_print.specs.declared.refusal.RefusalKind.{RefusalKind}
 use Rattle.swreq_print.specs.declared.refusal.RefusalKind.TheVariants as refusals
 use Rattle.swreq_valid.specs.declared.refused.Refused.{Refused}
 use Rattle.swreq_valid.specs.declared.refused.Refused.TheVariants.{Limit, NotATypeParameter, Memory}
-use Rattle.swreq_valid.specs.Machines.{protocols_of}
+use Rattle.swreq_valid.specs.Protocols.{protocols_of}
 use Rattle.swreq_words.specs.declared.command.CommandLine.{CommandLine}
 use Rattle.swreq_words.specs.declared.command.Input.{Input}
 use Rattle.swreq_words.specs.declared.command.Input.TheVariants.{OnePart}
@@ -41,18 +41,19 @@ use Rattle.swreq_lowering.specs.Queries.TermQuery.{AsksSignature}
 use Rattle.swreq_lowering.specs.Requirements.{PlacedRequirement}
 use Rattle.swreq_reply.specs.declared.outcome.Outcome.{Outcome}
 use Rattle.swreq_query.specs.Ended.{IsWorldOfText}
-use Rattle.swreq_reply.specs.Machines.{IsChecked}
-use Rattle.swreq_reply.specs.Machines.IsChecked.{protocols_built, protocols_refused}
+use Rattle.swreq_check.specs.Machines.{IsChecked}
+use Rattle.swreq_check.specs.Machines.IsChecked.{protocols_built, protocols_refused}
 use Rattle.swreq_reply.proofs.Verdicts.{prints_of_one}
 use Rattle.swreq_top.specs.Run.{IsAnswerable, Run, known_for, known_text}
 use Rattle.swreq_words.specs.Form.{Says}
-use Rattle.swreq_reply.specs.Told.{IsListMade}
+use Rattle.swreq_check.specs.Told.{IsListMade}
 use Rattle.swreq_reqsig.specs.Families.{owned}
 use Rattle.swreq_reqsig.specs.Told.{WasReduced}
 use Rattle.swreq_reqsig.specs.Told.WasReduced.{further, start}
-use Rattle.swreq_reply.specs.declared.content.Made.{Made}
-use Rattle.swreq_reply.specs.declared.content.Made.TheVariants.{Lines, Lists}
-use Rattle.swreq_reply.specs.Contents.{content_of, makes}
+use Rattle.swreq_check.specs.declared.content.Made.{Made}
+use Rattle.swreq_check.specs.declared.content.Made.TheVariants.{Lines, Lists}
+use Rattle.swreq_reply.specs.Commands.{content_of}
+use Rattle.swreq_check.specs.Contents.{makes}
 use Rattle.swreq_reply.specs.Inputs.{AreParts, Parts}
 use Rattle.swreq_reply.specs.Verdict.{HasNoWorld, HasWorld, IsCutShort, IsRefused, RefusesNames, limits_of}
 use Rattle.swreq_reply.specs.Verdict.IsRefused.{bad_calls, in_one_part, misfit, past_a_limit_of_families, too_long, unchecked, without_world}

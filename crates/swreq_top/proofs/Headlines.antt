@@ -5,7 +5,7 @@ use Rattle.std.specs.Io.KnownBytes.{Appends}
 use Rattle.std.proofs.lemmas.List.{append_cancel_left}
 use Rattle.std.proofs.lemmas.List.Elements.{All-contains, Contains-get_or, Contains-push}
 use Rattle.std.proofs.lemmas.Option.{IfSome_then, none-some, same_Some}
-use Rattle.swreq_orders.proofs.Elements.{get_contains}
+use Rattle.swreq_lemmas.proofs.Elements.{get_contains}
 use Rattle.swreq_param.specs.Terms.{Term}
 use Rattle.swreq_derive.specs.Derivation.{Derivable, Source, TermFacts, TermRequirement, TermStatement}
 use Rattle.swreq_derive.specs.Derivation.TermStatement.{IsValid, Requires}
@@ -36,24 +36,27 @@ use Rattle.swreq_world.specs.FactsAt.{source_of, written_list}
 use Rattle.swreq_query.proofs.PrintingAlike.{closed_world, equivalent_by_one_line, lines_alike, params_of_one_line}
 use Rattle.swreq_reply.specs.declared.outcome.Outcome.{Outcome}
 use Rattle.swreq_top.specs.Headline.{HasPathWhereImplied, IsDerivedWhereImplied, AsksImplied, IsImplied, IsLeastWhereValid, IsYes, IsYesWhereImplied, PrintsOf, SayAlike, SayDerivations, SayEqualLists, SayFailing, SayFamily, SayPaths, SayTheLeast, SayYesWhereImplied, SaysOf}
-use Rattle.swreq_reply.specs.Lines.{AreLines}
-use Rattle.swreq_reply.specs.Lines.AreLines.{none, more}
-use Rattle.swreq_reply.specs.declared.content.Backing.{Backing}
-use Rattle.swreq_reply.specs.declared.content.Backing.TheVariants.{Derivation, Path}
-use Rattle.swreq_reply.specs.declared.content.Content.{Content}
-use Rattle.swreq_reply.specs.declared.content.Content.TheVariants.{Answers, Calls, Families, Judgements, Signatures}
-use Rattle.swreq_reply.specs.declared.content.Shown.TheVariants.{Counts, Each}
-use Rattle.swreq_reply.specs.Contents.{content_of}
+use Rattle.swreq_check.specs.Lines.{AreLines}
+use Rattle.swreq_check.specs.Lines.AreLines.{none, more}
+use Rattle.swreq_check.specs.declared.content.Backing.{Backing}
+use Rattle.swreq_check.specs.declared.content.Backing.TheVariants.{Derivation, Path}
+use Rattle.swreq_check.specs.declared.content.Content.{Content}
+use Rattle.swreq_check.specs.declared.content.Content.TheVariants.{Answers, Calls, Families, Judgements, Signatures}
+use Rattle.swreq_check.specs.declared.content.Shown.TheVariants.{Counts, Each}
+use Rattle.swreq_reply.specs.Commands.{content_of}
 use Rattle.swreq_reply.specs.Inputs.{AreParts, Parts}
-use Rattle.swreq_reply.specs.Outputs.{AnswersByTypes, AnswersLast, ArePrinted, HasAnswer, IsLineOf, IsOutput, signature_of}
+use Rattle.swreq_check.specs.QueryLines.{AnswersByTypes, HasAnswer, IsLineOf, signature_of}
+use Rattle.swreq_reply.specs.Outputs.{AnswersLast, ArePrinted, IsOutput}
 use Rattle.swreq_top.specs.Run.{HasVerdict, Run, known_text}
 use Rattle.swreq_reply.specs.Verdict.{HasWorld, IsVerdict, limits_of}
 use Rattle.swreq_reply.specs.Verdict.IsVerdict.{answered as is_answered, cut_short as is_cut_short, judged as is_judged, refused as is_refused}
 use Rattle.swreq_reqsig.proofs.Signatures.{numbered_signatures}
-use Rattle.swreq_reply.specs.Machines.{IsBuiltOver}
-use Rattle.swreq_reply.proofs.Checked.{each_comes, is_formed}
+use Rattle.swreq_check.specs.Machines.{IsBuiltOver}
+use Rattle.swreq_check.proofs.OfChecks.{each_comes, is_formed}
 use Rattle.swreq_reply.proofs.OneOutput.{refused_status}
-use Rattle.swreq_reply.proofs.Lines.{asked_list, counted_by, lines_by}
+use Rattle.swreq_reply.proofs.ByBook.{asked_list}
+use Rattle.swreq_reply.proofs.Counted.{counted_by}
+use Rattle.swreq_check.proofs.Lines.{lines_by}
 
 -- ---- answers of queries
 

@@ -1,7 +1,7 @@
 -- No text that is well formed is refused for a side.
 use Rattle.std.proofs.Common.{sym, subst, inl, inr, ℕ, List, [], ◌∷◌, Contains, Some, map}
 use Rattle.std.proofs.lemmas.List.Elements.{Contains-append_cases, Contains-append_right}
-use Rattle.swreq_orders.proofs.Members.{contains_map, each_member, first_member, later_member, no_member}
+use Rattle.swreq_lemmas.proofs.Members.{contains_map, each_member, first_member, later_member, no_member}
 use Rattle.swreq_param.specs.declared.ids.ProtoId.{ProtoId}
 use Rattle.swreq_derive.specs.Derivation.{Source, TermFacts, TermRequirement}
 use Rattle.swreq_derive.specs.Derivation.Source.{SelfOf}
@@ -14,12 +14,12 @@ use Rattle.swreq_lowering.specs.Requirements.{PlacedRequirement}
 use Rattle.swreq_world.specs.FactsAt.{source_of}
 use Rattle.swreq_world.specs.Worlds.{SignatureOver, TextWorld, requirements_of}
 use Rattle.swreq_symbols.specs.Meaning.{facts_of}
-use Rattle.swreq_valid.specs.OfSignatures.{signature_sides}
+use Rattle.swreq_machine.specs.OfSignatures.{signature_sides}
 use Rattle.swreq_valid.specs.Sides.{FailsFirst, HoldsOfEach, IsValidSide, Side, protocol_sides, sides, sides_at, sides_in, sides_of}
 use Rattle.swreq_valid.specs.declared.refused.Refused.TheVariants.{NotATypeParameter}
-use Rattle.swreq_reply.specs.Machines.{IsChecked, SignaturesCome}
-use Rattle.swreq_reply.specs.Machines.IsChecked.{protocols_built, protocols_refused}
-use Rattle.swreq_reply.specs.Machines.SignaturesCome.{next, stopped}
+use Rattle.swreq_check.specs.Machines.{IsChecked, SignaturesCome}
+use Rattle.swreq_check.specs.Machines.IsChecked.{protocols_built, protocols_refused}
+use Rattle.swreq_check.specs.Machines.SignaturesCome.{next, stopped}
 
 module _ (f : TermFacts) (s : Source) where
   sides_hold : (r : TermRequirement) (left right : ℕ) → HasValidSides f s r → HoldsOfEach (IsValidSide f) (sides_at s r left right)

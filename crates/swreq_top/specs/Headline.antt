@@ -23,16 +23,17 @@ use Rattle.swreq_print.specs.Types.{type_text}
 use Rattle.swreq_query.specs.Answers.{IsLeastEqual, asked}
 use Rattle.swreq_query.specs.Signatures.{full_name}
 use Rattle.swreq_world.specs.FactsAt.{source_of, written_list}
-use Rattle.swreq_reply.specs.Lines.{AreLines, Counted}
+use Rattle.swreq_check.specs.Lines.{AreLines, Counted}
 use Rattle.swreq_query.specs.Ended.{IsWorldOfText}
-use Rattle.swreq_reply.specs.declared.content.Backing.{Backing}
-use Rattle.swreq_reply.specs.declared.content.Content.{Content}
-use Rattle.swreq_reply.specs.declared.content.Content.TheVariants.{Answers, Calls, Families, Signatures}
-use Rattle.swreq_reply.specs.declared.content.Backing.TheVariants.{Derivation, Path}
-use Rattle.swreq_reply.specs.declared.content.Shown.TheVariants.{Counts, Each}
-use Rattle.swreq_reply.specs.Contents.{content_of}
+use Rattle.swreq_check.specs.declared.content.Backing.{Backing}
+use Rattle.swreq_check.specs.declared.content.Content.{Content}
+use Rattle.swreq_check.specs.declared.content.Content.TheVariants.{Answers, Calls, Families, Signatures}
+use Rattle.swreq_check.specs.declared.content.Backing.TheVariants.{Derivation, Path}
+use Rattle.swreq_check.specs.declared.content.Shown.TheVariants.{Counts, Each}
+use Rattle.swreq_reply.specs.Commands.{content_of}
 use Rattle.swreq_reply.specs.Inputs.{AreParts, Parts}
-use Rattle.swreq_reply.specs.Outputs.{AreCallLines, ArePrinted, BacksYes, IsDerivationText, IsPathLine, counts_text, signature_of}
+use Rattle.swreq_reply.specs.Outputs.{AreCallLines, ArePrinted, counts_text}
+use Rattle.swreq_check.specs.QueryLines.{BacksYes, IsDerivationText, IsPathLine, signature_of}
 use Rattle.swreq_reqsig.specs.Families.{AreRequirementSignatures, members}
 use Rattle.swreq_reqsig.specs.Texts.{family_text}
 use Rattle.swreq_top.specs.Run.{Run, known_text}

@@ -10,18 +10,19 @@ use Rattle.swreq_lowering.specs.Requirements.{PlacedRequirement}
 use Rattle.swreq_world.specs.FactsAt.{source_of}
 use Rattle.swreq_world.specs.Worlds.{SignatureOver, TextWorld}
 use Rattle.swreq_symbols.specs.Meaning.{facts_of}
-use Rattle.swreq_valid.specs.Machines.{protocols_of}
-use Rattle.swreq_valid.specs.OfSignatures.{signature_plan}
-use Rattle.swreq_parts.specs.Lines.{lines}
+use Rattle.swreq_valid.specs.Protocols.{protocols_of}
+use Rattle.swreq_machine.specs.OfSignatures.{signature_plan}
+use Rattle.swreq_text.specs.Lines.{lines}
 use Rattle.swreq_query.specs.Minimising.{MinimisingFails}
 use Rattle.swreq_reqsig.specs.Told.{IsFamilyOutcome}
 use Rattle.swreq_verify.specs.SecondParts.{AreSections, TermSection}
 use Rattle.swreq_words.specs.declared.command.CommandLine.{CommandLine}
-use Rattle.swreq_reply.specs.declared.content.Content.{Content}
-use Rattle.swreq_reply.specs.CallLines.{HasCalls}
-use Rattle.swreq_reply.specs.Contents.{AreCalls, AreFamilies, AreJudgements, content_of}
+use Rattle.swreq_check.specs.declared.content.Content.{Content}
+use Rattle.swreq_reply.specs.Outputs.{HasCalls}
+use Rattle.swreq_check.specs.Contents.{AreCalls, AreFamilies, AreJudgements}
+use Rattle.swreq_reply.specs.Commands.{content_of}
 use Rattle.swreq_reply.specs.Inputs.{Parts}
-use Rattle.swreq_reply.specs.Told.{IsMinimisedFor}
+use Rattle.swreq_check.specs.Told.{IsMinimisedFor}
 use Rattle.swreq_reply.specs.Verdict.{ChecksMachines, limits_of}
 
 module _ (line : CommandLine) (w : TextWorld) where

@@ -19,7 +19,7 @@ ghost use Rattle.swreq_valid.specs.declared.refused.Refused.TheVariants.{NotATyp
 ghost use Rattle.swreq_print.specs.Names.{Text};
 ghost use Rattle.swreq_query.specs.Ended.{IsWorldOfText};
 ghost use Rattle.swreq_reply.specs.Inputs.{AreParts, Parts};
-ghost use Rattle.swreq_reply.specs.Machines.{IsBuiltOver, IsChecked};
+ghost use Rattle.swreq_check.specs.Machines.{IsBuiltOver, IsChecked};
 ghost use Rattle.swreq_top.specs.Contract.{IsRun};
 ghost use Rattle.swreq_top.specs.InOrder.{IsInOrder};
 ghost use Rattle.swreq_top.specs.Run.{IsAnswerable, Run, known_text};

@@ -5,7 +5,7 @@ ghost use Rattle.swreq_text.specs.Faults.{HasRisen};
 ghost use Rattle.swreq_text.specs.Given.{GivesCount};
 ghost use Rattle.swreq_text.specs.declared.whole.ReadErr.TheVariants.{Fault};
 ghost use Rattle.swreq_reply.specs.Verdict.{answered_text, limits_of};
-ghost use Rattle.swreq_reply.specs.Wanted.{HasCount};
+ghost use Rattle.swreq_reply.specs.Requests.{HasCount};
 ghost use Rattle.swreq_top.specs.Contract.{IsRun};
 ghost use Rattle.swreq_top.specs.Run.{AreWrong, IsEnd, ReadsNothing, ReadNothing};
 ghost use Rattle.swreq_top.specs.Steps.{Answers, AnswersText, IsFinished};

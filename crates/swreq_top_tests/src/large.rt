@@ -4,28 +4,41 @@ use std::alloc::{AllocError, Global};
 use std::process::Abort;
 use std::test::Fail;
 
-/// The pieces of a text, each with how many times it stands; then the status and what is printed of it.
-type Row = (&'static [(&'static str, usize)], u8, &'static str);
+/// A name; the pieces of a text, each with how many times it stands; then the status and what is printed of it.
+type Row = (
+    &'static str,
+    &'static [(&'static str, usize)],
+    u8,
+    &'static str,
+);
 
-/// A comment that fills the limit and one past it, and types with as many members as there may be and with one more.
 const REPEATED: &[Row] = &[
-    (&[("//", 1), ("a", 1_048_574)], 0, ""),
     (
+        "a comment that fills the limit",
+        &[("//", 1), ("a", 1_048_574)],
+        0,
+        "",
+    ),
+    (
+        "a comment one past the limit",
         &[("//", 1), ("a", 1_048_575)],
         1,
         "error: text longer than 1048576 bytes\n",
     ),
     (
+        "a type with as many members as there may be",
         &[("func f<T>()\nquery f(T", 1), (".A", 1000), (")", 1)],
         0,
         "invalid\n",
     ),
     (
+        "a type with one member more",
         &[("func f<T>()\nquery f(T", 1), (".A", 1001), (")", 1)],
         1,
         "error: unsupported long type at 2021\n",
     ),
     (
+        "an argument with as many members as there may be",
         &[
             ("protocol P<A> { associatedtype A }\nfunc f<T: P<T", 1),
             (".A", 1000),
@@ -35,6 +48,7 @@ const REPEATED: &[Row] = &[
         "error: not a type parameter at 47\n",
     ),
     (
+        "an argument with one member more",
         &[
             ("protocol P<A> { associatedtype A }\nfunc f<T: P<T", 1),
             (".A", 1001),
@@ -64,9 +78,9 @@ fn text_of(alloc: Global, pieces: &[(&'static str, usize)]) -> Result<Vec<u8>, A
 
 /// The text of a row is answered as it says.
 fn is_answered(rt: &impl Abort, alloc: Global, row: &Row) -> Result<(), Fail> {
-    let (pieces, status, output) = *row;
+    let (name, pieces, status, output) = *row;
     let text = text_of(alloc, pieces)?;
-    let setting = undisturbed("answer", &text);
+    let setting = undisturbed(name, "answer", &text);
     runs(rt, alloc, setting, status, output.as_bytes())
 }
 
@@ -83,11 +97,25 @@ fn texts_up_to_the_limits_are_read(rt: HostRuntime) -> Result<(), Fail> {
     are_answered(&rt, rt.alloc(), REPEATED)
 }
 
-/// As many comments within one another as the limit has room for, some that are never closed, and a word that fills the limit.
 const LONG: &[Row] = &[
-    (&[("/*", 262_144), ("*/", 262_144)], 0, ""),
-    (&[("/*", 500_000)], 1, "error: open comment at 0\n"),
-    (&[("a", 1_048_576)], 1, "error: syntax at 0\n"),
+    (
+        "as many comments within one another as the limit has room for",
+        &[("/*", 262_144), ("*/", 262_144)],
+        0,
+        "",
+    ),
+    (
+        "comments that are never closed",
+        &[("/*", 500_000)],
+        1,
+        "error: open comment at 0\n",
+    ),
+    (
+        "a word that fills the limit",
+        &[("a", 1_048_576)],
+        1,
+        "error: syntax at 0\n",
+    ),
 ];
 
 #[test]

@@ -6,10 +6,11 @@ use swreq_text::{MemSink, MemSource, Sink, Source, SureSource};
 use swreq_top::run;
 use swreq_watch::{Quiet, Watch};
 
-/// How a run meets the world: the words, with single spaces between them; the text, in pieces of 10, with the read that fails; and the
-/// sink, in pieces of 3, with its room and the write that fails.
+/// The name of a run, and how it meets the world: the words, with single spaces between them; the text, in pieces of 10, with the read
+/// that fails; and the sink, in pieces of 3, with its room and the write that fails.
 #[derive(Clone, Copy)]
 pub(crate) struct Setting<'a> {
+    pub(crate) name: &'a str,
     pub(crate) words: &'a str,
     pub(crate) text: &'a [u8],
     pub(crate) failing_read: u32,
@@ -18,8 +19,9 @@ pub(crate) struct Setting<'a> {
 }
 
 /// No read or write fails.
-pub(crate) fn undisturbed<'a>(words: &'a str, text: &'a [u8]) -> Setting<'a> {
+pub(crate) fn undisturbed<'a>(name: &'a str, words: &'a str, text: &'a [u8]) -> Setting<'a> {
     Setting {
+        name,
         words,
         text,
         failing_read: 0,
@@ -97,7 +99,7 @@ pub(crate) fn runs(
 ) -> Result<(), Fail> {
     let mut out = sink_of(alloc, &setting)?;
     let came = status_in(alloc, &setting, &mut out)?;
-    assert_eq!(rt; out.bytes(), taken, "after {}", setting.words);
-    assert_eq!(rt; came, status, "after {}", setting.words);
+    assert_eq!(rt; out.bytes(), taken, "{}", setting.name);
+    assert_eq!(rt; came, status, "{}", setting.name);
     Ok(())
 }

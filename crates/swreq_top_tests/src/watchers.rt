@@ -60,7 +60,7 @@ const LAYOUT_AGAIN: &[u8] = b"protocol Q: AnyObject { }\nprotocol P: Q, AnyObjec
 /// Two protocols that require a layout of their own.
 const LAYOUTS: &[u8] = b"protocol Q: AnyObject { }\nprotocol P: AnyObject { }\n";
 
-/// For the words of a run its text, the status, how many completions a watcher is told to start, and how many rules to be born.
+/// By name, for the words of a run its text, the status, how many completions a watcher is told to start, and how many rules to be born.
 ///
 /// - The protocol N has a round without its requirement, with 3 rules, and one with it, with 5. Where the requirement is written twice, the
 ///   second is asked by the same two rounds, and the first is unsaid.
@@ -73,23 +73,40 @@ const LAYOUTS: &[u8] = b"protocol Q: AnyObject { }\nprotocol P: AnyObject { }\n"
 /// - The protocols of `EITHER` have rounds with 11, 17 and 18 rules, and the function with none, 7 and 8. Minimising grows the rules of
 ///   `T == T.B` by those of `T : P` and `T : AnyObject`, and passes the limit. So for each of `T : M` and `T : N` the machine of the others
 ///   is built, by rounds with none, 6 and 7.
-const TOLD: &[(&str, &[u8], (u8, u32, u32))] = &[
-    ("answer", TEXT, (0, 4, 10)),
+const TOLD: &[(&str, &str, &[u8], (u8, u32, u32))] = &[
+    ("answer, of the protocol N", "answer", TEXT, (0, 4, 10)),
     (
+        "requirements, with one written twice",
         "requirements",
         b"protocol N { associatedtype Next: N, N }\n",
         (0, 4, 16),
     ),
-    ("requirements", LAYOUT_AGAIN, (0, 4, 14)),
-    ("requirements", LAYOUTS, (0, 4, 10)),
-    ("calls", CALLED, (0, 5, 3)),
-    ("calls", MISCALLED, (1, 5, 3)),
     (
+        "requirements, with a layout that follows",
+        "requirements",
+        LAYOUT_AGAIN,
+        (0, 4, 14),
+    ),
+    (
+        "requirements, with two layouts",
+        "requirements",
+        LAYOUTS,
+        (0, 4, 10),
+    ),
+    ("calls", "calls", CALLED, (0, 5, 3)),
+    ("calls that are refused", "calls", MISCALLED, (1, 5, 3)),
+    (
+        "verify, which completes nothing",
         "verify",
         b"func f<T>()\nquery f(T == T)\n%%\nno\n",
         (0, 0, 0),
     ),
-    ("signatures --max-length 2", EITHER, (0, 12, 87)),
+    (
+        "signatures, whose minimising passes a limit",
+        "signatures --max-length 2",
+        EITHER,
+        (0, 12, 87),
+    ),
 ];
 
 /// How many completions start by these events, and how many rules are born.
@@ -115,9 +132,9 @@ fn told(alloc: Global, words: &str, text: &[u8]) -> Result<(u8, u32, u32), Alloc
 
 #[test]
 fn a_watcher_is_told_of_each_completion(rt: HostRuntime) -> Result<(), Fail> {
-    for (words, text, wanted) in TOLD {
+    for (name, words, text, wanted) in TOLD {
         let told = told(rt.alloc(), words, text)?;
-        assert_eq!(rt; told, *wanted, "after {words}");
+        assert_eq!(rt; told, *wanted, "{name}");
     }
     Ok(())
 }

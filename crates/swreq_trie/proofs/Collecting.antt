@@ -8,7 +8,7 @@ use Rattle.swreq_trie.specs.declared.trie.Entry.{Entry}
 use Rattle.swreq_trie.specs.Marks.{Holds}
 use Rattle.swreq_trie.specs.Places.{IsOnto, IsFrom, IsOwn, IsPlace}
 use Rattle.swreq_trie.specs.Keys.{Gains, IsOwnKey, place_of, key_of}
-use Rattle.swreq_orders.proofs.Elements.{get_cases}
+use Rattle.swreq_lemmas.proofs.Elements.{get_cases}
 use Rattle.swreq_trie.proofs.Marks.{holds_last, holds_more}
 
 -- nothing was to be added

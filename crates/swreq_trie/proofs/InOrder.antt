@@ -11,7 +11,7 @@ use Rattle.std.proofs.lemmas.Cmp.{on_total, then_total, nat_cmp_total, tied_itse
 use Rattle.std.proofs.lemmas.List.Sorted.{Contains-permutation, IsPermutation-sym}
 use Rattle.std.proofs.lemmas.Option.{slice_get_within, slice_get-get_or, get_or_from_slice_get}
 use Rattle.swreq_word.specs.declared.symbols.Symbol.{Symbol}
-use Rattle.swreq_orders.proofs.Orderings.{then_equal}
+use Rattle.swreq_lemmas.proofs.Orderings.{then_equal}
 use Rattle.swreq_word.specs.OrderLaws.{then_less, nat_equal}
 use Rattle.swreq_rule.specs.declared.rules.Place.{Place}
 use Rattle.swreq_rule.specs.Places.{place_cmp}
@@ -19,7 +19,7 @@ use Rattle.swreq_trie.specs.declared.trie.Entry.{Entry}
 use Rattle.swreq_trie.specs.Marks.{Holds}
 use Rattle.swreq_trie.specs.Places.{IsPlace, ArePlaces}
 use Rattle.swreq_trie.specs.Keys.{Gains, AreTheirPlaces, ArePlacesBelow, place_of, key_of, key_cmp}
-use Rattle.swreq_orders.proofs.Elements.{get_cases}
+use Rattle.swreq_lemmas.proofs.Elements.{get_cases}
 use Rattle.swreq_trie.proofs.Marks.{holds_last, holds_more}
 
 key_total : IsTotalOrder key_cmp

@@ -15,7 +15,7 @@ use Rattle.swreq_trie.specs.Marks.{EndsAt, NoneEndsAt, SameEnds, Marked, IsListe
 use Rattle.swreq_trie.specs.Walk.{NoEnd, FirstEnd}
 use Rattle.swreq_trie.specs.Stored.{NoneBegins, Shortest}
 use Rattle.swreq_trie.specs.Index.{IsIndex, FirstThere, HasSpot, IsPassing, IsPassingUpTo, IsOnWay, IsInside, IsInsideBelow, IsWithin, PassesRight, StandsRight, begin_of, spot_of}
-use Rattle.swreq_orders.proofs.Elements.{get_left, get_last, get_cases}
+use Rattle.swreq_lemmas.proofs.Elements.{get_left, get_last, get_cases}
 use Rattle.swreq_trie.proofs.Paths.{grown_itself, child_kept, leads_kept, one_end, one_word}
 use Rattle.swreq_trie.proofs.Marks.{copies_keep, copies_keep_back}
 use Rattle.swreq_trie.proofs.Ways.{front_is}

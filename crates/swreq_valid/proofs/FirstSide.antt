@@ -3,7 +3,7 @@ use Rattle.std.proofs.Common.{◌≡◌, ◌∙◌, refl, sym, ap, subst, ℕ, �
 use Rattle.std.proofs.lemmas.List.{append-nil, drop_more, drop_all}
 use Rattle.std.proofs.lemmas.List.Elements.{Contains-append_cases, Contains-append_left, Contains-append_right}
 use Rattle.std.proofs.lemmas.Option.{get_or_from_slice_get, slice_get_within}
-use Rattle.swreq_orders.proofs.Members.{first_member, later_member, member_cases, no_member, only_member}
+use Rattle.swreq_lemmas.proofs.Members.{first_member, later_member, member_cases, no_member, only_member}
 use Rattle.swreq_valid.specs.Sides.{FailsFirst, HoldsOfEach, Side}
 
 same_head : (x y : Side) (xs ys : List Side) → x ∷ xs ≡ y ∷ ys → x ≡ y

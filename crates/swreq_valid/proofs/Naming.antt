@@ -4,7 +4,7 @@ use Rattle.std.specs.Bool.{if◌then◌else◌, nat_eq}
 use Rattle.std.proofs.lemmas.Bool.{cases_eq, cases_lt}
 use Rattle.std.proofs.lemmas.List.{length-map, drop_all}
 use Rattle.std.proofs.lemmas.Option.{slice_get_cases, slice_get_within}
-use Rattle.swreq_orders.proofs.Elements.{get_contains}
+use Rattle.swreq_lemmas.proofs.Elements.{get_contains}
 use Rattle.swreq_param.specs.declared.ids.NameId.{NameId}
 use Rattle.swreq_param.specs.declared.ids.ProtoId.{ProtoId}
 use Rattle.swreq_lexicon.specs.declared.pair.ProtocolName.{ProtocolName}

@@ -6,7 +6,7 @@ use Rattle.std.proofs.lemmas.List.{append-nil, map-append, drop_all}
 use Rattle.std.proofs.lemmas.List.Elements.{Contains-append_cases}
 use Rattle.std.proofs.lemmas.Option.{get_or_from_slice_get, slice_get-get_or, slice_get_within}
 use Rattle.std.proofs.lemmas.Simd.{map-map}
-use Rattle.swreq_orders.proofs.Elements.{take_one}
+use Rattle.swreq_lemmas.proofs.Elements.{take_one}
 use Rattle.swreq_param.specs.declared.ids.ProtoId.{ProtoId}
 use Rattle.swreq_param.specs.Terms.{Term}
 use Rattle.swreq_derive.specs.declared.requirements.Requirement.{Requirement}
@@ -15,7 +15,7 @@ use Rattle.swreq_derive.specs.Derivation.Source.{SelfOf}
 use Rattle.swreq_derive.specs.Derivation.TermRequirement.{Conforms, IsAnyObject, Equals}
 use Rattle.swreq_derive.specs.Facts.{requirement_of}
 use Rattle.swreq_derive.specs.WellFormed.{HasValidSides}
-use Rattle.swreq_orders.proofs.Members.{first_member, later_member, member_cases, no_member, contains_of_map}
+use Rattle.swreq_lemmas.proofs.Members.{first_member, later_member, member_cases, no_member, contains_of_map}
 use Rattle.swreq_rule.specs.declared.rules.Rule.{Rule}
 use Rattle.swreq_watch.specs.declared.events.Event.{Event}
 use Rattle.swreq_complete.specs.declared.limit.Failed.{Failed}

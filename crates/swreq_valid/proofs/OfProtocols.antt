@@ -11,7 +11,7 @@ use Rattle.swreq_param.specs.Terms.{Term}
 use Rattle.swreq_derive.specs.Derivation.{TermFacts, TermRequirement}
 use Rattle.swreq_derive.specs.Derivation.Source.{SelfOf}
 use Rattle.swreq_derive.specs.Facts.{requirement_of}
-use Rattle.swreq_orders.proofs.Members.{no_member, contains_of_map}
+use Rattle.swreq_lemmas.proofs.Members.{no_member, contains_of_map}
 use Rattle.swreq_rule.specs.declared.rules.Rule.{Rule}
 use Rattle.swreq_watch.specs.declared.events.Event.{Event}
 use Rattle.swreq_complete.specs.declared.limit.Failed.{Failed}
@@ -33,7 +33,7 @@ use Rattle.swreq_symbols.specs.Meaning.{facts_of, member_name, symbols_of}
 use Rattle.swreq_valid.specs.declared.wanted.RoundStart.{RoundStart}
 use Rattle.swreq_valid.specs.declared.wanted.RoundRequirement.{RoundRequirement}
 use Rattle.swreq_valid.specs.Answers.{Answers}
-use Rattle.swreq_valid.specs.Machines.{AreRulesOf, protocols_of}
+use Rattle.swreq_valid.specs.Protocols.{AreRulesOf, protocols_of}
 use Rattle.swreq_valid.specs.Plans.{AreWanted, AreWritten, bare, in_protocol, in_protocols, item_of, items_of, plan_of, says}
 use Rattle.swreq_valid.specs.Rounds.{RoundView, last_rules, rules_of}
 use Rattle.swreq_valid.specs.Sides.{Side, sides}

@@ -1,6 +1,6 @@
 -- From what the code has of a plan to the plan.
 use Rattle.std.proofs.lemmas.Option.{slice_get_read}
-use Rattle.swreq_orders.proofs.Elements.{take_one}
+use Rattle.swreq_lemmas.proofs.Elements.{take_one}
 use Rattle.std.proofs.Common.{◌≡◌, zero, suc, subst₂, refl, sym, ap, subst, ◌∙◌, ℕ, ◌<◌, ◌≤◌, ◌+◌, arith, Bool, List, [], ◌∷◌, ◌++◌, length, map, take, drop, get_or, append_assoc}
 use Rattle.std.specs.Bool.{if◌then◌else◌, Decides}
 use Rattle.std.proofs.lemmas.List.{append-nil, drop_all, map-append}

@@ -5,7 +5,7 @@ use Rattle.std.proofs.Math.Seq.{take-length}
 use Rattle.std.specs.declared.alloc.AllocError.{AllocError}
 use Rattle.std.proofs.lemmas.List.{drop_all, drop-append-le, length-take, map-append, take-take, take_more}
 use Rattle.std.proofs.lemmas.Option.{get_or_from_slice_get, slice_get_within}
-use Rattle.swreq_orders.proofs.Elements.{in_front, in_whole}
+use Rattle.swreq_lemmas.proofs.Elements.{in_front, in_whole}
 use Rattle.swreq_word.specs.declared.symbols.Symbol.{Symbol}
 use Rattle.swreq_rule.specs.declared.rules.Birth.{Birth}
 use Rattle.swreq_rule.specs.declared.rules.Birth.TheVariants.{Given, Pair}

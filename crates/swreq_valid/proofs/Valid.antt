@@ -1,14 +1,12 @@
--- The sides that the rules of a last round show valid are the valid ones.
+-- The sides that the rules of the last round of the protocols show valid are the valid ones.
 use Rattle.std.proofs.Common.{◌≡◌, ap, sym, subst, ℕ, List, [], ◌∷◌, Contains, inl, inr}
 use Rattle.std.proofs.lemmas.List.Elements.{Contains-append_cases}
 use Rattle.swreq_param.specs.declared.ids.ProtoId.{ProtoId}
-use Rattle.swreq_param.specs.Terms.{Term}
 use Rattle.swreq_derive.specs.Derivation.{Derivable, Source, TermRequirement}
-use Rattle.swreq_derive.specs.Derivation.Source.{SelfOf, Written}
+use Rattle.swreq_derive.specs.Derivation.Source.{SelfOf}
 use Rattle.swreq_derive.specs.Derivation.TermRequirement.{Conforms, IsAnyObject, Equals}
 use Rattle.swreq_derive.specs.Derivation.TermStatement.{IsValid}
-use Rattle.swreq_derive.specs.Facts.{generic_params}
-use Rattle.swreq_orders.proofs.Members.{later_member, first_member, member_cases, no_member, only_member}
+use Rattle.swreq_lemmas.proofs.Members.{later_member, first_member, member_cases, no_member, only_member}
 use Rattle.swreq_correspondence.specs.Shown.{ShowsValid}
 use Rattle.swreq_lowering.specs.Requirements.{PlacedRequirement}
 use Rattle.swreq_rule.specs.declared.rules.Rule.{Rule}
@@ -17,10 +15,9 @@ use Rattle.swreq_world.specs.Worlds.{TextWorld, requirements_of}
 use Rattle.swreq_symbols.specs.Meaning.{facts_of, symbols_of}
 use Rattle.swreq_symbols.specs.Vanishing.{Links}
 use Rattle.swreq_symbols.proofs.Symbols.{symbols_law, text_law}
-use Rattle.swreq_valid.specs.Machines.{AreRulesOf, IsMachineOf, MachineView}
-use Rattle.swreq_valid.specs.Rounds.{last_rules}
+use Rattle.swreq_valid.specs.Protocols.{AreRulesOf}
 use Rattle.swreq_valid.specs.Sides.{IsShownSide, IsValidSide, Side, protocol_sides, sides, sides_at, sides_in, sides_of}
-use Rattle.swreq_valid.proofs.Deriving.{derivable_shown, self_derivable, self_shown, shown_derivable}
+use Rattle.swreq_valid.proofs.Deriving.{self_derivable, self_shown}
 
 -- ---- over what the sides are read
 
@@ -47,37 +44,6 @@ protocol_source w (p ∷ ps) x c = elim (Contains-append_cases (sides (SelfOf p)
   | inl k ↦ (p, first_member p ps, list_source (SelfOf p) (requirements_of w p) x k)
   | inr k ↦ (let (q, m, e) = protocol_source w ps x k in (q, later_member p q ps m, e))
 ]
-
--- ---- a list
-
-module _ (w : TextWorld) (closed : IsClosed w) (m : MachineView) (list : List TermRequirement) (is : IsMachineOf w list m) where
-  abbrev L : Source
-  L = Written (generic_params m.params) list
-
-  pub list_derivable : (t : Term) → ShowsValid (symbols_of w.lexicon) (facts_of w) L (Links (last_rules m.rounds)) t
-      → Derivable (facts_of w) L (IsValid t)
-  list_derivable t h =
-      shown_derivable (symbols_of w.lexicon) (facts_of w) (symbols_law w closed) (text_law w closed) (last_rules m.rounds)
-      (generic_params m.params) list is.rules is.in_text t h
-
-  pub list_shown : (t : Term) → Derivable (facts_of w) L (IsValid t)
-      → ShowsValid (symbols_of w.lexicon) (facts_of w) L (Links (last_rules m.rounds)) t
-  list_shown t e =
-      derivable_shown (symbols_of w.lexicon) (facts_of w) (symbols_law w closed) (text_law w closed) (last_rules m.rounds)
-      (generic_params m.params) list is.rules is.in_text t e
-
-  module _ (rs : List PlacedRequirement) (s : Side) (c : Contains (sides L rs) s) where
-    pub side_valid : IsShownSide (symbols_of w.lexicon) (facts_of w) (last_rules m.rounds) s → IsValidSide (facts_of w) s
-    side_valid h =
-        let e = list_source L rs s c in
-        subst (λ z. Derivable (facts_of w) z (IsValid s.term)) (sym e)
-        (list_derivable s.term (subst (λ z. ShowsValid (symbols_of w.lexicon) (facts_of w) z (Links (last_rules m.rounds)) s.term) e h))
-
-    pub side_shown : IsValidSide (facts_of w) s → IsShownSide (symbols_of w.lexicon) (facts_of w) (last_rules m.rounds) s
-    side_shown h =
-        let e = list_source L rs s c in
-        subst (λ z. ShowsValid (symbols_of w.lexicon) (facts_of w) z (Links (last_rules m.rounds)) s.term) (sym e)
-        (list_shown s.term (subst (λ z. Derivable (facts_of w) z (IsValid s.term)) e h))
 
 -- ---- the protocols
 

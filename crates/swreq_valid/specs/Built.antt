@@ -1,4 +1,4 @@
--- What building a machine comes to.
+-- What building the rules of the protocols, or a machine, comes to.
 use Rattle.std.specs.Prelude.{◌≡◌, ◌⊎◌, List, Option, Result, Ok, Err}
 use Rattle.swreq_derive.specs.Derivation.{TermFacts}
 use Rattle.swreq_rule.specs.declared.rules.Rule.{Rule}
@@ -11,7 +11,7 @@ use Rattle.swreq_rounds.specs.Plan.{Plan}
 use Rattle.swreq_rounds.specs.Rounds.{ComesTo, IsOutcome}
 use Rattle.swreq_valid.specs.declared.refused.Refused.{Refused}
 use Rattle.swreq_valid.specs.declared.refused.Refused.TheVariants.{Limit, NotATypeParameter, Memory}
-use Rattle.swreq_valid.specs.Machines.{MachineView, ProtocolsView}
+use Rattle.swreq_valid.specs.Protocols.{ProtocolsView}
 use Rattle.swreq_valid.specs.Rounds.{last_rules}
 use Rattle.swreq_valid.specs.Sides.{FailsFirst, HoldsOfEach, IsValidSide, Side}
 
@@ -44,11 +44,6 @@ Builds limits plan f sides old new (Err Memory) = (told : List Event) × ComesTo
 abbrev pub IsOnlyBuilt : Limits → Plan → TermFacts → List Side → Result (List Rule) Refused → Type 0
 IsOnlyBuilt limits plan f sides answer = (other : Result (List Rule) Refused) (told : List Event) → IsBuilt limits plan f sides other told
     → (answer ≡ other) ⊎ (IsForMemory answer ⊎ IsForMemory other)
-
--- the rules of the last round of the machine, or why there is none
-abbrev pub built_rules : Result MachineView Refused → Result (List Rule) Refused
-built_rules (Ok m) = Ok (last_rules m.rounds)
-built_rules (Err refused) = Err refused
 
 -- the rules of the last round of the protocols, or why there are none
 abbrev pub protocol_rules : Result ProtocolsView Refused → Result (List Rule) Refused

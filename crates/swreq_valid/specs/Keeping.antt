@@ -15,7 +15,7 @@ use Rattle.swreq_symbols.specs.Meaning.{facts_of, symbols_of}
 use Rattle.swreq_symbols.specs.Vanishing.{Links}
 use Rattle.swreq_valid.specs.declared.wanted.RoundRequirement.{RoundRequirement}
 use Rattle.swreq_valid.specs.Flags.{Tells, chosen}
-use Rattle.swreq_valid.specs.Machines.{ProtocolsView}
+use Rattle.swreq_valid.specs.Protocols.{ProtocolsView}
 use Rattle.swreq_valid.specs.Plans.{bare, in_protocol}
 use Rattle.swreq_valid.specs.Rounds.{last_rules}
 

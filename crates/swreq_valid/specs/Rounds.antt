@@ -1,4 +1,4 @@
--- The rounds that a machine keeps.
+-- Rounds, as they are kept.
 use Rattle.std.specs.Prelude.{◌≡◌, Bool, false, List, [], ◌∷◌, length, replicate, Option, Some, None, Result, Ok, Err}
 use Rattle.std.specs.Borrow.{Bor}
 use Rattle.swreq_rule.specs.declared.rules.Rule.{Rule}

@@ -1,4 +1,4 @@
-//! The events of the rounds of a machine, told once more.
+//! The events of rounds, told once more.
 ghost use Rattle.std.specs.Prelude.{◌≡◌, ◌∷◌, [], length, OnOk, OnErr};
 ghost use Rattle.swreq_rounds.specs.Plan.{Plan};
 ghost use Rattle.swreq_complete.specs.declared.limit.Limits.{Limits};
@@ -11,9 +11,8 @@ ghost use Rattle.swreq_valid.specs.Answers.{Answers};
 ghost use Rattle.swreq_valid.specs.Rounds.{AreRounds, last_rules};
 
 use crate::course::Course;
-use crate::machine::Machine;
 use crate::protocols::Protocols;
-use crate::round::Round;
+use crate::round::{Round, Rounds};
 use std::alloc::AllocError;
 use swreq_complete::CompleteRules;
 use swreq_rule::Rule;
@@ -81,8 +80,8 @@ fn count_of(protocols: &Protocols) -> u32
     protocols.rules().count() as u32
 }
 
-impl<'b> Machine<'b> {
-    /// Tells the watcher the events of its rounds once more, where they are rounds over the rules of these protocols: exactly what it was
+impl<'b> Rounds<'b> {
+    /// Tells the watcher the events of the rounds once more, where they are rounds over the rules of these protocols: exactly what it was
     /// told when they ran.
     pub fn tell_again<W: Watch>(
         &self,
@@ -90,15 +89,15 @@ impl<'b> Machine<'b> {
         watch: &mut W,
     ) -> Result<(), AllocError>
         ensures { (limits : Limits) (plan : Plan) → plan.base ≡ last_rules protocols.now.rounds
-            → AreRounds limits plan self.now.rounds
+            → AreRounds limits plan self.now
             → Answers limits plan (W.told watch.old) (W.told watch.new)
-            (rules_again self.now.rounds result) }
+            (rules_again self.now result) }
     {
         let base = count_of(protocols);
-        let before = self.rounds().before();
+        let before = self.before();
         for k in 0..before.len() {
             tell_course(base, &before[k], watch)?;
         }
-        tell_round(base, self.rules(), watch)
+        tell_round(base, self.last(), watch)
     }
 }

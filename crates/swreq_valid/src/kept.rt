@@ -15,7 +15,7 @@ ghost use Rattle.swreq_valid.specs.Rounds.{AreRounds, last_rules, rules_of};
 
 use crate::basic::basic;
 use crate::round::Rounds;
-use crate::rounds::run;
+use crate::rounds::run_rounds;
 use crate::stopping::limit_of_basic;
 use crate::usable::is_usable;
 use crate::wanted::{RoundRequirement, RoundStart};
@@ -121,7 +121,7 @@ fn run_kept<W: Watch>(
     let basic = basic(alloc, world)?;
     let all = kept_requirements(alloc, world, keep)?;
     let start = RoundStart { basic, all, limits };
-    run(alloc, world, table, None, &start, watch)
+    run_rounds(alloc, world, table, None, &start, watch)
 }
 
 /// Runs the rounds of the protocols with the kept requirements.

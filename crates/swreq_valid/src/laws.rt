@@ -1,4 +1,4 @@
-//! What the definitions of machines tell.
+//! What the definitions of rounds and of sides tell.
 ghost use Rattle.std.specs.Prelude.{◌≡◌, ℕ, List};
 ghost use Rattle.swreq_param.specs.Terms.{Term};
 ghost use Rattle.swreq_derive.specs.Derivation.{Derivable, Source, TermFacts};

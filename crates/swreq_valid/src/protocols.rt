@@ -9,12 +9,12 @@ ghost use Rattle.swreq_world.specs.ByTable.{world_by};
 ghost use Rattle.swreq_world.specs.Worlds.{TextWorld};
 ghost use Rattle.swreq_valid.specs.Answers.{Answers, IsOnlyOutcome};
 ghost use Rattle.swreq_valid.specs.Keeping.{HasNumber, TellUsable, flag_at, flag_with};
-ghost use Rattle.swreq_valid.specs.Machines.{AreRulesOf, protocols_of};
+ghost use Rattle.swreq_valid.specs.Protocols.{AreRulesOf, protocols_of};
 ghost use Rattle.swreq_valid.specs.Rounds.{AreRounds, last_rules, rules_of};
 
 use crate::basic::{basic, requirements};
 use crate::round::Rounds;
-use crate::rounds::run;
+use crate::rounds::run_rounds;
 use crate::stopping::limit_of_basic;
 use crate::wanted::RoundStart;
 use std::alloc::{AllocError, Global};
@@ -33,7 +33,7 @@ pub struct Protocols {
 }
 
 impl Model for Protocols {
-    ghost use Rattle.swreq_valid.specs.Machines.{ProtocolsView};
+    ghost use Rattle.swreq_valid.specs.Protocols.{ProtocolsView};
 
     ghost Value = { ProtocolsView };
 
@@ -121,7 +121,7 @@ fn run_protocols<W: Watch>(
     let basic = basic(alloc, world)?;
     let all = requirements(alloc, world)?;
     let start = RoundStart { basic, all, limits };
-    run(alloc, world, table, None, &start, watch)
+    run_rounds(alloc, world, table, None, &start, watch)
 }
 
 /// Runs the rounds of the protocols.

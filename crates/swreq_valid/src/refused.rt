@@ -1,4 +1,4 @@
-//! Why there is no machine.
+//! Why there are no rules.
 use std::alloc::AllocError;
 use swreq_complete::{Failed, Which};
 use swreq_rule::Rule;

@@ -1,4 +1,4 @@
-//! Rounds, as a machine keeps them.
+//! Rounds, as they are kept.
 ghost use Rattle.std.specs.Prelude.{◌≡◌, ◌∷◌, ◌++◌, [], ◌<◌, ◌-◌, ◌^◌, Bool, List, length, Some, slice_get, IfOk};
 ghost use Rattle.swreq_valid.specs.Courses.{rules_by, told_by};
 ghost use Rattle.swreq_valid.specs.Rounds.{RoundView, ended_round, last_rules, short_round, stopped_round};
@@ -103,7 +103,7 @@ fn system_out(alloc: Global, rules: &RewritingSystem<'_>) -> Result<Vec<Rule>, A
     rules.written_out(alloc)
 }
 
-/// The rounds of a machine in order, of which the last ended.
+/// Rounds in order, of which the last ended.
 #[derive(Drop)]
 pub struct Rounds<'b> {
     before: Seq<Round<'b>>,

@@ -1,4 +1,4 @@
-//! The run of the rounds of a machine.
+//! The run of rounds.
 ghost use Rattle.std.specs.Prelude.{List, IfOk};
 ghost use Rattle.swreq_complete.specs.Limits.{AreInRange};
 ghost use Rattle.swreq_watch.specs.declared.events.Event.{Event};
@@ -87,7 +87,10 @@ fn turn<'b, W: Watch>(
 }
 
 /// Runs the rounds over the rules that are borrowed, or over none, up to the last one or to the limit at which they stop.
-pub(crate) fn run<'b, W: Watch>(
+///
+/// `Failed::Limit` comes if and only if they stop at a limit, with the limit that was passed first and the trace of that round. The
+/// watcher is told the events of the rounds.
+pub fn run_rounds<'b, W: Watch>(
     alloc: Global,
     world: &World,
     table: &ParamTable,

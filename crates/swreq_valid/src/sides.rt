@@ -81,8 +81,8 @@ fn first_of(
     }
 }
 
-/// The place of the first side in a list that the rules do not show valid, in list order.
-pub(crate) fn first_invalid(
+/// The place of the first side in a list that the rules do not show valid, in list order, or None where they show each of them valid.
+pub fn first_invalid(
     alloc: Global,
     world: &World,
     table: &ParamTable,

@@ -1,4 +1,4 @@
-//! What the rounds of a machine start from.
+//! What rounds start from.
 use swreq_complete::Limits;
 use swreq_derive::Requirement;
 use swreq_symbols::Over;
@@ -6,14 +6,14 @@ use swreq_word::Word;
 
 /// A requirement that rounds may use, and over what its type parameters are read.
 #[derive(Clone, Copy, Debug, PartialEq, Eq)]
-pub(crate) struct RoundRequirement {
+pub struct RoundRequirement {
     pub over: Over,
     pub requirement: Requirement,
 }
 
 /// What rounds start from beside their base: the equations of every round, the requirements that may join them, in order, and the limits.
 #[derive(Drop)]
-pub(crate) struct RoundStart {
+pub struct RoundStart {
     pub basic: Vec<(Word, Word)>,
     pub all: Vec<RoundRequirement>,
     pub limits: Limits,

@@ -1,8 +1,8 @@
 -- The lines under a heading, as they are passed one by one.
 use Rattle.std.proofs.Common.{◌≡◌, sym, subst, ℕ, ◌-◌, [], ◌∷◌, length, take, drop}
 use Rattle.std.specs.List.{AllByRecursion}
-use Rattle.swreq_parts.specs.Lines.{lines, IsFirstLine}
-use Rattle.swreq_parts.proofs.LineEnds.{IsLineEnd, all_before, line_end_next, line_end_zero}
+use Rattle.swreq_text.specs.Lines.{lines, IsFirstLine}
+use Rattle.swreq_text.proofs.LineEnds.{IsLineEnd, all_before, line_end_next, line_end_zero}
 use Rattle.swreq_print.specs.Names.{Text}
 use Rattle.swreq_verify.specs.Laying.{IsUnder}
 use Rattle.swreq_verify.proofs.Sectioned.{each_append}

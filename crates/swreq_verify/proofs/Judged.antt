@@ -3,7 +3,7 @@ use Rattle.std.proofs.Common.{◌≡◌, ◌∙◌, refl, sym, ap, subst, ℕ, �
 use Rattle.std.specs.Prelude.{Some, slice_get}
 use Rattle.std.proofs.Math.ListN.{get_or-map}
 use Rattle.std.proofs.lemmas.List.{length-map, map-append}
-use Rattle.swreq_orders.proofs.Elements.{get_contains, get_map}
+use Rattle.swreq_lemmas.proofs.Elements.{get_contains, get_map}
 use Rattle.swreq_derive.specs.declared.lines.DerivRule.{DerivRule}
 use Rattle.swreq_derive.specs.declared.lines.DerivRule.TheVariants as Rule
 use Rattle.swreq_derive.specs.declared.lines.Line.{Line}

@@ -6,8 +6,8 @@ use Rattle.swreq_derive.specs.Lines.{line_of}
 use Rattle.swreq_lexicon.specs.Views.{LexiconView}
 use Rattle.swreq_param.specs.Tables.{Extends}
 use Rattle.swreq_param.specs.Terms.{Term}
-use Rattle.swreq_parts.specs.Lines.{lines}
-use Rattle.swreq_parts.proofs.Lined.{few_lines, lines-some}
+use Rattle.swreq_text.specs.Lines.{lines}
+use Rattle.swreq_text.proofs.Lined.{few_lines, lines-some}
 use Rattle.swreq_print.specs.Names.{Text}
 use Rattle.swreq_verify.specs.declared.reading.Section.{Section}
 use Rattle.swreq_verify.specs.Laying.{AreHeaded, IsFront, IsNoSection, IsSectionOver, section_of}

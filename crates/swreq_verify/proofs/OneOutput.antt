@@ -3,7 +3,7 @@ use Rattle.std.proofs.Common.{◌≡◌, ◌≢◌, ◌⊎◌, inl, inr, ◌∙�
 use Rattle.std.proofs.lemmas.Bool.{cases_eq, cases_lt}
 use Rattle.std.proofs.lemmas.List.{map-id}
 use Rattle.std.proofs.lemmas.Option.{slice_get_within}
-use Rattle.swreq_orders.proofs.Elements.{there_is}
+use Rattle.swreq_lemmas.proofs.Elements.{there_is}
 use Rattle.swreq_derive.specs.Instances.{TermLine}
 use Rattle.swreq_lexicon.specs.Views.{LexiconView}
 use Rattle.swreq_lines.specs.LineTexts.{texts_from}

@@ -7,8 +7,8 @@ use Rattle.swreq_derive.specs.Instances.{HasNumber, TermLine}
 use Rattle.swreq_lexicon.specs.Views.{LexiconView}
 use Rattle.swreq_lines.specs.GoodLines.{AreTextsOf, IsFirstNotGood, IsGood, IsReadableLine}
 use Rattle.swreq_lines.specs.LineTexts.{line_text, texts_from}
-use Rattle.swreq_parts.specs.Lines.{lines}
-use Rattle.swreq_parts.proofs.Lined.{few_lines}
+use Rattle.swreq_text.specs.Lines.{lines}
+use Rattle.swreq_text.proofs.Lined.{few_lines}
 use Rattle.swreq_print.specs.Names.{Text}
 use Rattle.swreq_verify.specs.Laying.{AreHeaded, IsBadUnder, IsFront, IsUnder}
 use Rattle.swreq_verify.specs.SecondParts.{IsHeading}

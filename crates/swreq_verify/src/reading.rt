@@ -3,7 +3,7 @@ ghost use Rattle.std.specs.Prelude.{◌≡◌, ◌++◌, ◌∷◌, ◌+◌, ◌
 ghost use Rattle.std.specs.List.{AllByRecursion};
 ghost use Rattle.swreq_lines.specs.declared.lines.LinesErr.TheVariants.{Memory, Syntax};
 ghost use Rattle.swreq_param.specs.Tables.{Extends};
-ghost use Rattle.swreq_parts.specs.Lines.{lines};
+ghost use Rattle.swreq_text.specs.Lines.{lines};
 ghost use Rattle.swreq_print.specs.Reading.{TellsApart};
 ghost use Rattle.swreq_verify.specs.Laying.{IsFront, IsNoSection, IsSectionOver, section_of};
 ghost use Rattle.swreq_verify.specs.SecondParts.{AreSections, IsFirstMisfit, IsHeading};
@@ -14,7 +14,7 @@ use swreq_derive::Line;
 use swreq_lexicon::Lexicon;
 use swreq_lines::{LinesErr, read_lines};
 use swreq_param::ParamTable;
-use swreq_parts::first_line;
+use swreq_text::first_line;
 
 /// What stands under a query: a heading, and the lines of a derivation.
 #[derive(Drop)]

@@ -1,11 +1,11 @@
 // The lines under a query, as bytes.
 ghost use Rattle.std.specs.Prelude.{◌≡◌, ◌++◌, ◌≤◌, ◌↔◌, IsTrue, length};
 ghost use Rattle.std.specs.List.{AllByRecursion};
-ghost use Rattle.swreq_parts.specs.Lines.{lines};
+ghost use Rattle.swreq_text.specs.Lines.{lines};
 ghost use Rattle.swreq_verify.specs.Laying.{AreHeaded, IsUnder};
 ghost use Rattle.swreq_verify.specs.SecondParts.{IsHeading};
 
-use swreq_parts::first_line;
+use swreq_text::first_line;
 
 /// Whether a line does not begin with a space.
 pub(crate) fn is_heading(line: &[u8]) -> bool

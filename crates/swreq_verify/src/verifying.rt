@@ -3,7 +3,7 @@ ghost use Rattle.std.specs.Prelude.{◌≡◌, ◌≤◌, ℕ, OnErr, OnOk, leng
 ghost use Rattle.std.specs.List.{AllByRecursion};
 ghost use Rattle.swreq_lines.specs.declared.lines.LinesErr.TheVariants.{Syntax};
 ghost use Rattle.swreq_param.specs.Tables.{Extends};
-ghost use Rattle.swreq_parts.specs.Lines.{lines};
+ghost use Rattle.swreq_text.specs.Lines.{lines};
 ghost use Rattle.swreq_print.specs.Reading.{TellsApart};
 ghost use Rattle.swreq_symbols.specs.Known.{IsTextOver};
 ghost use Rattle.swreq_world.specs.ByTable.{world_by};

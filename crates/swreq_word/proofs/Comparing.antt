@@ -14,7 +14,7 @@ use Rattle.swreq_word.specs.contracts.symbols.SymbolOrd.TheImpl.Laws as laws
 use Rattle.swreq_word.specs.contracts.symbols.SymbolPartialEq.TheImpl as eq-impl
 use Rattle.swreq_word.specs.Order.{symbol_cmp, word_cmp, WordLess}
 use Rattle.swreq_word.specs.OrderLaws.{nat_less, nat_equal, then_less, symbol_total, symbol_exact, word_total, word_exact, word_equal}
-use Rattle.swreq_orders.proofs.Orderings.{is_equal}
+use Rattle.swreq_lemmas.proofs.Orderings.{is_equal}
 
 pub nat_cmp_less : (m n : ℕ) → m < n → nat_cmp m n ≡ Less
 nat_cmp_less m n h = go (nat_cmp m n) refl

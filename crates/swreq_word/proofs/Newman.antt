@@ -2,11 +2,11 @@
 -- each leads to exactly one irreducible, which is the least of its class.
 use Rattle.std.proofs.Common.{◌≡◌, ◌⊎◌, inl, inr, refl, sym, subst}
 use Rattle.swreq_word.specs.Relations.{Chain, Linked, Meet, IsLocallyConfluent, IsIrreducible}
-use Rattle.swreq_orders.specs.WellFounded.{IsWellFounded}
+use Rattle.swreq_lemmas.specs.WellFounded.{IsWellFounded}
 use Rattle.swreq_word.specs.Relations.Chain.{done, more}
 use Rattle.swreq_word.specs.Relations.Linked.{here, forth, back}
 use Rattle.swreq_word.proofs.Chains.{joined, stays}
-use Rattle.swreq_orders.proofs.Induction.{by_below}
+use Rattle.swreq_lemmas.proofs.Induction.{by_below}
 
 module _ {A : Type 0} {R Below : A → A → Type 0} (down : (a b : A) → R a b → Below b a) (founded : IsWellFounded Below) where
   module _ (local : IsLocallyConfluent R) where

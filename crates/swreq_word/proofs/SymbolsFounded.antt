@@ -6,9 +6,9 @@ use Rattle.swreq_word.specs.declared.symbols.Symbol.{Symbol}
 use Rattle.swreq_word.specs.declared.symbols.Symbol.TheVariants.{Proto, Member, Param, Name, Layout}
 use Rattle.swreq_word.specs.Order.{symbol_cmp}
 use Rattle.swreq_word.specs.OrderLaws.{nat_less, nat_equal, then_less}
-use Rattle.swreq_orders.specs.WellFounded.{IsAccessible}
-use Rattle.swreq_orders.specs.WellFounded.IsAccessible.{reached}
-use Rattle.swreq_orders.proofs.Induction.{by_below, numbers_founded}
+use Rattle.swreq_lemmas.specs.WellFounded.{IsAccessible}
+use Rattle.swreq_lemmas.specs.WellFounded.IsAccessible.{reached}
+use Rattle.swreq_lemmas.proofs.Induction.{by_below, numbers_founded}
 
 abbrev pub Symbol< : Symbol → Symbol → Type 0
 Symbol< a b = symbol_cmp a b ≡ Less

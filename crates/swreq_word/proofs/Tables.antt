@@ -13,7 +13,7 @@ use Rattle.swreq_word.specs.declared.table.WordId.{WordId}
 use Rattle.swreq_word.specs.contracts.symbols.SymbolPartialEq.TheImpl as eq-impl
 use Rattle.swreq_word.specs.Interned.{StandsFor, AreDistinct, Interned}
 use Rattle.swreq_word.proofs.Comparing.{symbols_decide}
-use Rattle.swreq_orders.proofs.Elements.{get_left, get_last}
+use Rattle.swreq_lemmas.proofs.Elements.{get_left, get_last}
 
 module _ {K : Type 0} (word_of : K → List Symbol) where
   key_at : (keys : List K) (i : ℕ) (w : List Symbol) → slice_get (map word_of keys) i ≡ Some w

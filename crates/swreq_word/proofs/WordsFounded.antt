@@ -6,9 +6,9 @@ use Rattle.std.specs.Cmp.Lexicographic.{slice_cmp}
 use Rattle.swreq_word.specs.declared.symbols.Symbol.{Symbol}
 use Rattle.swreq_word.specs.Order.{symbol_cmp, WordLess}
 use Rattle.swreq_word.specs.OrderLaws.{nat_less, nat_equal, then_less, symbol_exact}
-use Rattle.swreq_orders.specs.WellFounded.{IsAccessible, IsWellFounded}
-use Rattle.swreq_orders.specs.WellFounded.IsAccessible.{reached}
-use Rattle.swreq_orders.proofs.Induction.{by_below, numbers_founded}
+use Rattle.swreq_lemmas.specs.WellFounded.{IsAccessible, IsWellFounded}
+use Rattle.swreq_lemmas.specs.WellFounded.IsAccessible.{reached}
+use Rattle.swreq_lemmas.proofs.Induction.{by_below, numbers_founded}
 use Rattle.swreq_word.proofs.SymbolsFounded.{Symbol<, symbol_acc}
 
 -- words of one length

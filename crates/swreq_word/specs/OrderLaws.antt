@@ -6,7 +6,7 @@ use Rattle.std.specs.Cmp.{IsTotalOrder, IsEquivalence, IsPartialOrder, partial_o
 use Rattle.std.specs.Cmp.Lexicographic.{slice_cmp}
 use Rattle.std.specs.Ordering.{nat_cmp, ordering_then, then_cmp, on, eq_by_cmp, as_partial_cmp, MatchOrdering}
 use Rattle.std.proofs.lemmas.Cmp.{ranked, on_total, then_total, lists_total, nat_cmp_total, eq_by_cmp_equiv}
-use Rattle.swreq_orders.proofs.Orderings.{then_equal, then_nothing, is_equal}
+use Rattle.swreq_lemmas.proofs.Orderings.{then_equal, then_nothing, is_equal}
 use Rattle.swreq_word.specs.declared.symbols.Symbol.{Symbol}
 use Rattle.swreq_word.specs.declared.symbols.Symbol.TheVariants.{Proto, Member, Param, Name, Layout}
 use Rattle.swreq_word.specs.Order.{kind, symbol_cmp, word_cmp}

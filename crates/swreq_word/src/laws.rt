@@ -5,7 +5,7 @@ ghost use Rattle.std.specs.Cmp.{IsTotalOrder};
 ghost use Rattle.std.proofs.lemmas.Map.Lookups.{CmpEqualImpliesEq};
 ghost use Rattle.swreq_word.specs.declared.symbols.Symbol.{Symbol};
 ghost use Rattle.swreq_word.specs.Order.{WordLess, symbol_cmp, word_cmp};
-ghost use Rattle.swreq_orders.specs.WellFounded.{IsWellFounded};
+ghost use Rattle.swreq_lemmas.specs.WellFounded.{IsWellFounded};
 
 use crate::Symbol;
 

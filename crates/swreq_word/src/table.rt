@@ -82,9 +82,7 @@ impl WordTable {
         ensures { MatchOption result (Contains self.now symbols.now → ⊥)
             (λ id. StandsFor self.now id symbols.now) }
     {
-        match self.words.get_index_of(symbols) {
-            Some(place) => Some(WordId { place }),
-            None => None,
-        }
+        let place = self.words.get_index_of(symbols)?;
+        Some(WordId { place })
     }
 }

@@ -4,8 +4,8 @@ use Rattle.std.proofs.lemmas.List.{append-nil}
 use Rattle.std.proofs.lemmas.Option.{same_Some}
 use Rattle.std.specs.List.{cons_option, filter_map}
 use Rattle.std.specs.Str.{chars}
-use Rattle.swreq_orders.proofs.Elements.{contains_get}
-use Rattle.swreq_orders.proofs.Members.{member_cases, no_member}
+use Rattle.swreq_lemmas.proofs.Elements.{contains_get}
+use Rattle.swreq_lemmas.proofs.Members.{member_cases, no_member}
 use Rattle.swreq_lex.specs.declared.token.Token as lexed
 use Rattle.swreq_lex.specs.Slices.{AreSlices}
 use Rattle.swreq_lex.specs.Tokens.{HasTokens, first_offset}

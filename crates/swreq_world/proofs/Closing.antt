@@ -36,7 +36,7 @@ use Rattle.swreq_world.proofs.OnceDeclared.{protocols_differ}
 use Rattle.swreq_world.proofs.Offsets.{AreRising, name_start}
 use Rattle.swreq_world.proofs.Resolving.{protocol_is, resolved}
 use Rattle.swreq_world.proofs.Standing.{outer_within}
-use Rattle.swreq_orders.proofs.Elements.{contains_get, get_contains}
+use Rattle.swreq_lemmas.proofs.Elements.{contains_get, get_contains}
 
 module _ (text : Bytes) (s : Skeleton) (x : LexiconView) (is : IsLexiconOf text s x) where
   order_total : IsTotalOrder (order_cmp (inherits x) (length x.protocols))

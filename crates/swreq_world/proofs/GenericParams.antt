@@ -5,7 +5,7 @@ use Rattle.std.proofs.lemmas.List.{length-map}
 use Rattle.std.proofs.lemmas.List.Elements.{Contains-append_left, Contains-append_right, Contains-append_cases}
 use Rattle.std.specs.List.{Contains}
 use Rattle.std.specs.Option.{option_map}
-use Rattle.swreq_orders.proofs.Members.{no_member}
+use Rattle.swreq_lemmas.proofs.Members.{no_member}
 use Rattle.swreq_decl.specs.declared.skeleton.FunctionDecl.{FunctionDecl}
 use Rattle.swreq_decl.specs.declared.skeleton.ParamDecl.{ParamDecl}
 use Rattle.swreq_decl.specs.declared.skeleton.Skeleton.{Skeleton}

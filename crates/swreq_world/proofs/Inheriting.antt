@@ -14,7 +14,7 @@ use Rattle.swreq_decl.specs.declared.skeleton.ReqDecl.TheVariants.{Bound, Same}
 use Rattle.swreq_decl.specs.declared.skeleton.Span.{Span}
 use Rattle.swreq_decl.specs.declared.skeleton.StepDecl.{StepDecl}
 use Rattle.swreq_derive.specs.Derivation.TermRequirement.{Conforms, IsAnyObject}
-use Rattle.swreq_orders.proofs.Members.{no_member, only_member}
+use Rattle.swreq_lemmas.proofs.Members.{no_member, only_member}
 use Rattle.swreq_names.specs.Inheritance.{direct, is_bare, named_by, named_in}
 use Rattle.swreq_names.specs.Walk.{inherited_in, inherited_in_clause}
 use Rattle.swreq_names.proofs.Walked.{same_direct}

@@ -21,7 +21,7 @@ use Rattle.swreq_lexicon.specs.Lexicons.{proto_by}
 use Rattle.swreq_rank.specs.Ranks.{Bytes}
 use Rattle.swreq_lexicon.specs.Views.{IsProtocol, LexiconView, inherits, place_of}
 use Rattle.swreq_lexicon.proofs.RankLaws.{meant, written_at}
-use Rattle.swreq_orders.proofs.Members.{contains_map, contains_of_map}
+use Rattle.swreq_lemmas.proofs.Members.{contains_map, contains_of_map}
 use Rattle.swreq_lowering.specs.Requirements.{PlacedRequirement, in_protocol}
 use Rattle.swreq_lowering.specs.Words.{WordsView, proto_of}
 use Rattle.swreq_world.specs.FactsAt.{facts_of}

@@ -3,7 +3,7 @@ use Rattle.std.proofs.Common.{◌≡◌, ℕ, List, [], ◌++◌, Option, Some, 
 use Rattle.std.proofs.lemmas.Option.{slice_get_within, same_Some}
 use Rattle.std.specs.List.{All}
 use Rattle.std.specs.Option.{option_map}
-use Rattle.swreq_orders.proofs.Elements.{there_is}
+use Rattle.swreq_lemmas.proofs.Elements.{there_is}
 use Rattle.swreq_decl.specs.declared.skeleton.FunctionDecl.{FunctionDecl}
 use Rattle.swreq_decl.specs.declared.skeleton.StructDecl.{StructDecl}
 use Rattle.swreq_names.specs.declared.directory.Declaration.{Declaration}

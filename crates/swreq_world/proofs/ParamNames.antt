@@ -4,8 +4,8 @@ use Rattle.std.proofs.lemmas.List.Elements.{All-nil}
 use Rattle.std.proofs.lemmas.Option.{same_Some}
 use Rattle.std.specs.List.{All, flat_map}
 use Rattle.std.specs.Option.{option_map}
-use Rattle.swreq_orders.proofs.Elements.{get_contains, there_is}
-use Rattle.swreq_orders.proofs.Members.{no_member}
+use Rattle.swreq_lemmas.proofs.Elements.{get_contains, there_is}
+use Rattle.swreq_lemmas.proofs.Members.{no_member}
 use Rattle.swreq_decl.specs.declared.skeleton.FunctionDecl.{FunctionDecl}
 use Rattle.swreq_decl.specs.declared.skeleton.ParamDecl.{ParamDecl}
 use Rattle.swreq_decl.specs.declared.skeleton.ReqDecl.{ReqDecl}

@@ -8,8 +8,8 @@ use Rattle.std.proofs.lemmas.Slice.Eq.{bytes_eq-Decides}
 use Rattle.std.specs.List.{All, Contains, flat_map}
 use Rattle.std.specs.Str.{bytes_eq}
 use Rattle.std.proofs.lemmas.Bool.{and_parts, or_cases}
-use Rattle.swreq_orders.proofs.Elements.{get_contains}
-use Rattle.swreq_orders.proofs.Members.{contains_map}
+use Rattle.swreq_lemmas.proofs.Elements.{get_contains}
+use Rattle.swreq_lemmas.proofs.Members.{contains_map}
 use Rattle.swreq_decl.specs.declared.skeleton.AssocDecl.{AssocDecl}
 use Rattle.swreq_decl.specs.declared.skeleton.FunctionDecl.{FunctionDecl}
 use Rattle.swreq_decl.specs.declared.skeleton.ProtocolDecl.{ProtocolDecl}

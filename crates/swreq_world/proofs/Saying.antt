@@ -6,8 +6,8 @@ use Rattle.std.proofs.lemmas.Slice.Eq.{bytes_eq-Decides}
 use Rattle.std.specs.List.{All, flat_map}
 use Rattle.std.specs.Option.{option_map}
 use Rattle.std.specs.Str.{bytes_eq}
-use Rattle.swreq_orders.proofs.Elements.{contains_get, get_contains}
-use Rattle.swreq_orders.proofs.Members.{contains_map, first_member, later_member}
+use Rattle.swreq_lemmas.proofs.Elements.{contains_get, get_contains}
+use Rattle.swreq_lemmas.proofs.Members.{contains_map, first_member, later_member}
 use Rattle.swreq_decl.specs.declared.skeleton.AssocDecl.{AssocDecl}
 use Rattle.swreq_decl.specs.declared.skeleton.Entity.{Entity}
 use Rattle.swreq_decl.specs.declared.skeleton.ProtocolDecl.{ProtocolDecl}

@@ -3,8 +3,8 @@ use Rattle.std.proofs.Common.{◌≡◌, ℕ, Bool, true, false, cond, [], ◌�
 use Rattle.std.proofs.lemmas.List.Elements.{Contains-append_right}
 use Rattle.std.specs.List.{flat_map}
 use Rattle.std.specs.Option.{option_map}
-use Rattle.swreq_orders.proofs.Elements.{get_contains}
-use Rattle.swreq_orders.proofs.Members.{contains_map, first_member, later_member}
+use Rattle.swreq_lemmas.proofs.Elements.{get_contains}
+use Rattle.swreq_lemmas.proofs.Members.{contains_map, first_member, later_member}
 use Rattle.swreq_decl.specs.declared.skeleton.Ask.{Ask}
 use Rattle.swreq_decl.specs.declared.skeleton.Ask.TheVariants as asked_for
 use Rattle.swreq_decl.specs.declared.skeleton.Entity.{Entity}

@@ -26,7 +26,7 @@ use Rattle.swreq_world.specs.Text.{outer_of, signature_in, signatures}
 use Rattle.swreq_world.specs.Worlds.{SignatureOver}
 use Rattle.swreq_world.proofs.Everywhere.{stands_mapped}
 use Rattle.swreq_world.proofs.WrittenOrder.{length_rest}
-use Rattle.swreq_orders.proofs.Elements.{get_either, get_after}
+use Rattle.swreq_lemmas.proofs.Elements.{get_either, get_after}
 
 -- The signature is of the text.
 abbrev pub IsIn : Skeleton → Signature → Type 0

@@ -2,8 +2,8 @@
 use Rattle.std.proofs.Common.{◌≡◌, ⊎_elim, ℕ, List, ◌++◌, map, Some, slice_get, Contains, refl, sym, ap, subst, ◌∙◌}
 use Rattle.std.proofs.lemmas.List.Elements.{Contains-append_cases}
 use Rattle.std.specs.List.{flat_map}
-use Rattle.swreq_orders.proofs.Elements.{get_contains}
-use Rattle.swreq_orders.proofs.Members.{contains_of_map, member_cases}
+use Rattle.swreq_lemmas.proofs.Elements.{get_contains}
+use Rattle.swreq_lemmas.proofs.Members.{contains_of_map, member_cases}
 use Rattle.swreq_decl.specs.declared.skeleton.AssocDecl.{AssocDecl}
 use Rattle.swreq_decl.specs.declared.skeleton.FunctionDecl.{FunctionDecl}
 use Rattle.swreq_decl.specs.declared.skeleton.ParamDecl.{ParamDecl}

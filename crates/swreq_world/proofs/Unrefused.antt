@@ -3,8 +3,8 @@ use Rattle.std.proofs.Common.{◌≡◌, ⊎_elim, ℕ, Bool, true, false, cond,
 use Rattle.std.proofs.lemmas.List.Elements.{All-contains, Contains-append_cases, Contains-get_or}
 use Rattle.std.specs.List.{All, flat_map}
 use Rattle.std.specs.Option.{option_map}
-use Rattle.swreq_orders.proofs.Elements.{get_contains}
-use Rattle.swreq_orders.proofs.Members.{no_member, contains_map, contains_of_map}
+use Rattle.swreq_lemmas.proofs.Elements.{get_contains}
+use Rattle.swreq_lemmas.proofs.Members.{no_member, contains_map, contains_of_map}
 use Rattle.swreq_decl.specs.declared.skeleton.Entity.{Entity}
 use Rattle.swreq_decl.specs.declared.skeleton.ProtocolDecl.{ProtocolDecl}
 use Rattle.swreq_decl.specs.declared.skeleton.QueryDecl.{QueryDecl}

@@ -19,7 +19,7 @@ use Rattle.swreq_world.specs.Entries.{around, entry_view, entry_meant, IsEntryOf
 use Rattle.swreq_world.specs.Own.{of_inner, own_list, own_signature}
 use Rattle.swreq_world.specs.Text.{list_of, of_nested, of_nested_in, of_struct, outer_of, signature_in}
 use Rattle.swreq_world.specs.Worlds.{SignatureOver}
-use Rattle.swreq_orders.proofs.Elements.{there_is}
+use Rattle.swreq_lemmas.proofs.Elements.{there_is}
 use Rattle.swreq_world.proofs.Everywhere.{all_at, at_mapped, past_mapped, stands_mapped}
 use Rattle.swreq_world.proofs.Standing.{IsIn, stands}
 

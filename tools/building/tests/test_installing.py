@@ -122,5 +122,5 @@ class Entries(Folder):
 class Words(unittest.TestCase):
     def test_one_prefix_is_wanted(self) -> None:
         for words in ([], ["--unproved"], ["a", "b"], ["--fly"], ["--fly", "a"], [""]):
-            self.assertIsNone(installing.prefix_in(words))
+            self.assertIsNone(installing.prefix_in(words), words)
         self.assertEqual(installing.prefix_in(["--unproved", "/usr"]), pathlib.Path("/usr"))

@@ -32,7 +32,7 @@ class Conditions(unittest.TestCase):
 
     def test_a_bad_condition_is_told(self):
         for text in ["", "&& a", "(a", "os("]:
-            with self.assertRaises(SourceError):
+            with self.subTest(text), self.assertRaises(SourceError):
                 is_true(text)
 
 
@@ -60,7 +60,7 @@ class Branches(unittest.TestCase):
 
     def test_what_is_not_closed_is_told(self):
         for text in ["#if true\nstruct A {}", "#endif", "#if false\nstruct A {}", "#else\n#endif"]:
-            with self.assertRaises(SourceError):
+            with self.subTest(text), self.assertRaises(SourceError):
                 names(text)
 
 

@@ -82,7 +82,7 @@ class Declarations(unittest.TestCase):
 
     def test_a_file_that_cannot_be_read_is_told_with_its_place(self):
         for text, line, column in [("func f(", 1, 8), ("struct {", 1, 8), ("\n}", 2, 1), ("protocol P: { }", 1, 13), ("func f<T(x: T)", 1, 9), ("extension A", 1, 12)]:
-            with self.assertRaises(SourceError) as raised:
+            with self.subTest(text), self.assertRaises(SourceError) as raised:
                 declared(text)
             self.assertEqual((raised.exception.place.line, raised.exception.place.column), (line, column), text)
 

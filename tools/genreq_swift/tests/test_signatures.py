@@ -252,7 +252,7 @@ class ConcreteTypes(unittest.TestCase):
 
     def test_what_has_generic_arguments_or_is_not_declared_is_left_out_still(self):
         for text in ["func f<T: P>() where T.A == [Key] {}", "func f<T: P>() where T.A == Unknown {}", "func f<T: P>() where T.A == (Key, Key) {}"]:
-            self.assertEqual(self.concrete(text), ("<T where T : P>", Status.INCOMPLETE))
+            self.assertEqual(self.concrete(text), ("<T where T : P>", Status.INCOMPLETE), text)
 
 
 class Protocols(unittest.TestCase):

@@ -40,9 +40,9 @@ class Tokens(unittest.TestCase):
 
     def test_what_is_not_closed_is_told_with_its_place(self):
         for text, line, column in [('\n "a\n', 2, 2), ("/* /* */", 1, 1), ('é"""\n', 1, 3)]:
-            with self.assertRaises(SourceError) as raised:
+            with self.subTest(text), self.assertRaises(SourceError) as raised:
                 texts(text)
-            self.assertEqual(raised.exception.place, Place("f", line, column))
+            self.assertEqual(raised.exception.place, Place("f", line, column), text)
 
     def test_braces_in_literals_and_comments_do_not_count(self):
         body = '{ let s = "}" + #"}"# /* } */ // }\n let r = /}/; `}`; { } }'
@@ -51,7 +51,7 @@ class Tokens(unittest.TestCase):
     def test_an_operator_leaves_the_generic_parameters_behind_it(self):
         for text, name in [("==<T>(", "=="), ("<<T>(", "<"), ("< <T>(", "<"), (">>(", ">>"), ("/(a: T) -> T { a/b }", "/"), ("...(", "...")]:
             operator = Source("f", text).operator(0)
-            self.assertEqual(operator and operator.text, name)
+            self.assertEqual(operator and operator.text, name, text)
 
     def test_columns_count_bytes(self):
         self.assertEqual(Source("f", "a\n  é x").place(6), Place("f", 2, 6))

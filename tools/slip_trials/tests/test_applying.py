@@ -36,5 +36,5 @@ class Applying(unittest.TestCase):
 
     def test_an_edit_of_another_form_is_refused(self) -> None:
         for lines in ([], ["file: src/gone.rt"], ["old: a", "new: b"], ["file: src/lib.rt", "new: b"]):
-            with self.assertRaises(HouseFault):
+            with self.subTest(lines), self.assertRaises(HouseFault):
                 self.applied(*lines)

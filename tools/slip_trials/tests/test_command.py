@@ -27,7 +27,7 @@ class Command(unittest.TestCase):
     def slip(self, name: str) -> None:
         folder = self.top / "crates/low/slips"
         folder.mkdir(parents=True, exist_ok=True)
-        (folder / (name + ".edit")).write_text("file: src/lib.rt\nold: right\nnew: %s\n" % name)
+        (folder / (name + ".edit")).write_text("# Refused by the prover.\nfile: src/lib.rt\nold: right\nnew: %s\n" % name)
 
     def source(self, text: str) -> None:
         (self.top / "crates/low/src").mkdir(exist_ok=True)

@@ -16,7 +16,7 @@ class SlipsOfAHouse(unittest.TestCase):
         for path in paths:
             file = self.top / "crates" / path
             file.parent.mkdir(parents=True, exist_ok=True)
-            file.write_text("")
+            file.write_text("# Refused by the prover.\n")
 
     def test_the_edits_of_the_gate_are_no_slips(self) -> None:
         self.write("low/must-fail/wrong.edit", "low/slips/worse.edit", "high/must-fail/bad.edit")
@@ -30,6 +30,12 @@ class SlipsOfAHouse(unittest.TestCase):
     def test_a_file_that_is_no_edit_is_refused(self) -> None:
         self.write("low/slips/wrong.edit~")
         with self.assertRaisesRegex(HouseFault, "wrong.edit~ is no edit"):
+            slips_of(self.top)
+
+    def test_an_edit_that_does_not_say_what_refuses_it_is_refused(self) -> None:
+        self.write("low/must-fail/wrong.edit")
+        (self.top / "crates/low/must-fail/wrong.edit").write_text("file: src/lib.rt\n")
+        with self.assertRaisesRegex(HouseFault, "edit low/wrong: its first line does not begin with `# Refused by`"):
             slips_of(self.top)
 
 

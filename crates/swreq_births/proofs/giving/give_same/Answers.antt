@@ -35,19 +35,16 @@ add_trans-requires-clause-first c =
 
 pub add_trans-requires-clause-second : goal.add_trans-requires-clause-second
 add_trans-requires-clause-second c =
-    let g = c.args.alphabet.now in
     let s = c.args.derivation.now in
     let s1 = c.put_same.new.derivation in
-    let s2 = c.read_word.new.derivation in
-    let s3 = c.read_word-2.new.derivation in
     let s4 = c.add_symm.new.derivation in
-    let after = grows_then s1 s3 s4
-    (grows_then s1 s2 s3 c.in_ok-first.ensures.grows c.in_ok-last.ensures.grows) c.in_ok-add_symm.ensures.grows in
+    let after = grows_then s1 _ s4
+    (grows_then s1 _ _ c.in_ok-first.ensures.grows c.in_ok-last.ensures.grows) c.in_ok-add_symm.ensures.grows in
     let grows = grows_then s s1 s4 c.in_ok-put_same.ensures.grows after in (
       is_still s s4 grows c.args.ids.0 c.requires.left.id,
       is_still s s4 grows c.args.ids.1 c.requires.right.id,
       equal_as s4 _ _ _ _ (term_still s s4 grows c.args.ids.0 c.requires.left.id) (term_still s s4 grows c.args.ids.1 c.requires.right.id)
-          (equal_still g s1 s4 after _ _ c.in_ok-put_same.ensures.equal),
+          (equal_still c.args.alphabet.now s1 s4 after _ _ c.in_ok-put_same.ensures.equal),
     )
 
 pub add_trans-requires-2-clause-first : goal.add_trans-requires-2-clause-first
@@ -67,13 +64,11 @@ pub add_trans-requires-2-clause-second : goal.add_trans-requires-2-clause-second
 add_trans-requires-2-clause-second c =
     let g = c.args.alphabet.now in
     let s = c.args.derivation.now in
-    let s1 = c.put_same.new.derivation in
     let s2 = c.read_word.new.derivation in
     let s3 = c.read_word-2.new.derivation in
-    let s4 = c.add_symm.new.derivation in
     let s5 = c.add_trans.new.derivation in
-    let g2 = grows_then s s1 s2 c.in_ok-put_same.ensures.grows c.in_ok-first.ensures.grows in
-    let after = grows_then s3 s4 s5 c.in_ok-add_symm.ensures.grows c.in_ok-add_trans.ensures.grows in
+    let g2 = grows_then s _ s2 c.in_ok-put_same.ensures.grows c.in_ok-first.ensures.grows in
+    let after = grows_then s3 _ s5 c.in_ok-add_symm.ensures.grows c.in_ok-add_trans.ensures.grows in
     let grows = grows_then s s3 s5 (grows_then s s2 s3 g2 c.in_ok-last.ensures.grows) after in (
       is_still s s5 grows c.args.ids.1 c.requires.right.id,
       is_still s3 s5 after c.in_ok-last.last c.in_ok-last.ensures.is_of,

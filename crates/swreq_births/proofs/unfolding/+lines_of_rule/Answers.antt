@@ -57,34 +57,26 @@ lines_of_rule-lines_of_rule-requires = rules.lines_of_rule-lines_of_rule-require
 
 pub lines_of_rule-returns-then-said-clause-both : goal.lines_of_rule-returns-then-said-clause-both
 lines_of_rule-returns-then-said-clause-both t c =
-    both_as c.args.history.now.alphabet c.are_read_equal.new.derivation _ _ _ _ _ _ refl c.symbols.ensures c.symbols-2.ensures
+    both_as c.args.history.now.alphabet c.are_read_equal.new.derivation _ _ _ _ _ _ refl c.symbols-left.ensures c.symbols-right.ensures
     (c.in_ok-said.ensures.told.0 c.if-said.true)
 
-pub lines_of_rule-from_equation-requires : goal.lines_of_rule-from_equation-requires
-lines_of_rule-from_equation-requires = rules.lines_of_rule-from_equation-requires
+pub lines_of_rule-equation_at-equation-requires : goal.lines_of_rule-equation_at-equation-requires
+lines_of_rule-equation_at-equation-requires = rules.lines_of_rule-equation_at-equation-requires
+
+pub lines_of_rule-give_equation-requires : goal.lines_of_rule-give_equation-requires
+lines_of_rule-give_equation-requires = rules.lines_of_rule-give_equation-requires
+
+pub lines_of_rule-settle-requires : goal.lines_of_rule-settle-requires
+lines_of_rule-settle-requires = rules.lines_of_rule-settle-requires
 
 pub lines_of_rule-from_pair-requires : goal.lines_of_rule-from_pair-requires
 lines_of_rule-from_pair-requires = rules.lines_of_rule-from_pair-requires
 
-pub lines_of_rule-returns-in_ok-from_equation-in-Given : goal.lines_of_rule-returns-in_ok-from_equation-in-Given
-lines_of_rule-returns-in_ok-from_equation-in-Given = rules.lines_of_rule-returns-in_ok-from_equation-in-Given
+pub lines_of_rule-returns-in_ok-settle-in-Given : goal.lines_of_rule-returns-in_ok-settle-in-Given
+lines_of_rule-returns-in_ok-settle-in-Given = rules.lines_of_rule-returns-in_ok-settle-in-Given
 
 pub lines_of_rule-returns-in_ok-from_pair-in-Pair : goal.lines_of_rule-returns-in_ok-from_pair-in-Pair
 lines_of_rule-returns-in_ok-from_pair-in-Pair = rules.lines_of_rule-returns-in_ok-from_pair-in-Pair
-
--- ---- a rule born of an equation
-
-pub from_equation-equation_at-equation-requires : goal.from_equation-equation_at-equation-requires
-from_equation-equation_at-equation-requires = rules.from_equation-equation_at-equation-requires
-
-pub from_equation-give_equation-requires : goal.from_equation-give_equation-requires
-from_equation-give_equation-requires = rules.from_equation-give_equation-requires
-
-pub from_equation-settle-requires : goal.from_equation-settle-requires
-from_equation-settle-requires = rules.from_equation-settle-requires
-
-pub from_equation-returns : goal.from_equation-returns
-from_equation-returns = rules.from_equation-returns
 
 -- ---- a rule born of a pair
 
@@ -100,8 +92,9 @@ from_pair-lines_of_rule-requires = rules.from_pair-lines_of_rule-requires
 pub from_pair-first_symbols-part-requires : goal.from_pair-first_symbols-part-requires
 from_pair-first_symbols-part-requires t c =
     let place = c.args.place in
-    let p = pair_here c.requires.rule place c.requires.born c.all_rules-rules.ensures c.rule_of-first.ensures c.rule_of-second.ensures in
-    subst (λ z. place.at ≤ length z) (sym c.symbols.ensures) (within_first c.requires.rule p)
+    let p = pair_here c.requires.asked.rule place c.requires.born c.all_rules-rules.ensures c.rule_of-first.ensures
+    c.rule_of-second.ensures in
+    subst (λ z. place.at ≤ length z) (sym c.symbols.ensures) (within_first c.requires.asked.rule p)
 
 pub from_pair-lines_of_rule-requires-2 : goal.from_pair-lines_of_rule-requires-2
 from_pair-lines_of_rule-requires-2 = rules.from_pair-lines_of_rule-requires-2
@@ -111,7 +104,7 @@ from_pair-read_pair-requires = rules.from_pair-read_pair-requires
 
 pub from_pair-pair_sides-requires : goal.from_pair-pair_sides-requires
 from_pair-pair_sides-requires t c =
-    let p = paired_at c.requires.rule c.args.place c.requires.born in
+    let p = paired_at c.requires.asked.rule c.args.place c.requires.born in
     (p.left, p.right, subst (λ z. IsPair z c.args.place p.left p.right) (sym c.all_rules-rules.ensures) p.pair)
 
 pub from_pair-settle-requires : goal.from_pair-settle-requires
@@ -137,8 +130,8 @@ give_equation-give_required-requires = requirements.give_equation-give_required-
 pub give_equation-returns-in_ok-give_required-in-Required-clause-both
     : goal.give_equation-returns-in_ok-give_required-in-Required-clause-both
 give_equation-returns-in_ok-give_required-in-Required-clause-both t c =
-    both_as c.args.history.now.alphabet c.give_required.new.derivation _ _ _ _ _ _ refl c.symbols.ensures c.symbols-in-Required.ensures
-    c.in_ok-give_required-in-Required.ensures.both
+    both_as c.args.history.now.alphabet c.give_required.new.derivation _ _ _ _ _ _ refl c.sides_of-words.ensures.from
+    c.sides_of-words.ensures.to c.in_ok-give_required-in-Required.ensures.both
 
 pub give_equation-returns-in_ok-give_required-in-Required-clause-derives
     : goal.give_equation-returns-in_ok-give_required-in-Required-clause-derives
@@ -153,19 +146,19 @@ pub give_required-read_type-requires : goal.give_required-read_type-requires
 give_required-read_type-requires t c =
     let shown = sides_as c.args.history.now.alphabet c.args.scope.owner (rules_at c.args.history.now c.args.scope.system) _ _
     c.args.words.from.now c.args.words.to.now c.in-Conf.is c.requires.shown in
-    (omega (arith, c.decreases), (c.requires.system, (c.requires.derivation, (c.requires.for_self, (c.requires.owner, shown.0)))))
+    let now = c.requires.scope in (omega (arith, c.decreases), (now.system, (now.derivation, (now.for_self, (now.owner, shown.0)))))
 
 pub give_required-read_type-requires-in-Layout : goal.give_required-read_type-requires-in-Layout
 give_required-read_type-requires-in-Layout t c =
     let shown = sides_as c.args.history.now.alphabet c.args.scope.owner (rules_at c.args.history.now c.args.scope.system) _ _
     c.args.words.from.now c.args.words.to.now c.in-Layout.is c.requires.shown in
-    (omega (arith, c.decreases), (c.requires.system, (c.requires.derivation, (c.requires.for_self, (c.requires.owner, shown.0)))))
+    let now = c.requires.scope in (omega (arith, c.decreases), (now.system, (now.derivation, (now.for_self, (now.owner, shown.0)))))
 
 pub give_required-read_type-requires-in-Same : goal.give_required-read_type-requires-in-Same
 give_required-read_type-requires-in-Same t c =
     let shown = sides_as c.args.history.now.alphabet c.args.scope.owner (rules_at c.args.history.now c.args.scope.system) _ _
     c.args.words.from.now c.args.words.to.now c.in-Same.is c.requires.shown in
-    (omega (arith, c.decreases), (c.requires.system, (c.requires.derivation, (c.requires.for_self, (c.requires.owner, shown.0)))))
+    let now = c.requires.scope in (omega (arith, c.decreases), (now.system, (now.derivation, (now.for_self, (now.owner, shown.0)))))
 
 pub give_required-read_type-requires-in-Same-2 : goal.give_required-read_type-requires-in-Same-2
 give_required-read_type-requires-in-Same-2 = requirements.give_required-read_type-requires-in-Same-2
@@ -268,16 +261,19 @@ pub settle-returns-in_err-close-clause-grows : goal.settle-returns-in_err-close-
 settle-returns-in_err-close-clause-grows t c =
     grows_then _ _ _ (grows_then _ _ _ c.in_ok-first.ensures.grows c.in_ok-last.ensures.grows) c.in_err-close.ensures.grows
 
-pub lines_of_rule-returns-in_err-from_equation-in-Given-clause-grows : goal.lines_of_rule-returns-in_err-from_equation-in-Given-clause-grows
-lines_of_rule-returns-in_err-from_equation-in-Given-clause-grows t c =
-    grows_then _ _ _ c.in_ok-said.ensures.grows c.in_err-from_equation-in-Given.ensures.grows
+pub lines_of_rule-returns-in_err-give_equation-in-Given-clause-grows
+    : goal.lines_of_rule-returns-in_err-give_equation-in-Given-clause-grows
+lines_of_rule-returns-in_err-give_equation-in-Given-clause-grows t c =
+    grows_then _ _ _ c.in_ok-said.ensures.grows c.in_err-give_equation-in-Given.ensures.grows
+
+pub lines_of_rule-returns-in_err-settle-in-Given-clause-grows : goal.lines_of_rule-returns-in_err-settle-in-Given-clause-grows
+lines_of_rule-returns-in_err-settle-in-Given-clause-grows t c =
+    grows_then _ _ _ (grows_then _ _ _ c.in_ok-said.ensures.grows c.in_ok-give_equation-in-Given.ensures.grows)
+    c.in_err-settle-in-Given.ensures.grows
 
 pub lines_of_rule-returns-in_err-from_pair-in-Pair-clause-grows : goal.lines_of_rule-returns-in_err-from_pair-in-Pair-clause-grows
 lines_of_rule-returns-in_err-from_pair-in-Pair-clause-grows t c =
     grows_then _ _ _ c.in_ok-said.ensures.grows c.in_err-from_pair-in-Pair.ensures.grows
-
-pub from_equation-returns-in_err-settle-clause-grows : goal.from_equation-returns-in_err-settle-clause-grows
-from_equation-returns-in_err-settle-clause-grows t c = grows_then _ _ _ c.in_ok-give_equation.ensures.grows c.in_err-settle.ensures.grows
 
 pub from_pair-returns-in_err-v-clause-grows : goal.from_pair-returns-in_err-v-clause-grows
 from_pair-returns-in_err-v-clause-grows t c = grows_then _ _ _ c.in_ok-lines_of_rule.ensures.grows c.in_err-v.ensures.grows

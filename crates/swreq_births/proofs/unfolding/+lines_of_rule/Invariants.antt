@@ -29,9 +29,6 @@ invariant-walk_along-loop-k l = record {
 abbrev pub decreases-settle : goal.decreases-settle
 decreases-settle l = l.at.system * 1099511627776 + (l.at.rule * 16 + 4)
 
-abbrev pub decreases-from_equation : goal.decreases-from_equation
-decreases-from_equation l = l.at.system * 1099511627776 + (l.at.rule * 16 + 6)
-
 abbrev pub decreases-from_pair : goal.decreases-from_pair
 decreases-from_pair l = l.at.system * 1099511627776 + (l.at.rule * 16 + 6)
 

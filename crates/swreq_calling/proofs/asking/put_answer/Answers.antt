@@ -1,8 +1,8 @@
 use Rattle.std.proofs.Common.{◌≡◌, refl}
 use Rattle.swreq_complete.specs.declared.limit.Limits.{Limits}
-use Rattle.swreq_valid.specs.Machines.{IsMachineOf, list_of}
+use Rattle.swreq_machine.specs.Machines.{IsMachineOf, list_of}
 use Rattle.swreq_valid.specs.Rounds.{AreRounds, last_rules}
-use Rattle.swreq_valid.proofs.OfSignatures.{as_read}
+use Rattle.swreq_machine.proofs.OfSignatures.{as_read}
 use Rattle.swreq_world.specs.ByTable.{world_by}
 use Rattle.swreq_calling.proofs.asking.put_answer.Goals as goal
 

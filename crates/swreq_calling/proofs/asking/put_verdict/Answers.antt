@@ -1,8 +1,8 @@
 use Rattle.std.proofs.Common.{refl}
 use Rattle.swreq_derive.specs.Derivation.TermStatement.{Requires}
 use Rattle.swreq_derive.specs.Facts.{requirement_of}
-use Rattle.swreq_valid.specs.Asked.{IsDerivable}
-use Rattle.swreq_valid.proofs.OfSignatures.{as_meant}
+use Rattle.swreq_machine.specs.Asked.{IsDerivable}
+use Rattle.swreq_machine.proofs.OfSignatures.{as_meant}
 use Rattle.swreq_world.specs.ByTable.{world_by}
 use Rattle.swreq_calling.proofs.asking.put_verdict.Goals as goal
 

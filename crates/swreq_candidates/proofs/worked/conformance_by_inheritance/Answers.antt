@@ -3,7 +3,7 @@ use Rattle.swreq_param.specs.Terms.{self}
 use Rattle.swreq_derive.specs.Derivation.Derives.{generic}
 use Rattle.swreq_derive.specs.Derivation.TermRequirement.{Conforms}
 use Rattle.swreq_derive.specs.Worked.{τ_0_0}
-use Rattle.swreq_orders.proofs.Members.{each_member}
+use Rattle.swreq_lemmas.proofs.Members.{each_member}
 use Rattle.swreq_word.specs.declared.symbols.Symbol.TheVariants.{Proto}
 use Rattle.swreq_word.specs.Relations.Chain.{done, more}
 use Rattle.swreq_word.proofs.Chains.{at_once}

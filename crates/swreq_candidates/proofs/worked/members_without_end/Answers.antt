@@ -4,7 +4,7 @@ use Rattle.swreq_derive.specs.Derivation.Derives.{generic, conf}
 use Rattle.swreq_derive.specs.Derivation.TermRequirement.{Conforms}
 use Rattle.swreq_derive.specs.Worked.{declared, of_one, param, τ_0_0, N, Missing, Next, Next_of_N, endless, endless_f}
 use Rattle.swreq_derive.proofs.WorkedDerivations.{endless_conforms, endless_next}
-use Rattle.swreq_orders.proofs.Members.{only_member}
+use Rattle.swreq_lemmas.proofs.Members.{only_member}
 use Rattle.swreq_word.specs.declared.symbols.Symbol.TheVariants.{Proto}
 use Rattle.swreq_word.proofs.Chains.{at_once}
 use Rattle.swreq_word.proofs.Comparing.{by_length}

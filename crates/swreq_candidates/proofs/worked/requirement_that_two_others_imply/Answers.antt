@@ -8,7 +8,7 @@ use Rattle.swreq_derive.specs.Derivation.TermRequirement.{Conforms, Equals}
 use Rattle.swreq_derive.specs.Derivation.TermStatement.{IsValid}
 use Rattle.swreq_derive.specs.Inheritance.LeadsTo.{here}
 use Rattle.swreq_derive.specs.Worked.{◌·◌, bound, τ_0_0, τ_0_1, P, Q, A, A_of_P}
-use Rattle.swreq_orders.proofs.Members.{each_member, first_member, only_member}
+use Rattle.swreq_lemmas.proofs.Members.{each_member, first_member, only_member}
 use Rattle.swreq_word.specs.declared.symbols.Symbol.TheVariants.{Proto, Member, Name}
 use Rattle.swreq_word.specs.Relations.Chain.{done, more}
 use Rattle.swreq_correspondence.specs.Equations.{Linking}

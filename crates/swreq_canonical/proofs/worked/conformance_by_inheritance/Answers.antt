@@ -13,7 +13,7 @@ use Rattle.swreq_derive.specs.Reduced.{IsReduced}
 use Rattle.swreq_derive.specs.Worked.{by_rank, of_one, param, τ_0_0}
 use Rattle.swreq_derive.proofs.ByInheritance.{by_inheritance, conformance_is_no_layout, conformance_is_no_same_type, subject_of}
 use Rattle.swreq_derive.proofs.Guard.{sound}
-use Rattle.swreq_orders.proofs.Members.{each_member, no_member, only_member}
+use Rattle.swreq_lemmas.proofs.Members.{each_member, no_member, only_member}
 use Rattle.swreq_derive.proofs.NoConformance.{says}
 use Rattle.swreq_derive.proofs.Substitution.{derives_members}
 use Rattle.swreq_canonical.specs.Canonical.{IsCanonical}

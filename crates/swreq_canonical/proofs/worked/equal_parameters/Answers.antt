@@ -13,7 +13,7 @@ use Rattle.swreq_derive.specs.Worked.{by_rank, of_two, param, τ_0_0, τ_0_1, P,
 use Rattle.swreq_derive.proofs.Guard.{sound}
 use Rattle.swreq_derive.proofs.Lengths.{IsAlike, alike}
 use Rattle.swreq_derive.proofs.Listed.{none_listed}
-use Rattle.swreq_orders.proofs.Members.{Each, each_member, member_cases, no_member, only_member}
+use Rattle.swreq_lemmas.proofs.Members.{Each, each_member, member_cases, no_member, only_member}
 use Rattle.swreq_derive.proofs.NoConformance.{IsBare, says}
 use Rattle.swreq_derive.proofs.ReducedTypes.{reduced_is_one}
 use Rattle.swreq_canonical.specs.Canonical.{IsCanonical}

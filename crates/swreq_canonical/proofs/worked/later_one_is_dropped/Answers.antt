@@ -9,7 +9,7 @@ use Rattle.swreq_derive.specs.Worked.{declared, members, members_requirements, Ï
 use Rattle.swreq_derive.proofs.Guard.{sound}
 use Rattle.swreq_derive.proofs.Lengths.{IsAlike, alike}
 use Rattle.swreq_derive.proofs.Listed.{none_listed}
-use Rattle.swreq_orders.proofs.Members.{each_member}
+use Rattle.swreq_lemmas.proofs.Members.{each_member}
 use Rattle.swreq_derive.proofs.NoConformance.{IsBare, says}
 use Rattle.swreq_canonical.specs.Minimised.Leaves.{dropped, kept, nothing}
 use Rattle.swreq_canonical.specs.Worked.{two}

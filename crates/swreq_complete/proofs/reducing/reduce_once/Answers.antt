@@ -8,8 +8,8 @@ use Rattle.swreq_complete.proofs.reducing.reduce_once.Goals as goal
 
 pub take_step_of-requires : goal.take_step_of-requires
 take_step_of-requires c =
-    let rules = c.args.rules.now in let w = c.args.word.now.items in let redex = c.in-Some.redex in
-    let first = subst (λ u. FirstRedex rules u redex.at redex.number) c.deref.ensures.value c.in-Some.ensures in
+    let rules = c.args.rules.now in let w = c.args.word.now.items in let redex = c.in_ok-redex.redex in
+    let first = subst (λ u. FirstRedex rules u redex.at redex.number) c.deref.ensures.value c.in_ok-redex.ensures in
     record {
       rules = rules;
       number = redex.number;
@@ -17,13 +17,14 @@ take_step_of-requires c =
       redex = first;
     }
 
-pub returns-in-None-clause-step : goal.returns-in-None-clause-step
-returns-in-None-clause-step c = (refl, subst (IsIrreducible (Step c.args.rules.now)) c.deref.ensures.value c.in-None.ensures)
+pub returns-in_err-redex-clause-step : goal.returns-in_err-redex-clause-step
+returns-in_err-redex-clause-step c =
+    rw c.from_residual.ensures (refl, subst (IsIrreducible (Step c.args.rules.now)) c.deref.ensures.value c.in_err-redex.ensures)
 
-pub returns-in-Some-clause-step : goal.returns-in-Some-clause-step
-returns-in-Some-clause-step c =
-    let rules = c.args.rules.now in let w = c.args.word.now.items in let redex = c.in-Some.redex in
-    let first = subst (λ u. FirstRedex rules u redex.at redex.number) c.deref.ensures.value c.in-Some.ensures in
+pub returns-clause-step : goal.returns-clause-step
+returns-clause-step c =
+    let rules = c.args.rules.now in let w = c.args.word.now.items in let redex = c.in_ok-redex.redex in
+    let first = subst (λ u. FirstRedex rules u redex.at redex.number) c.deref.ensures.value c.in_ok-redex.ensures in
     rw c.saturating_sub.ensures
     (steps_past rules w c.take_step_of.new.w.items redex.at redex.number c.args.longest first
     (c.take_step_of.ensures.step rules redex.number

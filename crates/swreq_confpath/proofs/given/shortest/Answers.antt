@@ -36,16 +36,12 @@ find-requires-clause-target c = c.in_ok-target.ensures.stands Start tt
 
 pub returns : goal.returns
 returns c =
-    let s : Sought = record {
-      alloc = c.args.alloc;
-      world = c.args.world;
-      table = c.args.table;
-      machine = c.args.machine;
-      list = c.deref.result;
-      changed = c.deref-2.result;
-      subject = c.args.t;
-      proto = c.args.p;
-    } in
+    let a = c.args in
+    let l = c.deref.result in
+    let h = c.deref-2.result in
+    let t = a.t in
+    let s : Sought
+    = record { alloc = a.alloc; world = a.world; table = a.table; machine = a.machine; list = l; changed = h; subject = t; proto = a.p } in
     record {
       path = IfOk-weaker c.find.result _ _
           (λ path h. given_of s c.args.f c.requires.text c.requires.short c.requires.machine

@@ -1,6 +1,6 @@
 use Rattle.std.proofs.Common.{subst}
 use Rattle.std.proofs.lemmas.Result.{IfOk-weaker}
-use Rattle.swreq_orders.proofs.Elements.{there_is}
+use Rattle.swreq_lemmas.proofs.Elements.{there_is}
 use Rattle.swreq_derive.specs.Instances.{HasNumber}
 use Rattle.swreq_derive.proofs.InstanceLemmas.{contains_number}
 use Rattle.swreq_symbols.specs.Known.{IsRequirementIn}

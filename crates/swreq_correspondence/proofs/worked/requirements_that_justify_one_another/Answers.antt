@@ -8,7 +8,7 @@ use Rattle.swreq_word.specs.declared.symbols.Symbol.TheVariants.{Param as ParamS
 use Rattle.swreq_derive.specs.Derivation.{TermRequirement}
 use Rattle.swreq_derive.specs.Derivation.TermRequirement.{Conforms, IsAnyObject, Equals}
 use Rattle.swreq_derive.specs.Worked.{◌·◌, of_one, τ_0_0, Q, A, B, circular, circular_f}
-use Rattle.swreq_orders.proofs.Members.{member_cases, only_member}
+use Rattle.swreq_lemmas.proofs.Members.{member_cases, only_member}
 use Rattle.swreq_correspondence.specs.Symbols.{Word}
 use Rattle.swreq_correspondence.specs.Equations.{UsableEquation, UsableIn}
 use Rattle.swreq_correspondence.specs.Equations.Equation.{twice, member, of_protocol, of_source}

@@ -7,11 +7,6 @@ use Rattle.swreq_derivation.proofs.validity.add_assoc_decl.Goals as goal
 pub returns-clause-derives : goal.returns-clause-derives
 returns-clause-derives c b d h e =
     let terms = c.args.derivation.now.table in
-    c.in_ok-from_one.ensures.derives b (
-      term_at terms c.args.subject,
-      d,
-      ap (λ y. statement_of terms y ∷ []) c.conf_statement.ensures,
-      ap
-          (statement_of terms) c.valid_statement.ensures ∙ ap IsValid e,
-      h,
-    )
+    let conforms = ap (λ y. statement_of terms y ∷ []) c.conf_statement.ensures in
+    let valid = ap (statement_of terms) c.valid_statement.ensures ∙ ap IsValid e in
+    c.in_ok-from_one.ensures.derives b (term_at terms c.args.subject, d, conforms, valid, h)

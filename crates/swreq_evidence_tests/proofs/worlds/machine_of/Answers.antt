@@ -5,13 +5,13 @@ use Rattle.swreq_world.specs.FactsAt.{source_of}
 use Rattle.swreq_world.specs.Worlds.{signature_at}
 use Rattle.swreq_evidence_tests.proofs.worlds.machine_of.Goals as goal
 
-pub returns-in-Ok : goal.returns-in-Ok
-returns-in-Ok c =
+pub returns : goal.returns
+returns c =
     let w = world_by c.args.table.now c.args.world.now in
     let g = signature_at w c.args.f in record {
       signature = c.requires.f;
       protocols = c.requires.formed;
-      list = list_formed (facts_of w) (source_of g) g.requirements c.in-Ok.ensures.answer.1.1;
-      machine = c.in-Ok.ensures.machine;
-      params = c.in-Ok.ensures.params;
+      list = list_formed (facts_of w) (source_of g) g.requirements c.in_ok-machine.ensures.answer.1.1;
+      machine = c.in_ok-machine.ensures.machine;
+      params = c.in_ok-machine.ensures.params;
     }

@@ -1,6 +1,7 @@
 use Rattle.swreq_world.specs.ByTable.{world_by}
 use Rattle.swreq_evidence_tests.proofs.worlds.protocols_of.Goals as goal
 
-pub returns-in-Ok-clause-formed : goal.returns-in-Ok-clause-formed
-returns-in-Ok-clause-formed c =
-    c.valid_sides_are_well_formed.ensures (world_by c.args.table.now c.args.world.now) c.requires.text.closed c.in-Ok.ensures.answer.1.1
+pub returns-clause-formed : goal.returns-clause-formed
+returns-clause-formed c =
+    c.valid_sides_are_well_formed.ensures (world_by c.args.table.now c.args.world.now) c.requires.text.closed
+    c.in_ok-protocols.ensures.answer.1.1

@@ -1,7 +1,7 @@
 use Rattle.swreq_readings.specs.declared.alphabet.WrittenInheritance.{WrittenInheritance}
 use Rattle.std.proofs.Common.{◌+◌, Vec, Global, List, Some, arith, ap, get_or, length, map, slice_get, sym, subst, ◌∙◌, ◌≡◌}
 use Rattle.std.proofs.lemmas.Option.{slice_get-get_or}
-use Rattle.swreq_orders.proofs.Elements.{get_contains, get_of_map}
+use Rattle.swreq_lemmas.proofs.Elements.{get_contains, get_of_map}
 use Rattle.swreq_derive.specs.declared.requirements.Requirement.{Requirement}
 use Rattle.swreq_derive.specs.declared.requirements.Requirement.TheVariants.{Conf}
 use Rattle.swreq_derive.specs.Facts.{requirement_of}

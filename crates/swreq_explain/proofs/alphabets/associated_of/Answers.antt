@@ -1,6 +1,6 @@
 use Rattle.std.proofs.Common.{[], ◌∷◌, ◌++◌, ◌∙◌, add-one, ap, map, take}
 use Rattle.std.proofs.lemmas.List.{map-append}
-use Rattle.swreq_orders.proofs.Elements.{take_one}
+use Rattle.swreq_lemmas.proofs.Elements.{take_one}
 use Rattle.swreq_explain.specs.TextAlphabet.{named_by}
 use Rattle.swreq_explain.proofs.alphabets.associated_of.Goals as goal
 

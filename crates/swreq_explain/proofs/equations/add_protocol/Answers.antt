@@ -1,6 +1,6 @@
 use Rattle.std.proofs.Common.{◌≡◌, ◌∙◌, [], ◌∷◌, ◌++◌, append_assoc, ap, arith, length, map, slice_get}
 use Rattle.std.proofs.lemmas.List.{length-map, map-append}
-use Rattle.swreq_orders.proofs.Elements.{get_map, there_is}
+use Rattle.swreq_lemmas.proofs.Elements.{get_map, there_is}
 use Rattle.swreq_rounds.specs.Given.{doubled, named_from}
 use Rattle.swreq_symbols.specs.Meaning.{member_name, symbols_of}
 use Rattle.swreq_valid.proofs.OfProtocols.{name_more, names_all}

@@ -1,6 +1,6 @@
 use Rattle.std.proofs.Common.{[], ◌∷◌, ◌++◌, None, Some, add-one, append_assoc, ap, arith, false, get_or, length, slice_get, subst, sym, take, ◌∙◌, ◌≡◌}
 use Rattle.std.proofs.lemmas.Option.{slice_get-get_or}
-use Rattle.swreq_orders.proofs.Elements.{get_contains, there_is}
+use Rattle.swreq_lemmas.proofs.Elements.{get_contains, there_is}
 use Rattle.swreq_derive.specs.declared.requirements.Requirement.TheVariants.{Conf}
 use Rattle.swreq_symbols.specs.Meaning.{symbols_of}
 use Rattle.swreq_valid.specs.Flags.{chosen}

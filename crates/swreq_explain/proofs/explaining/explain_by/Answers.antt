@@ -43,11 +43,10 @@ returns-clause-derived c = λ f r asks.
     let old = c.args.table.now in
     let new = c.derive.new.table in
     let w = c.args.world.now in
-    let ls = c.in_ok-lines-in-Some.lines.items in
     let written = c.in_ok-lines-in-Some.ensures.written in
     let (g, l, is, answer) = c.requires.yes in
     let same = asks_one c.args.query.now g f answer.requirement r answer.asks asks in
-    subst (λ z. AreDerived new (facts_at w z) ls) same
+    subst (λ z. AreDerived new (facts_at w z) c.in_ok-lines-in-Some.lines.items) same
     (written.derived (assumptions_of (world_by old w) g) (facts_at w g) is.fits
     (assumptions_over old new w g written.extends c.requires.text.table))
 
@@ -68,12 +67,12 @@ returns-clause-lines c = λ f r asks.
 
 pub returns-clause-ids : goal.returns-clause-ids
 returns-clause-ids c =
-    let old = c.args.table.now in
     let new = c.derive.new.table in
     let w = c.args.world.now in
     let ls = c.in_ok-lines-in-Some.lines.items in
     let written = c.in_ok-lines-in-Some.ensures.written in
     let (g, l, is, answer) = c.requires.yes in
+    let old = c.args.table.now in
     let derived =
     written.derived (assumptions_of (world_by old w) g) (facts_at w g) is.fits
     (assumptions_over old new w g written.extends c.requires.text.table) in

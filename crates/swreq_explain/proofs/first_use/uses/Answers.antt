@@ -1,6 +1,6 @@
 use Rattle.std.proofs.Common.{◌≡◌, ◌∙◌, ◌<◌, Some, ap, arith, false, get_or, length, slice_get, sym}
 use Rattle.std.proofs.lemmas.Option.{same_Some, slice_get-get_or}
-use Rattle.swreq_orders.proofs.Elements.{there_is}
+use Rattle.swreq_lemmas.proofs.Elements.{there_is}
 use Rattle.swreq_explain.proofs.first_use.uses.Goals as goal
 
 pub bounds-used-place : goal.bounds-used-place

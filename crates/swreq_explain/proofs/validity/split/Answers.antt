@@ -1,15 +1,10 @@
-use Rattle.std.proofs.Common.{◌≡◌, ◌∙◌, ◌-◌, List, [], ◌∷◌, ◌++◌, ap, arith, get_or, length, sym, take, take_all, suc, refl}
+use Rattle.std.proofs.Common.{◌≡◌, ◌∙◌, ◌-◌, [], ◌∷◌, ◌++◌, ap, arith, get_or, length, sym, take, take_all, suc}
 use Rattle.std.proofs.Math.Seq.{take-suc}
-use Rattle.swreq_param.specs.declared.ids.Step.{Step}
+use Rattle.swreq_param.specs.ComparisonLaws.{with_more}
 use Rattle.swreq_param.specs.declared.ids.Step.TheVariants.{Bound}
-use Rattle.swreq_param.specs.Terms.{Term, with_steps}
+use Rattle.swreq_param.specs.Terms.{with_steps}
 use Rattle.swreq_param.specs.Terms.Term.{Generic, Member}
 use Rattle.swreq_explain.proofs.validity.split.Goals as goal
-
--- steps with one step more at the end
-one_more : (t : Term) (xs : List Step) (x : Step) → with_steps t (xs ++ x ∷ []) ≡ Member (with_steps t xs) x
-one_more t [] x = refl
-one_more t (y ∷ xs) x = one_more (Member t y) xs x
 
 pub returns-in_ok-steps-in-len1-up : goal.returns-in_ok-steps-in-len1-up
 returns-in_ok-steps-in-len1-up c =
@@ -21,5 +16,5 @@ returns-in_ok-steps-in-len1-up c =
     let whole : xs ≡ take n xs ++ last ∷ []
     = sym (take_all (suc n) xs (omega (arith, some))) ∙ take-suc xs n (Bound (record { rank = 0 })) (omega (arith, some)) in
     let front : c.new.result ≡ take n xs = c.new.ensures ∙ c.in_ok-steps-in-len1-up.ensures.items in
-    ap (with_steps (Generic t.head)) (sym c.items.ensures ∙ whole) ∙ one_more (Generic t.head) (take n xs) last
+    ap (with_steps (Generic t.head)) (sym c.items.ensures ∙ whole) ∙ with_more (Generic t.head) (take n xs) last
     ∙ ap (λ z. Member (with_steps (Generic t.head) z) last) (sym front)

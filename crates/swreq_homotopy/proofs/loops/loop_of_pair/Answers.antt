@@ -3,7 +3,8 @@ use Rattle.swreq_path.specs.Reductions.{IsRedex}
 use Rattle.swreq_path.specs.Paths.{HasTarget}
 use Rattle.swreq_path.proofs.Leading.{one_end}
 use Rattle.swreq_homotopy.specs.Loops.{ReducesThrough}
-use Rattle.swreq_homotopy.proofs.PairSteps.{redex_of, both_put}
+use Rattle.swreq_pair.proofs.PairWords.{both_put}
+use Rattle.swreq_homotopy.proofs.PairSteps.{redex_of}
 use Rattle.swreq_homotopy.proofs.Through.{through_target, target_is, one_word, loop_is}
 use Rattle.swreq_homotopy.proofs.loops.loop_of_pair.Goals as goal
 

@@ -5,7 +5,7 @@ use Rattle.swreq_derive.specs.Facts.{requirement_of}
 use Rattle.swreq_rule.specs.declared.rules.Rule.{Rule}
 use Rattle.swreq_symbols.specs.Meaning.{symbols_of}
 use Rattle.swreq_valid.specs.Plans.{listed}
-use Rattle.swreq_valid.proofs.Listing.{list_in_text}
+use Rattle.swreq_machine.proofs.Listing.{list_in_text}
 use Rattle.swreq_minimal.specs.Evident.{IsOfEquation}
 use Rattle.swreq_list_rules.specs.Settings.{params_in, text_in}
 use Rattle.swreq_minimal.proofs.Showing.{evident}

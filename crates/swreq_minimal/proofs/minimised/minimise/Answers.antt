@@ -5,7 +5,8 @@ use Rattle.swreq_derive.specs.Facts.{generic_params}
 use Rattle.swreq_symbols.specs.Meaning.{facts_of, symbols_of}
 use Rattle.swreq_world.specs.ByTable.{world_by}
 use Rattle.swreq_world.specs.Worlds.{TextWorld}
-use Rattle.swreq_valid.specs.Machines.{AreRulesOf, IsMachineOf, list_of}
+use Rattle.swreq_valid.specs.Protocols.{AreRulesOf}
+use Rattle.swreq_machine.specs.Machines.{IsMachineOf, list_of}
 use Rattle.swreq_valid.specs.Plans.{AreKnown, listed}
 use Rattle.swreq_valid.specs.Rounds.{last_rules}
 use Rattle.swreq_minimal.specs.Passed.{IsPassedOf}

@@ -1,4 +1,4 @@
-use Rattle.swreq_orders.proofs.Elements.{get_contains}
+use Rattle.swreq_lemmas.proofs.Elements.{get_contains}
 use Rattle.swreq_symbols.proofs.Declared.{from_rank}
 use Rattle.swreq_minimal.proofs.plain.gives_assoc.Goals as goal
 

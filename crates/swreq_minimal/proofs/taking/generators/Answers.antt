@@ -1,7 +1,7 @@
 use Rattle.std.proofs.Common.{[], sym, subst, take, get_or, Contains, IfSome}
 use Rattle.std.proofs.lemmas.List.{take_all}
 use Rattle.std.proofs.lemmas.List.Elements.{Contains-get_or}
-use Rattle.swreq_orders.proofs.Members.{no_member}
+use Rattle.swreq_lemmas.proofs.Members.{no_member}
 use Rattle.swreq_canonical.specs.Generators.{Takes}
 use Rattle.swreq_canonical.specs.Generators.Takes.{ended}
 use Rattle.swreq_list_rules.specs.ListRules.{AreOfList}

@@ -1,4 +1,4 @@
-use Rattle.swreq_orders.proofs.Induction.{no_descent}
+use Rattle.swreq_lemmas.proofs.Induction.{no_descent}
 use Rattle.swreq_param.proofs.Founded.{terms_founded}
 use Rattle.swreq_param.proofs.laws.order_is_well_founded.Goals as goal
 

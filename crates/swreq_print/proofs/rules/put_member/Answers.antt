@@ -1,6 +1,6 @@
 use Rattle.std.proofs.Common.{◌++◌, ◌∙◌, ℕ, List, ap, codes}
 use Rattle.std.proofs.lemmas.Result.{on_err_weaker}
-use Rattle.swreq_text.proofs.Parts.{grew_next, on_err}
+use Rattle.swreq_text.proofs.Grown.{grew_next, on_err}
 use Rattle.swreq_print.specs.Names.{name_text, protocol_name}
 use Rattle.swreq_print.proofs.Failing.{fails_after_three, fails_after_two}
 use Rattle.swreq_print.proofs.rules.put_member.Goals as goal

@@ -1,6 +1,6 @@
 use Rattle.std.proofs.Common.{◌++◌, ◌∙◌, ◌∷◌, [], ℕ, List, ap, codes, decimal}
 use Rattle.std.proofs.lemmas.Result.{on_err_weaker}
-use Rattle.swreq_text.proofs.Parts.{on_err}
+use Rattle.swreq_text.proofs.Grown.{on_err}
 use Rattle.swreq_print.proofs.Failing.{fails_after, fails_after_three, fails_after_two}
 use Rattle.swreq_print.proofs.types.put_param.Goals as goal
 

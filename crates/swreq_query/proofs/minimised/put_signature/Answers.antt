@@ -1,6 +1,6 @@
 use Rattle.std.proofs.Common.{◌++◌, ◌∙◌, ap, codes}
 use Rattle.std.proofs.lemmas.Result.{on_err_weaker}
-use Rattle.swreq_text.proofs.Parts.{piece_grew}
+use Rattle.swreq_text.proofs.Grown.{piece_grew}
 use Rattle.swreq_derive.specs.Facts.{generic_params}
 use Rattle.swreq_lexicon.specs.Views.{LexiconView}
 use Rattle.swreq_valid.specs.Plans.{listed}

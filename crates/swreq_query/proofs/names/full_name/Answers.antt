@@ -1,6 +1,6 @@
 use Rattle.std.proofs.Common.{◌∙◌}
 use Rattle.std.proofs.lemmas.Result.{on_err_weaker, on_ok_weaker}
-use Rattle.swreq_text.proofs.Parts.{grew_first, on_err, piece_grew}
+use Rattle.swreq_text.proofs.Grown.{grew_first, on_err, piece_grew}
 use Rattle.swreq_query.proofs.Reading.{name_appended, name_grew}
 use Rattle.swreq_query.proofs.names.full_name.Goals as goal
 

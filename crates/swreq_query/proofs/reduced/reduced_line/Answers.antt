@@ -3,7 +3,7 @@ use Rattle.std.proofs.lemmas.Bool.{iff_false}
 use Rattle.std.proofs.lemmas.Result.{on_ok_weaker}
 use Rattle.swreq_param.specs.Tables.{term_at}
 use Rattle.swreq_symbols.specs.Texts.{world_of}
-use Rattle.swreq_valid.specs.Asked.{IsDerivable}
+use Rattle.swreq_machine.specs.Asked.{IsDerivable}
 use Rattle.swreq_lowering.specs.Queries.TermQuery.{AsksReduced}
 use Rattle.swreq_query.specs.Answers.Answer.{Invalid}
 use Rattle.swreq_query.proofs.Appending.{line_appended, type_appended}

@@ -1,6 +1,6 @@
 use Rattle.std.proofs.Common.{◌++◌, codes, decimal}
 use Rattle.std.proofs.lemmas.Result.{on_err_weaker}
-use Rattle.swreq_text.proofs.Parts.{grew_next, none_grew, on_err}
+use Rattle.swreq_text.proofs.Grown.{grew_next, none_grew, on_err}
 use Rattle.swreq_world.specs.ByTable.{world_by}
 use Rattle.swreq_world.specs.Worlds.{signature_at}
 use Rattle.swreq_query.specs.Signatures.{full_name}

@@ -1,6 +1,6 @@
 use Rattle.std.proofs.Common.{◌++◌, codes}
 use Rattle.std.proofs.lemmas.Result.{on_err_weaker}
-use Rattle.swreq_text.proofs.Parts.{grew_next, none_grew, on_err}
+use Rattle.swreq_text.proofs.Grown.{grew_next, none_grew, on_err}
 use Rattle.swreq_print.specs.Rules.{rule_text}
 use Rattle.swreq_query.proofs.system.put_rule.Goals as goal
 

@@ -1,4 +1,4 @@
-use Rattle.swreq_text.proofs.Parts.{on_err}
+use Rattle.swreq_text.proofs.Grown.{on_err}
 use Rattle.swreq_query.proofs.Systems.{line_grew, line_joined, line_stands}
 use Rattle.swreq_query.proofs.system.put_rules.Goals as goal
 

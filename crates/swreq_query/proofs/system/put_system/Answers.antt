@@ -2,7 +2,7 @@ use Rattle.std.proofs.Common.{ℕ, List, subst}
 use Rattle.std.specs.List.{flat_map}
 use Rattle.std.proofs.lemmas.Result.{on_err_weaker}
 use Rattle.swreq_text.specs.Joined.{GrewByPart}
-use Rattle.swreq_text.proofs.Parts.{grew_first, grew_next, on_err}
+use Rattle.swreq_text.proofs.Grown.{grew_first, grew_next, on_err}
 use Rattle.swreq_lexicon.specs.Views.{LexiconView}
 use Rattle.swreq_world.specs.ByTable.{world_by}
 use Rattle.swreq_world.specs.Worlds.{signature_at}

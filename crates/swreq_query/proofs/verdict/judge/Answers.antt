@@ -1,6 +1,6 @@
 use Rattle.std.proofs.Common.{subst, sym}
 use Rattle.swreq_lowering.specs.ByTable.{query_by}
-use Rattle.swreq_valid.specs.Asked.{IsDerivable}
+use Rattle.swreq_machine.specs.Asked.{IsDerivable}
 use Rattle.swreq_world.specs.ByTable.{world_by}
 use Rattle.swreq_query.specs.Answers.{IsAnswer}
 use Rattle.swreq_query.specs.Asked.{answer_of}

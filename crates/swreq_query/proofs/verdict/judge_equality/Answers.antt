@@ -2,7 +2,7 @@ use Rattle.std.proofs.Common.{subst, sym}
 use Rattle.swreq_lowering.specs.Queries.TermQuery.{AsksEquals}
 use Rattle.swreq_param.specs.Tables.{term_at}
 use Rattle.swreq_symbols.specs.Texts.{world_of}
-use Rattle.swreq_valid.specs.Asked.{IsDerivable}
+use Rattle.swreq_machine.specs.Asked.{IsDerivable}
 use Rattle.swreq_query.specs.Answers.{IsAnswer}
 use Rattle.swreq_query.specs.Asked.{answer_of}
 use Rattle.swreq_query.proofs.Judging.{equality_answer}

@@ -1,7 +1,7 @@
 use Rattle.std.proofs.Common.{◌≡◌, ◌≤◌, ◌<◌, true, false, ap, arith, length, inl, inr}
 use Rattle.std.proofs.lemmas.Option.{slice_get_within}
 use borrow.Author.Count.{below_more}
-use Rattle.swreq_orders.proofs.Elements.{contains_get}
+use Rattle.swreq_lemmas.proofs.Elements.{contains_get}
 use Rattle.swreq_readings.specs.Alphabets.{IsParentFor}
 use Rattle.swreq_readings.proofs.inheriting.parent_for.Goals as goal
 

@@ -8,40 +8,32 @@ use Rattle.swreq_readings.proofs.joining.join.Goals as goal
 pub add_trans-requires-clause-first : goal.add_trans-requires-clause-first
 add_trans-requires-clause-first c =
     let g = c.args.alphabet.now in
-    let s = c.args.derivation.now in
-    let s1 = c.read_word.new.derivation in
-    let s2 = c.read_word-2.new.derivation in
-    let s3 = c.read_word-3.new.derivation in
-    let g1 = c.in_ok-first.ensures.grows in
-    let g2 = c.in_ok-middle.ensures.grows in
-    let g3 = c.in_ok-last.ensures.grows in
-    let g23 = grows_then s1 s2 s3 g2 g3 in (
-      is_still s1 s3 g23 c.in_ok-first.first c.in_ok-first.ensures.is_of,
-      is_still s2 s3 g3 c.in_ok-middle.middle c.in_ok-middle.ensures.is_of,
-      equal_as s3 _ _ _ _ (term_still s1 s3 g23 c.in_ok-first.first c.in_ok-first.ensures.is_of ∙ c.in_ok-first.ensures.stands)
-          (term_still s2 s3 g3 c.in_ok-middle.middle c.in_ok-middle.ensures.is_of ∙ c.in_ok-middle.ensures.stands
-          ∙ ap (λ z. read_word g z c.args.via.now) (term_still s s1 g1 c.args.subject c.requires.subject))
-          (equal_still g s s3 (grows_then s s1 s3 g1 g23) _ _ c.requires.first.equal),
+    let first = c.in_ok-first.ensures in
+    let middle = c.in_ok-middle.ensures in
+    let last = c.in_ok-last.ensures in
+    let g23 = grows_then _ _ _ middle.grows last.grows in (
+      is_still _ _ g23 c.in_ok-first.first first.is_of,
+      is_still _ _ last.grows c.in_ok-middle.middle middle.is_of,
+      equal_as c.read_word-3.new.derivation _ _ _ _ (term_still _ _ g23 c.in_ok-first.first first.is_of ∙ first.stands)
+          (term_still _ _ last.grows c.in_ok-middle.middle middle.is_of ∙ middle.stands
+          ∙ ap (λ z. read_word g z c.args.via.now) (term_still _ _ first.grows c.args.subject c.requires.subject))
+          (equal_still g _ _ (grows_then _ _ _ first.grows g23) _ _ c.requires.first.equal),
     )
 
 pub add_trans-requires-clause-second : goal.add_trans-requires-clause-second
 add_trans-requires-clause-second c =
     let g = c.args.alphabet.now in
-    let s = c.args.derivation.now in
-    let s1 = c.read_word.new.derivation in
-    let s2 = c.read_word-2.new.derivation in
-    let s3 = c.read_word-3.new.derivation in
+    let middle = c.in_ok-middle.ensures in
+    let last = c.in_ok-last.ensures in
     let g1 = c.in_ok-first.ensures.grows in
-    let g2 = c.in_ok-middle.ensures.grows in
-    let g3 = c.in_ok-last.ensures.grows in
-    let g12 = grows_then s s1 s2 g1 g2 in (
-      is_still s2 s3 g3 c.in_ok-middle.middle c.in_ok-middle.ensures.is_of,
-      c.in_ok-last.ensures.is_of,
-      equal_as s3 _ _ _ _
-          (term_still s2 s3 g3 c.in_ok-middle.middle c.in_ok-middle.ensures.is_of ∙ c.in_ok-middle.ensures.stands
-          ∙ ap (λ z. read_word g z c.args.via.now) (term_still s s1 g1 c.args.subject c.requires.subject))
-          (c.in_ok-last.ensures.stands ∙ ap (λ z. read_word g z c.args.to.now) (term_still s s2 g12 c.args.subject c.requires.subject))
-          (equal_still g s s3 (grows_then s s2 s3 g12 g3) _ _ c.requires.second.equal),
+    let g12 = grows_then _ _ _ g1 middle.grows in (
+      is_still _ _ last.grows c.in_ok-middle.middle middle.is_of,
+      last.is_of,
+      equal_as c.read_word-3.new.derivation _ _ _ _
+          (term_still _ _ last.grows c.in_ok-middle.middle middle.is_of ∙ middle.stands
+          ∙ ap (λ z. read_word g z c.args.via.now) (term_still _ _ g1 c.args.subject c.requires.subject))
+          (last.stands ∙ ap (λ z. read_word g z c.args.to.now) (term_still _ _ g12 c.args.subject c.requires.subject))
+          (equal_still g _ _ (grows_then _ _ _ g12 last.grows) _ _ c.requires.second.equal),
     )
 
 pub returns-clause-both : goal.returns-clause-both

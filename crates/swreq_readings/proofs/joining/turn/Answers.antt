@@ -7,33 +7,26 @@ use Rattle.swreq_readings.proofs.joining.turn.Goals as goal
 
 pub add_symm-requires-clause-equal : goal.add_symm-requires-clause-equal
 add_symm-requires-clause-equal c =
-    let g = c.args.alphabet.now in
-    let s = c.args.derivation.now in
-    let s1 = c.read_word.new.derivation in
-    let s2 = c.read_word-2.new.derivation in
-    let gr = grows_then s s1 s2 c.in_ok-first.ensures.grows c.in_ok-second.ensures.grows in
-    equal_as s2 _ _ _ _ (term_still s1 s2 c.in_ok-second.ensures.grows c.in_ok-first.first c.in_ok-first.ensures.is_of
-    ∙ c.in_ok-first.ensures.stands)
-    (c.in_ok-second.ensures.stands ∙ ap (λ z. read_word g z c.args.to.now)
-    (term_still s s1 c.in_ok-first.ensures.grows c.args.subject c.requires.subject))
-    (equal_still g s s2 gr _ _ c.requires.both.equal)
+    let first = c.in_ok-first.ensures in
+    let second = c.in_ok-second.ensures in
+    equal_as c.read_word-2.new.derivation _ _ _ _ (term_still _ _ second.grows c.in_ok-first.first first.is_of ∙ first.stands)
+    (second.stands ∙ ap (λ z. read_word c.args.alphabet.now z c.args.to.now) (term_still _ _ first.grows c.args.subject c.requires.subject))
+    (equal_still c.args.alphabet.now _ _ (grows_then _ _ _ first.grows second.grows) _ _ c.requires.both.equal)
 
 pub returns-clause-both : goal.returns-clause-both
 returns-clause-both c =
     let g = c.args.alphabet.now in
     let s = c.args.derivation.now in
-    let s1 = c.read_word.new.derivation in
-    let s2 = c.read_word-2.new.derivation in
     let n = c.add_symm.new.derivation in
-    let gr = grows_then s s2 n (grows_then s s1 s2 c.in_ok-first.ensures.grows c.in_ok-second.ensures.grows)
-    c.in_ok-add_symm.ensures.grows in
+    let first = c.in_ok-first.ensures in
+    let second = c.in_ok-second.ensures in
+    let gr = grows_then s _ n (grows_then s _ _ first.grows second.grows) c.in_ok-add_symm.ensures.grows in
     let w = both_still g s n gr (term_at s.table c.args.subject) c.args.from.now c.args.to.now c.requires.both in record {
       left = w.right;
       right = w.left;
-      equal = equal_as n _ _ _ _ (sym (c.in_ok-second.ensures.stands
-          ∙ ap (λ z. read_word g z c.args.to.now) (term_still s s1 c.in_ok-first.ensures.grows c.args.subject c.requires.subject)))
-          (sym (term_still s1 s2 c.in_ok-second.ensures.grows c.in_ok-first.first c.in_ok-first.ensures.is_of
-          ∙ c.in_ok-first.ensures.stands)) c.in_ok-add_symm.ensures.equal;
+      equal = equal_as n _ _ _ _
+          (sym (second.stands ∙ ap (λ z. read_word g z c.args.to.now) (term_still _ _ first.grows c.args.subject c.requires.subject)))
+          (sym (term_still _ _ second.grows c.in_ok-first.first first.is_of ∙ first.stands)) c.in_ok-add_symm.ensures.equal;
     }
 
 pub returns-clause-grows : goal.returns-clause-grows

@@ -54,14 +54,9 @@ bind-requires-clause-members c =
 
 pub bind-requires-clause-equal : goal.bind-requires-clause-equal
 bind-requires-clause-equal c =
-    let s = c.args.derivation.now in
-    let s1 = c.member.new.derivation in
-    let s2 = c.member-2.new.derivation in
-    let s3 = c.member-3.new.derivation in
-    let s4 = c.add_same_name.new.derivation in
-    let g = grows_then s s2 s4 (grows_then s s1 s2 c.in_ok-plain.ensures.grows c.in_ok-last.ensures.grows)
-    (grows_then s2 s3 s4 c.in_ok-stepped.ensures.grows c.in_ok-add_same_name.ensures.grows) in
-    equal_ids_still s s4 g c.args.left c.args.right (c.requires.left, c.requires.right, c.requires.equal)
+    let before = grows_then _ _ _ c.in_ok-plain.ensures.grows c.in_ok-last.ensures.grows in
+    let after = grows_then _ _ _ c.in_ok-stepped.ensures.grows c.in_ok-add_same_name.ensures.grows in
+    equal_ids_still _ _ (grows_then _ _ _ before after) c.args.left c.args.right (c.requires.left, c.requires.right, c.requires.equal)
 
 pub returns-in-Name-clause-equal : goal.returns-in-Name-clause-equal
 returns-in-Name-clause-equal c =

@@ -5,45 +5,38 @@ use Rattle.swreq_derivation.proofs.DerivationLemmas.{grows_then}
 use Rattle.swreq_readings.proofs.ReadingLemmas.{both_still, both_with, equal_as, equal_still, term_still, word_at, word_right, word_still}
 use Rattle.swreq_readings.proofs.putting.put_side.Goals as goal
 
+pub carry_all-requires-clause-equal : goal.carry_all-requires-clause-equal
+carry_all-requires-clause-equal c =
+    let first = c.in_ok-first.ensures in
+    let second = c.in_ok-second.ensures in
+    equal_as c.read_word-2.new.derivation _ _ _ _ (term_still _ _ second.grows c.in_ok-first.first first.is_of ∙ first.stands)
+    (second.stands ∙ ap (λ z. read_word c.args.alphabet.now z c.args.to.now) (term_still _ _ first.grows c.args.subject c.requires.subject))
+    (equal_still c.args.alphabet.now _ _ (grows_then _ _ _ first.grows second.grows) _ _ c.requires.both.equal)
+
 pub carry_all-requires-clause-word : goal.carry_all-requires-clause-word
 carry_all-requires-clause-word c =
     let g = c.args.alphabet.now in
     let s = c.args.derivation.now in
-    let s1 = c.read_word.new.derivation in
     let s2 = c.read_word-2.new.derivation in
-    let gr = grows_then s s1 s2 c.in_ok-first.ensures.grows c.in_ok-second.ensures.grows in
+    let first = c.in_ok-first.ensures in
+    let second = c.in_ok-second.ensures in
+    let gr = grows_then s _ s2 first.grows second.grows in
     let v = term_at s.table c.args.subject in
     word_at g s2 (read_word g v c.args.from.now) _ c.args.after.now
-    (term_still s1 s2 c.in_ok-second.ensures.grows c.in_ok-first.first c.in_ok-first.ensures.is_of ∙ c.in_ok-first.ensures.stands)
+    (term_still _ _ second.grows c.in_ok-first.first first.is_of ∙ first.stands)
     (word_right g s2 v c.args.from.now c.args.after.now (word_still g s s2 gr v _ c.requires.word))
-
-pub carry_all-requires-clause-equal : goal.carry_all-requires-clause-equal
-carry_all-requires-clause-equal c =
-    let g = c.args.alphabet.now in
-    let s = c.args.derivation.now in
-    let s1 = c.read_word.new.derivation in
-    let s2 = c.read_word-2.new.derivation in
-    let gr = grows_then s s1 s2 c.in_ok-first.ensures.grows c.in_ok-second.ensures.grows in
-    equal_as s2 _ _ _ _ (term_still s1 s2 c.in_ok-second.ensures.grows c.in_ok-first.first c.in_ok-first.ensures.is_of
-    ∙ c.in_ok-first.ensures.stands)
-    (c.in_ok-second.ensures.stands ∙ ap (λ z. read_word g z c.args.to.now)
-    (term_still s s1 c.in_ok-first.ensures.grows c.args.subject c.requires.subject))
-    (equal_still g s s2 gr _ _ c.requires.both.equal)
 
 pub returns-clause-both : goal.returns-clause-both
 returns-clause-both c =
     let g = c.args.alphabet.now in
     let s = c.args.derivation.now in
-    let s1 = c.read_word.new.derivation in
-    let s2 = c.read_word-2.new.derivation in
     let n = c.carry_all.new.derivation in
-    let gr = grows_then s s2 n
-    (grows_then s s1 s2 c.in_ok-first.ensures.grows c.in_ok-second.ensures.grows) c.in_ok-carry_all.ensures.grows in
+    let i = c.in_ok-first.ensures in
+    let j = c.in_ok-second.ensures in
+    let gr = grows_then s _ n (grows_then s _ _ i.grows j.grows) c.in_ok-carry_all.ensures.grows in
     let v = term_at s.table c.args.subject in
-    let first = term_still s1 s2 c.in_ok-second.ensures.grows c.in_ok-first.first c.in_ok-first.ensures.is_of
-    ∙ c.in_ok-first.ensures.stands in
-    let second = c.in_ok-second.ensures.stands ∙ ap (λ z. read_word g z c.args.to.now)
-    (term_still s s1 c.in_ok-first.ensures.grows c.args.subject c.requires.subject) in
+    let first = term_still _ _ j.grows c.in_ok-first.first i.is_of ∙ i.stands in
+    let second = j.stands ∙ ap (λ z. read_word g z c.args.to.now) (term_still _ _ i.grows c.args.subject c.requires.subject) in
     both_with g n v c.args.from.now c.args.to.now c.args.after.now (both_still g s n gr v _ _ c.requires.both)
     (word_right g n v c.args.from.now c.args.after.now (word_still g s n gr v _ c.requires.word))
     (word_at g n _ _ c.args.after.now (sym second) c.in_ok-carry_all.ensures.word)

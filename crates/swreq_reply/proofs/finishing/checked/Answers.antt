@@ -2,9 +2,9 @@ use Rattle.std.proofs.Common.{Err, subst}
 use Rattle.swreq_complete.specs.declared.limit.Limits.{Limits}
 use Rattle.swreq_symbols.proofs.Growing.{text_stays, world_stays}
 use Rattle.swreq_world.specs.ByTable.{world_by}
-use Rattle.swreq_reply.specs.Checks.{Checks}
+use Rattle.swreq_check.specs.Checks.{Checks}
 use Rattle.swreq_reply.specs.Requests.{line_of, parts_of}
-use Rattle.swreq_reply.proofs.Flags.{asked_within}
+use Rattle.swreq_check.proofs.Flags.{asked_within}
 use Rattle.swreq_reply.proofs.Verdicts.{replies_checked, replies_refused}
 use Rattle.swreq_reply.proofs.finishing.checked.Goals as goal
 

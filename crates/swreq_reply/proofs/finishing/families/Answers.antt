@@ -3,7 +3,7 @@ use Rattle.std.proofs.lemmas.Result.{err_from_is_err_and}
 use Rattle.swreq_complete.specs.declared.limit.Limits.{Limits}
 use Rattle.swreq_reqsig.specs.Told.{AnswersFamily}
 use Rattle.swreq_world.specs.ByTable.{world_by}
-use Rattle.swreq_reply.proofs.Checked.{is_formed}
+use Rattle.swreq_check.proofs.OfChecks.{is_formed}
 use Rattle.swreq_reply.proofs.Verdicts.{families_failed, families_given}
 use Rattle.swreq_reply.proofs.finishing.families.Goals as goal
 

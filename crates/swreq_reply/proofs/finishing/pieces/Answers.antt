@@ -2,7 +2,7 @@ use Rattle.std.proofs.Common.{◌∙◌, Err, ap, length}
 use Rattle.std.proofs.lemmas.Result.{err_from_is_err_and}
 use Rattle.swreq_symbols.proofs.Growing.{text_stays, world_stays}
 use Rattle.swreq_reply.specs.Requests.{line_of}
-use Rattle.swreq_reply.proofs.Flags.{asked_within}
+use Rattle.swreq_check.proofs.Flags.{asked_within}
 use Rattle.swreq_reply.proofs.Verdicts.{checks_for_pieces, finishes_alone, finishes_answered, finishes_failed}
 use Rattle.swreq_reply.proofs.finishing.pieces.Goals as goal
 

@@ -3,7 +3,7 @@ use Rattle.swreq_reply.proofs.OfCalls.{IsOnePart}
 use Rattle.swreq_reply.proofs.OneRefusal.{AreOne, verdict_is_one}
 use Rattle.swreq_reply.proofs.laws.one_verdict.Goals as goal
 
-source : (c : goal.After-one_verdict-2) → AreOne c.args.source.now
+source : (c : goal.After-one_verdict_on_calls) → AreOne c.args.source.now
 source c = record {
   refusal = c.one_reading.ensures.one_refusal;
   no_refusal = c.one_reading.ensures.never_both;
@@ -13,13 +13,13 @@ source c = record {
   world = c.world_is_one.ensures;
 }
 
-part : (c : goal.After-one_verdict-2) → IsOnePart c.args.input.now c.args.from
+part : (c : goal.After-one_verdict_on_calls) → IsOnePart c.args.input.now c.args.from
 part c = record {
   refusal = c.one_reading_from.ensures.one_refusal;
   no_refusal = c.one_reading_from.ensures.never_both;
   calls = c.one_list_of_calls.ensures;
-  token = c.one_verdict-2.ensures.one;
-  no_token = c.one_verdict-2.ensures.never_both;
+  token = c.one_verdict_on_calls.ensures.one;
+  no_token = c.one_verdict_on_calls.ensures.never_both;
 }
 
 pub returns : goal.returns

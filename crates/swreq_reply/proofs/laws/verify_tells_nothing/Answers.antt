@@ -1,6 +1,6 @@
 use Rattle.std.proofs.Common.{ap}
 use Rattle.swreq_words.specs.declared.command.Command.{Command}
-use Rattle.swreq_reply.specs.Contents.{content_by}
+use Rattle.swreq_reply.specs.Commands.{content_by}
 use Rattle.swreq_reply.proofs.Untold.{part_untold, verdict_untold}
 use Rattle.swreq_reply.proofs.laws.verify_tells_nothing.Goals as goal
 

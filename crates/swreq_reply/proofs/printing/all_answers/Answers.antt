@@ -1,10 +1,10 @@
 use Rattle.std.proofs.Common.{arith, ap, length, true}
 use Rattle.std.proofs.lemmas.List.{length-map}
 use Rattle.swreq_lowering.specs.ByTable.{query_by}
-use Rattle.swreq_reply.specs.Contents.{backing_of}
-use Rattle.swreq_reply.specs.Outputs.{IsLineOf}
+use Rattle.swreq_check.specs.Contents.{backing_of}
+use Rattle.swreq_check.specs.QueryLines.{IsLineOf}
 use Rattle.swreq_reply.specs.Pieces.{world_of}
-use Rattle.swreq_reply.proofs.Lines.{lines_all, lines_next, lines_none}
+use Rattle.swreq_check.proofs.Lines.{lines_all, lines_next, lines_none}
 use Rattle.swreq_reply.proofs.printing.all_answers.Goals as goal
 
 pub loop-k-init : goal.loop-k-init

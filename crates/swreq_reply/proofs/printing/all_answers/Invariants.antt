@@ -1,7 +1,7 @@
 use Rattle.std.proofs.Common.{take, true}
-use Rattle.swreq_reply.specs.Contents.{backing_of}
-use Rattle.swreq_reply.specs.Lines.{AreLinesIn}
-use Rattle.swreq_reply.specs.Outputs.{IsLineOf}
+use Rattle.swreq_check.specs.Contents.{backing_of}
+use Rattle.swreq_check.specs.Lines.{AreLinesIn}
+use Rattle.swreq_check.specs.QueryLines.{IsLineOf}
 use Rattle.swreq_reply.specs.Pieces.{world_of}
 use Rattle.swreq_reply.proofs.printing.all_answers.Given as goal
 

@@ -4,7 +4,7 @@ use Rattle.swreq_query.specs.Signatures.{IsNamedLine}
 use Rattle.swreq_world.specs.ByTable.{signature_by}
 use Rattle.swreq_world.specs.Worlds.{no_signature}
 use Rattle.swreq_reply.specs.Pieces.{world_of}
-use Rattle.swreq_reply.proofs.Lines.{lines_all, lines_next, lines_none}
+use Rattle.swreq_check.proofs.Lines.{lines_all, lines_next, lines_none}
 use Rattle.swreq_reply.proofs.printing.all_signatures.Goals as goal
 
 pub loop-k-init : goal.loop-k-init

@@ -1,6 +1,6 @@
 use Rattle.std.proofs.Common.{take}
 use Rattle.swreq_query.specs.Signatures.{IsNamedLine}
-use Rattle.swreq_reply.specs.Lines.{AreLinesIn}
+use Rattle.swreq_check.specs.Lines.{AreLinesIn}
 use Rattle.swreq_reply.specs.Pieces.{world_of}
 use Rattle.swreq_reply.proofs.printing.all_signatures.Given as goal
 

@@ -4,8 +4,8 @@ use Rattle.swreq_query.specs.Systems.{IsSystemText}
 use Rattle.swreq_world.specs.ByTable.{signature_by}
 use Rattle.swreq_world.specs.Worlds.{no_signature}
 use Rattle.swreq_reply.specs.Pieces.{world_of}
-use Rattle.swreq_reply.specs.Wanted.{places_of}
-use Rattle.swreq_reply.proofs.Lines.{lines_all, lines_next, lines_none}
+use Rattle.swreq_check.specs.Wanted.{places_of}
+use Rattle.swreq_check.proofs.Lines.{lines_all, lines_next, lines_none}
 use Rattle.swreq_reply.proofs.Printed.{system_at}
 use Rattle.swreq_reply.proofs.printing.all_systems.Goals as goal
 

@@ -1,6 +1,6 @@
 use Rattle.std.proofs.Common.{take}
 use Rattle.swreq_query.specs.Systems.{IsSystemText}
-use Rattle.swreq_reply.specs.Lines.{AreLinesIn}
+use Rattle.swreq_check.specs.Lines.{AreLinesIn}
 use Rattle.swreq_reply.specs.Pieces.{world_of}
 use Rattle.swreq_reply.proofs.printing.all_systems.Given as goal
 

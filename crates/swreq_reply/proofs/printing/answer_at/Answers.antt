@@ -2,10 +2,10 @@ use Rattle.std.proofs.Common.{◌≡◌, ◌∙◌, List, Option, ap, get_or, su
 use Rattle.swreq_lowering.specs.declared.ids.FuncId.{FuncId}
 use Rattle.swreq_lowering.specs.declared.ids.Query.{Query}
 use Rattle.swreq_lowering.specs.declared.ids.Query.TheVariants.{Signature}
-use Rattle.swreq_reply.specs.Contents.{backing_of}
-use Rattle.swreq_reply.specs.Outputs.{IsLineOf}
+use Rattle.swreq_check.specs.Contents.{backing_of}
+use Rattle.swreq_check.specs.QueryLines.{IsLineOf}
 use Rattle.swreq_reply.specs.Pieces.{query_at, world_of}
-use Rattle.swreq_reply.specs.Wanted.{list_asked}
+use Rattle.swreq_check.specs.Wanted.{list_asked}
 use Rattle.swreq_reply.proofs.Printed.{by_list, by_piece}
 use Rattle.swreq_reply.proofs.printing.answer_at.Goals as goal
 

@@ -4,11 +4,11 @@ use Rattle.std.proofs.lemmas.List.{length-map, take_all}
 use Rattle.swreq_lowering.specs.ByTable.{query_by}
 use Rattle.swreq_lowering.specs.Queries.{TermQuery}
 use Rattle.swreq_query.specs.Asked.{answer_of}
-use Rattle.swreq_reply.specs.Lines.{Counted}
-use Rattle.swreq_reply.specs.Lines.Counted.{nothing}
-use Rattle.swreq_reply.specs.Outputs.{HasAnswer}
+use Rattle.swreq_check.specs.Lines.{Counted}
+use Rattle.swreq_check.specs.Lines.Counted.{nothing}
+use Rattle.swreq_check.specs.QueryLines.{HasAnswer}
 use Rattle.swreq_reply.specs.Pieces.{world_of}
-use Rattle.swreq_reply.proofs.Lines.{no_more, one_more}
+use Rattle.swreq_reply.proofs.Counted.{no_more, one_more}
 use Rattle.swreq_reply.proofs.printing.count_of.Goals as goal
 use Rattle.swreq_reply.proofs.printing.count_of.Goals.{else-has_verdict, then-has_verdict}
 

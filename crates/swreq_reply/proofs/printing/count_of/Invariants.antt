@@ -1,7 +1,7 @@
 use Rattle.std.proofs.Common.{◌≤◌, take, true}
 use Rattle.swreq_query.specs.Asked.{answer_of}
-use Rattle.swreq_reply.specs.Lines.{Counted}
-use Rattle.swreq_reply.specs.Outputs.{HasAnswer}
+use Rattle.swreq_check.specs.Lines.{Counted}
+use Rattle.swreq_check.specs.QueryLines.{HasAnswer}
 use Rattle.swreq_reply.specs.Pieces.{world_of}
 use Rattle.swreq_reply.proofs.printing.count_of.Given as goal
 

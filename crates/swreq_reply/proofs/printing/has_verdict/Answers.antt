@@ -1,9 +1,9 @@
 use Rattle.std.proofs.Common.{subst, sym, true, ◌∙◌}
 use Rattle.std.proofs.lemmas.Bool.Decides.{Decides-at, Decides-like}
 use Rattle.std.proofs.lemmas.Slice.Eq.{bytes_eq-Decides}
-use Rattle.swreq_reply.specs.Outputs.{IsLineOf}
+use Rattle.swreq_check.specs.QueryLines.{IsLineOf}
 use Rattle.swreq_reply.specs.Pieces.{query_at, world_of}
-use Rattle.swreq_reply.specs.declared.content.Backing.{Backing}
+use Rattle.swreq_check.specs.declared.content.Backing.{Backing}
 use Rattle.swreq_reply.proofs.Printed.{tells_verdict}
 use Rattle.swreq_reply.proofs.printing.has_verdict.Goals as goal
 

@@ -4,10 +4,11 @@ use Rattle.swreq_lowering.specs.ByTable.{query_by}
 use Rattle.swreq_lowering.specs.Queries.{TermQuery}
 use Rattle.swreq_print.specs.Names.{Text}
 use Rattle.swreq_world.specs.Worlds.{TextWorld}
-use Rattle.swreq_reply.specs.Outputs.{AnswersLast, IsLineOf}
+use Rattle.swreq_reply.specs.Outputs.{AnswersLast}
+use Rattle.swreq_check.specs.QueryLines.{IsLineOf}
 use Rattle.swreq_reply.specs.Pieces.{query_at, world_of}
-use Rattle.swreq_reply.specs.declared.content.Backing.{Backing}
-use Rattle.swreq_reply.specs.declared.content.Backing.TheVariants.{Nothing}
+use Rattle.swreq_check.specs.declared.content.Backing.{Backing}
+use Rattle.swreq_check.specs.declared.content.Backing.TheVariants.{Nothing}
 use Rattle.swreq_reply.proofs.printing.last_answer.Goals as goal
 
 -- the line of the query at the last place answers the last query

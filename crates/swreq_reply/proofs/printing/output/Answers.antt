@@ -2,7 +2,7 @@ use Rattle.std.proofs.Common.{subst, sym, true}
 use Rattle.std.proofs.lemmas.Result.{IfOk-weaker}
 use Rattle.swreq_reply.specs.Outputs.{IsOutput}
 use Rattle.swreq_reply.specs.Pieces.{world_of}
-use Rattle.swreq_reply.specs.declared.content.Content.{Content}
+use Rattle.swreq_check.specs.declared.content.Content.{Content}
 use Rattle.swreq_reply.proofs.printing.output.Goals as goal
 
 pub returns-in-Answers : goal.returns-in-Answers

@@ -2,7 +2,8 @@ use Rattle.std.proofs.Common.{◌∙◌, ◌++◌, List, ap, append_assoc, codes
 use Rattle.std.proofs.lemmas.Result.{on_ok_weaker}
 use Rattle.swreq_query.specs.Signatures.{full_name}
 use Rattle.swreq_world.specs.Worlds.{signature_at}
-use Rattle.swreq_reply.specs.Pieces.{text_at, world_of}
+use Rattle.swreq_check.specs.Made.{text_at}
+use Rattle.swreq_reply.specs.Pieces.{world_of}
 use Rattle.swreq_reply.proofs.Printed.{list_at}
 use Rattle.swreq_reply.proofs.printing.put_named.Goals as goal
 

@@ -1,12 +1,13 @@
 use Rattle.std.proofs.Common.{◌∙◌, ap, subst, sym, true}
 use Rattle.std.proofs.lemmas.Result.{IfOk-weaker}
-use Rattle.swreq_reply.specs.Contents.{backed_by, backing_of, makes}
-use Rattle.swreq_reply.specs.Lines.{AreLinesIn}
-use Rattle.swreq_reply.specs.Outputs.{IsLineOf, IsOutput}
+use Rattle.swreq_check.specs.Contents.{backed_by, backing_of, makes}
+use Rattle.swreq_check.specs.Lines.{AreLinesIn}
+use Rattle.swreq_check.specs.QueryLines.{IsLineOf}
+use Rattle.swreq_reply.specs.Outputs.{IsOutput}
 use Rattle.swreq_reply.specs.Pieces.{world_of}
-use Rattle.swreq_reply.specs.declared.content.Content.{Content}
-use Rattle.swreq_reply.specs.declared.content.Content.TheVariants.{Answers}
-use Rattle.swreq_reply.specs.declared.content.Shown.{Shown}
+use Rattle.swreq_check.specs.declared.content.Content.{Content}
+use Rattle.swreq_check.specs.declared.content.Content.TheVariants.{Answers}
+use Rattle.swreq_check.specs.declared.content.Shown.{Shown}
 use Rattle.swreq_reply.proofs.printing.shown_answers.Goals as goal
 
 pub all_answers-requires-clause-answers : goal.all_answers-requires-clause-answers

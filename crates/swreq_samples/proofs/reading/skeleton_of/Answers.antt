@@ -1,4 +1,5 @@
+use Rattle.std.proofs.Common.{refl}
 use Rattle.swreq_samples.proofs.reading.skeleton_of.Goals as goal
 
-pub returns-in-Ok : goal.returns-in-Ok
-returns-in-Ok c = (c.parse.ensures.ok c.in-Ok.skeleton).0 c.in-Ok.is
+pub returns : goal.returns
+returns c = (c.in_ok-skeleton.ensures.ok c.in_ok-skeleton.skeleton).0 refl

@@ -2,8 +2,8 @@ use Rattle.std.proofs.Common.{◌↔◌, IsTrue, IfOk, List, sym, subst}
 use Rattle.swreq_derive.specs.Derivation.{TermRequirement}
 use Rattle.swreq_derive.specs.Derivation.TermStatement.{Requires}
 use Rattle.swreq_derive.specs.Facts.{requirement_of}
-use Rattle.swreq_valid.specs.Asked.{IsDerivable}
-use Rattle.swreq_valid.specs.Machines.{IsMachineOf}
+use Rattle.swreq_machine.specs.Asked.{IsDerivable}
+use Rattle.swreq_machine.specs.Machines.{IsMachineOf}
 use Rattle.swreq_world.specs.ByTable.{world_by}
 use Rattle.swreq_world.specs.Closed.{IsRequirementOf}
 use Rattle.swreq_world.specs.Worlds.{TextWorld}

@@ -11,8 +11,8 @@ use Rattle.swreq_derive.specs.Facts.{generic_params, requirement_of}
 use Rattle.swreq_lowering.specs.Heads.{IsOver}
 use Rattle.swreq_symbols.specs.Known.{IsTypeIn}
 use Rattle.swreq_symbols.proofs.Growing.{text_stays, world_stays}
-use Rattle.swreq_valid.specs.Asked.{IsDerivable}
-use Rattle.swreq_valid.specs.Machines.{IsMachineOf}
+use Rattle.swreq_machine.specs.Asked.{IsDerivable}
+use Rattle.swreq_machine.specs.Machines.{IsMachineOf}
 use Rattle.swreq_valid.specs.Plans.{listed}
 use Rattle.swreq_world.specs.ByTable.{world_by}
 use Rattle.swreq_world.specs.FactsAt.{facts_of}

@@ -3,7 +3,7 @@ use Rattle.swreq_param.specs.Tables.{Extends, term_at}
 use Rattle.swreq_derive.specs.Derivation.{TermRequirement}
 use Rattle.swreq_derive.specs.Derivation.Source.{Written}
 use Rattle.swreq_derive.specs.Facts.{generic_params}
-use Rattle.swreq_valid.specs.Machines.{IsMachineOf}
+use Rattle.swreq_machine.specs.Machines.{IsMachineOf}
 use Rattle.swreq_valid.specs.Plans.{listed}
 use Rattle.swreq_world.specs.ByTable.{world_by}
 use Rattle.swreq_world.specs.FactsAt.{facts_of}

@@ -1,7 +1,7 @@
 use Rattle.std.proofs.Common.{List, Option, None, get_or, subst}
 use Rattle.std.proofs.lemmas.List.{take_all}
 use Rattle.swreq_param.specs.declared.ids.TermId.{TermId}
-use Rattle.swreq_valid.specs.Asked.{IsDerivable}
+use Rattle.swreq_machine.specs.Asked.{IsDerivable}
 use Rattle.swreq_world.specs.ByTable.{world_by}
 use Rattle.swreq_subst.specs.Calls.{AreAllValid, IsValidThere}
 use Rattle.swreq_subst.proofs.Lining.{all_next, member_at}

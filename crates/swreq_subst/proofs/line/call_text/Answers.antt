@@ -8,7 +8,7 @@ use Rattle.swreq_lexicon.specs.Views.{LexiconView}
 use Rattle.swreq_lowering.specs.ByTable.{HasIdsOf}
 use Rattle.swreq_lowering.proofs.Growing.{on_ok}
 use Rattle.swreq_symbols.proofs.Growing.{text_stays, world_stays}
-use Rattle.swreq_valid.specs.Asked.{IsDerivable}
+use Rattle.swreq_machine.specs.Asked.{IsDerivable}
 use Rattle.swreq_valid.specs.Plans.{listed}
 use Rattle.swreq_world.specs.ByTable.{world_by}
 use Rattle.swreq_world.specs.FactsAt.{facts_of, source_of, written_list}

@@ -1,8 +1,8 @@
 use Rattle.std.proofs.Common.{◌↔◌, IsTrue, IfOk, Option, List, sym, subst}
 use Rattle.swreq_param.specs.declared.ids.TermId.{TermId}
 use Rattle.swreq_derive.specs.Derivation.{TermRequirement}
-use Rattle.swreq_valid.specs.Asked.{IsDerivable}
-use Rattle.swreq_valid.specs.Machines.{IsMachineOf}
+use Rattle.swreq_machine.specs.Asked.{IsDerivable}
+use Rattle.swreq_machine.specs.Machines.{IsMachineOf}
 use Rattle.swreq_world.specs.ByTable.{world_by}
 use Rattle.swreq_subst.specs.Calls.{IsValidThere}
 use Rattle.swreq_subst.proofs.line.is_valid_there.Goals as goal

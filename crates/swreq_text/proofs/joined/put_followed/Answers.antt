@@ -1,4 +1,4 @@
-use Rattle.swreq_text.proofs.Parts.{on_err, next_part, next_piece, followed_at}
+use Rattle.swreq_text.proofs.Grown.{on_err, next_part, next_piece, followed_at}
 use Rattle.swreq_text.proofs.joined.put_followed.Goals as goal
 
 pub returns-in_err-put_after-clause-err : goal.returns-in_err-put_after-clause-err

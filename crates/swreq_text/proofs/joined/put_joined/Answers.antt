@@ -1,4 +1,4 @@
-use Rattle.swreq_text.proofs.Parts.{on_err, first_part, rest_part, joined_at}
+use Rattle.swreq_text.proofs.Grown.{on_err, first_part, rest_part, joined_at}
 use Rattle.std.proofs.lemmas.Result.{on_err_weaker}
 use Rattle.swreq_text.proofs.joined.put_joined.Goals as goal
 

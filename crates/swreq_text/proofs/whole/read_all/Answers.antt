@@ -7,14 +7,14 @@ use Rattle.swreq_text.proofs.whole.read_all.Goals as goal
 pub returns-in_err-extend_from_slice-clause-rest : goal.returns-in_err-extend_from_slice-clause-rest
 returns-in_err-extend_from_slice-clause-rest g c =
     let bytes = c.loop-buf.bytes.items in
-    let n = c.in-Ok.n in
+    let n = c.in_ok-n.n in
     let more = take n c.read.new.buf in
-    let came : length more ≡ n = length-take-le n c.read.new.buf c.in-Ok.ensures.count in (
+    let came : length more ≡ n = length-take-le n c.read.new.buf c.in_ok-n.ensures.count in (
       length bytes + n,
-      omega (arith, c.in-Ok.ensures.count, c.read.auto.buf, length-take c.min-want.result c.loop-buf.buf),
+      omega (arith, c.in_ok-n.ensures.count, c.read.auto.buf, length-take c.min-want.result c.loop-buf.buf),
       (
         bytes ++ more,
-        Consumes-trans _ _ _ bytes more c.loop-buf.invariant.so_far c.in-Ok.ensures.next,
+        Consumes-trans _ _ _ bytes more c.loop-buf.invariant.so_far c.in_ok-n.ensures.next,
         length-append bytes more ∙ omega (arith, came),
       ),
     )

@@ -1,6 +1,6 @@
 use Rattle.std.proofs.Common.{◌≡◌, subst}
 use Rattle.std.specs.Bool.{Decides}
-use Rattle.swreq_valid.proofs.Answering.{linked_by_least}
+use Rattle.swreq_valid.proofs.Linking.{linked_by_least}
 use Rattle.swreq_valid.proofs.linked.are_linked.Goals as goal
 
 pub returns : goal.returns

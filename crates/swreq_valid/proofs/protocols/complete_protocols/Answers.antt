@@ -1,7 +1,7 @@
 use Rattle.std.proofs.Common.{refl, subst, Err}
 use Rattle.swreq_world.specs.ByTable.{world_by}
 use Rattle.swreq_valid.specs.Answers.{Answers}
-use Rattle.swreq_valid.specs.Machines.{protocols_of}
+use Rattle.swreq_valid.specs.Protocols.{protocols_of}
 use Rattle.swreq_valid.specs.Rounds.{rules_of}
 use Rattle.swreq_valid.proofs.Running.{only}
 use Rattle.swreq_valid.proofs.protocols.complete_protocols.Goals as goal

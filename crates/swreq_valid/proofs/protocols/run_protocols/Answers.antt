@@ -2,40 +2,41 @@ use Rattle.std.proofs.Common.{[], refl, subst, IfOk}
 use Rattle.std.proofs.lemmas.Result.{err_from_is_err_and}
 use Rattle.swreq_world.specs.ByTable.{world_by}
 use Rattle.swreq_valid.specs.Answers.{Answers, IsOnlyOutcome}
-use Rattle.swreq_valid.specs.Machines.{protocols_of}
+use Rattle.swreq_valid.specs.Protocols.{protocols_of}
 use Rattle.swreq_valid.specs.Rounds.{AreRounds, rules_of}
 use Rattle.swreq_valid.proofs.OfProtocols.{protocols_plan_is, protocols_rules, protocols_wanted_all}
 use Rattle.swreq_valid.proofs.Running.{nothing_told}
 use Rattle.swreq_valid.proofs.protocols.run_protocols.Goals as goal
 
-pub run-requires-clause-wanted : goal.run-requires-clause-wanted
-run-requires-clause-wanted g c =
+pub run_rounds-requires-clause-wanted : goal.run_rounds-requires-clause-wanted
+run_rounds-requires-clause-wanted g c =
     protocols_wanted_all c.args.world.now c.args.table.now c.requires.text c.in_ok-all.all.items c.in_ok-all.ensures
 
 pub returns-clause-answer : goal.returns-clause-answer
 returns-clause-answer g c = subst (λ p. Answers c.args.limits p (g.W.Watch.told c.args.watch.now)
-    (g.W.Watch.told c.run.new.watch) (rules_of c.run.result)) (protocols_plan_is c.args.world.now c.args.table.now []
+    (g.W.Watch.told c.run_rounds.new.watch) (rules_of c.run_rounds.result)) (protocols_plan_is c.args.world.now c.args.table.now []
     (record { basic = c.in_ok-basic.basic; all = c.in_ok-all.all; limits = c.args.limits }) refl c.in_ok-basic.ensures c.in_ok-all.ensures)
-    c.run.ensures.answer
+    c.run_rounds.ensures.answer
 
 pub returns-clause-only : goal.returns-clause-only
-returns-clause-only g c = subst (λ p. IsOnlyOutcome c.args.limits p (rules_of c.run.result)) (protocols_plan_is c.args.world.now
+returns-clause-only g c = subst (λ p. IsOnlyOutcome c.args.limits p (rules_of c.run_rounds.result)) (protocols_plan_is c.args.world.now
     c.args.table.now [] (record { basic = c.in_ok-basic.basic; all = c.in_ok-all.all; limits = c.args.limits }) refl c.in_ok-basic.ensures
-    c.in_ok-all.ensures) c.run.ensures.only
+    c.in_ok-all.ensures) c.run_rounds.ensures.only
 
 pub returns-clause-rounds : goal.returns-clause-rounds
-returns-clause-rounds g c = subst (λ p. IfOk c.run.result (AreRounds c.args.limits p)) (protocols_plan_is c.args.world.now
+returns-clause-rounds g c = subst (λ p. IfOk c.run_rounds.result (AreRounds c.args.limits p)) (protocols_plan_is c.args.world.now
     c.args.table.now [] (record { basic = c.in_ok-basic.basic; all = c.in_ok-all.all; limits = c.args.limits }) refl c.in_ok-basic.ensures
-    c.in_ok-all.ensures) c.run.ensures.rounds
+    c.in_ok-all.ensures) c.run_rounds.ensures.rounds
 
 pub returns-clause-rules : goal.returns-clause-rules
 returns-clause-rules g c =
     protocols_rules (world_by c.args.table.now c.args.world.now) c.requires.text.closed c.args.limits (g.W.Watch.told c.args.watch.now)
-    (g.W.Watch.told c.run.new.watch) c.run.result
-    (subst (λ p. Answers c.args.limits p (g.W.Watch.told c.args.watch.now) (g.W.Watch.told c.run.new.watch) (rules_of c.run.result))
+    (g.W.Watch.told c.run_rounds.new.watch) c.run_rounds.result
+    (subst (λ p. Answers c.args.limits p (g.W.Watch.told c.args.watch.now) (g.W.Watch.told c.run_rounds.new.watch)
+    (rules_of c.run_rounds.result))
     (protocols_plan_is c.args.world.now c.args.table.now []
     (record { basic = c.in_ok-basic.basic; all = c.in_ok-all.all; limits = c.args.limits }) refl c.in_ok-basic.ensures c.in_ok-all.ensures)
-    c.run.ensures.answer)
+    c.run_rounds.ensures.answer)
 
 pub returns-in_err-basic-clause-answer : goal.returns-in_err-basic-clause-answer
 returns-in_err-basic-clause-answer g c =

@@ -3,7 +3,7 @@ use Rattle.std.proofs.lemmas.List.{nil_from_length}
 use Rattle.std.proofs.lemmas.Bool.{eqb-true, false≢true}
 use Rattle.std.proofs.lemmas.Result.{err_from_is_err_and}
 use Rattle.swreq_param.proofs.Growing.{onward}
-use Rattle.swreq_parts.specs.Lines.{lines}
+use Rattle.swreq_text.specs.Lines.{lines}
 use Rattle.swreq_verify.specs.declared.reading.Section.{Section}
 use Rattle.swreq_verify.specs.SecondParts.{IsFirstMisfit}
 use Rattle.swreq_verify.proofs.Laid.{IsLaid, all_laid, laid_more, laid_within, misfit_laid, too_many_laid}

@@ -2,7 +2,7 @@ use Rattle.std.proofs.Common.{◌≡◌, subst, arith, inr, map}
 use Rattle.swreq_derive.specs.Lines.{line_of}
 use Rattle.swreq_lines.specs.declared.lines.LinesErr.TheVariants.{Syntax}
 use Rattle.swreq_lines.specs.GoodLines.{IsRefused}
-use Rattle.swreq_parts.specs.Lines.{lines}
+use Rattle.swreq_text.specs.Lines.{lines}
 use Rattle.swreq_verify.proofs.ReadBack.{bad_number, bad_read, front_read, texts_are}
 use Rattle.swreq_verify.proofs.reading.read_under.Goals as goal
 

@@ -1,8 +1,8 @@
 use Rattle.std.proofs.Common.{◌∙◌, sym, ap, subst, ◌++◌, take}
 use Rattle.std.proofs.lemmas.Bool.{false≢true}
 use Rattle.std.proofs.lemmas.List.{take_rest}
-use Rattle.swreq_parts.specs.Lines.{lines, IsFirstLine}
-use Rattle.swreq_parts.proofs.LineEnds.{lines-split}
+use Rattle.swreq_text.specs.Lines.{lines, IsFirstLine}
+use Rattle.swreq_text.proofs.LineEnds.{lines-split}
 use Rattle.swreq_verify.proofs.BodyCut.{body_more}
 use Rattle.swreq_verify.proofs.sections.cut_body.Goals as goal
 

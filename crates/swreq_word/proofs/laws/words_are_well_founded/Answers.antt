@@ -1,4 +1,4 @@
-use Rattle.swreq_orders.proofs.Induction as founded
+use Rattle.swreq_lemmas.proofs.Induction as founded
 use Rattle.swreq_word.proofs.WordsFounded.{words_founded}
 use Rattle.swreq_word.proofs.laws.words_are_well_founded.Goals as goal
 

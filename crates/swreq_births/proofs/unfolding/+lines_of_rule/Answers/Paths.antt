@@ -52,8 +52,10 @@ walk_along-lines_of_rule-requires t c =
     let allows = side_allows g s1 (term_at s1.table c.in_ok-v.v) rule step.forward step.after asks
     (subst (λ z. AllowsWord g s1 z (replaced_side step.forward rule ++ step.after)) (sym here) says) in
     let x = stands_before b at c.before-in-loop-k.result step.rule rule c.requires.rules.system c.before-in-loop-k.ensures among.0
-    among.1 in
-    (omega (arith, c.decreases, x.same, x.earlier), (x.there, (c.in_ok-v.ensures.grows.derivation, (c.in_ok-v.ensures.is_of, allows))))
+    among.1 in (
+      omega (arith, c.decreases, x.same, x.earlier),
+      record { rule = x.there; derivation = c.in_ok-v.ensures.grows.derivation; subject = c.in_ok-v.ensures.is_of; head = allows },
+    )
 
 pub walk_along-take_step-requires : goal.walk_along-take_step-requires
 walk_along-take_step-requires t c =
@@ -116,19 +118,16 @@ walk_along-join-requires t c =
 pub walk_along-loop-k-preserved : goal.walk_along-loop-k-preserved
 walk_along-loop-k-preserved t c =
     let g = c.args.history.now.alphabet in
-    let s0 = c.args.derivation.now in
-    let s = c.loop-k.derivation in
-    let s1 = c.read_word.new.derivation in
-    let s2 = c.lines_of_rule.new.derivation in
-    let s3 = c.take_step.new.derivation in
-    let path = c.args.path.now in
-    let rules = c.rules_before-rules.result.now in
-    let step = c.step_of-step.result.now in
-    let steps = path.steps in
     let i = c.loop-k.invariant in
-    let gr = grows_then s s2 s3 (grows_then s s1 s2 c.in_ok-v.ensures.grows c.in_ok-lines_of_rule.ensures.grows)
+    let path = c.args.path.now in
+    let steps = path.steps in
+    let step = c.step_of-step.result.now in
+    let rules = c.rules_before-rules.result.now in
+    let s0 = c.args.derivation.now in
+    let s3 = c.take_step.new.derivation in
+    let gr = grows_then _ _ s3 (grows_then _ _ _ c.in_ok-v.ensures.grows c.in_ok-lines_of_rule.ensures.grows)
     c.in_ok-take_step.ensures.grows in
-    let g03 = grows_then s0 s s3 i.grows gr in
+    let g03 = grows_then s0 _ s3 i.grows gr in
     let go = goes_along rules _ path c.loop-k.k step c.loop-k.word c.requires.path.0 c.rules_before-rules.ensures c.step_of-step.ensures
     i.left c.requires.path.1 in
     let here : c.in_ok-next.next ≡ go.next = c.in_ok-next.ensures c.loop-k.word go.next go.leads in record {

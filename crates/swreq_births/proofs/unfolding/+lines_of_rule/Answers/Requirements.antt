@@ -55,13 +55,19 @@ give_equation-give_required-requires t c =
     let within : c.args.system < length (systems_of c.args.history.now) = c.requires.equation.system.within in
     let asked = asked_of g s (term_at s.table c.args.subject) e.left x.owner c.requires.head
     (sides_asked g x.owner rules x.requirement e.left e.right w.1) in
-    let shown = subst (λ z. HasShownSides g x.owner rules x.requirement z c.symbols-in-Required.result.now) (sym c.symbols.ensures)
-    (subst (HasShownSides g x.owner rules x.requirement e.left) (sym c.symbols-in-Required.ensures) w.1) in
+    let words = c.sides_of-words in
+    let shown = subst (λ z. HasShownSides g x.owner rules x.requirement z words.result.to.now) (sym words.ensures.from)
+    (subst (HasShownSides g x.owner rules x.requirement e.left) (sym words.ensures.to) w.1) in
     let history = c.requires.equation.system.history in (
       omega (arith, c.decreases, earlier),
       (
-        record { history = history; within = omega (arith, within, earlier) },
-        (c.requires.derivation, (c.requires.subject, (asked, shown))),
+        record {
+          system = record { history = history; within = omega (arith, within, earlier) };
+          derivation = c.requires.derivation;
+          for_self = c.requires.subject;
+          owner = asked;
+        },
+        shown,
       ),
     )
 
@@ -74,11 +80,11 @@ give_required-read_type-requires-in-Same-2 t c =
     let s = c.args.derivation.now in
     let s1 = c.read_type-in-Same.new.derivation in
     let grows = c.in_ok-u-in-Same.ensures.grows in
-    let asked = asked_now s s1 grows c.args.scope.for_self c.args.scope.owner c.requires.for_self c.requires.owner in (
+    let asked = asked_now s s1 grows c.args.scope.for_self c.args.scope.owner c.requires.scope.for_self c.requires.scope.owner in (
       omega (arith, c.decreases),
       (
-        c.requires.system,
-        (grows.derivation, (is_still s s1 grows c.args.scope.for_self c.requires.for_self, (asked, shown.1))),
+        c.requires.scope.system,
+        (grows.derivation, (is_still s s1 grows c.args.scope.for_self c.requires.scope.for_self, (asked, shown.1))),
       ),
     )
 
@@ -87,9 +93,9 @@ give_required-give_conf-requires t c =
     let u = c.in_ok-u-in-Conf.ensures in record {
       derivation = u.grows.derivation;
       origin = origin_still _ _ u.grows (record { owner = c.args.scope.owner; number = c.args.number; for_self = c.args.scope.for_self })
-          (record { for_self = c.requires.for_self; owner = c.requires.owner });
+          (record { for_self = c.requires.scope.for_self; owner = c.requires.scope.owner });
       side = side_read c.args.history.now.alphabet _ _ u.grows c.args.scope.for_self c.in_ok-u-in-Conf.u _ c.args.words.to.now
-          c.requires.for_self u.is_of
+          c.requires.scope.for_self u.is_of
           u.stands u.word u.equal;
     }
 
@@ -98,7 +104,7 @@ give_required-returns-in_ok-give_conf-in-Conf t c =
     let owner = c.args.scope.owner in
     let u = c.in_ok-u-in-Conf.ensures in
     let given = c.in_ok-give_conf-in-Conf.ensures in
-    let now = term_still _ _ u.grows c.args.scope.for_self c.requires.for_self in
+    let now = term_still _ _ u.grows c.args.scope.for_self c.requires.scope.for_self in
     let shown = sides_as c.args.history.now.alphabet owner (rules_at c.args.history.now c.args.scope.system) _ _ c.args.words.from.now
     c.args.words.to.now c.in-Conf.is c.requires.shown in record {
       both = both_as _ _ _ _ _ _ _ _ now (sym shown.1) refl given.both;
@@ -113,9 +119,9 @@ give_required-give_layout-requires t c =
     let u = c.in_ok-u-in-Layout.ensures in record {
       derivation = u.grows.derivation;
       origin = origin_still _ _ u.grows (record { owner = c.args.scope.owner; number = c.args.number; for_self = c.args.scope.for_self })
-          (record { for_self = c.requires.for_self; owner = c.requires.owner });
+          (record { for_self = c.requires.scope.for_self; owner = c.requires.scope.owner });
       side = side_read c.args.history.now.alphabet _ _ u.grows c.args.scope.for_self c.in_ok-u-in-Layout.u _ c.args.words.to.now
-          c.requires.for_self u.is_of
+          c.requires.scope.for_self u.is_of
           u.stands u.word u.equal;
     }
 
@@ -124,7 +130,7 @@ give_required-returns-in_ok-give_layout-in-Layout t c =
     let owner = c.args.scope.owner in
     let u = c.in_ok-u-in-Layout.ensures in
     let given = c.in_ok-give_layout-in-Layout.ensures in
-    let now = term_still _ _ u.grows c.args.scope.for_self c.requires.for_self in
+    let now = term_still _ _ u.grows c.args.scope.for_self c.requires.scope.for_self in
     let shown = sides_as c.args.history.now.alphabet owner (rules_at c.args.history.now c.args.scope.system) _ _ c.args.words.from.now
     c.args.words.to.now c.in-Layout.is c.requires.shown in record {
       both = both_as _ _ _ _ _ _ _ _ now (sym shown.1) refl given.both;
@@ -141,13 +147,14 @@ give_required-give_same-requires t c =
     let u = c.in_ok-u-in-Same.ensures in
     let v = c.in_ok-v-in-Same.ensures in
     let words = c.args.words in
-    let is = is_still _ _ u.grows scope.for_self c.requires.for_self in record {
+    let is = is_still _ _ u.grows scope.for_self c.requires.scope.for_self in record {
       derivation = v.grows.derivation;
       origin = origin_still _ _ (grows_then _ _ _ u.grows v.grows)
           (record { owner = scope.owner; number = c.args.number; for_self = scope.for_self })
-          (record { for_self = c.requires.for_self; owner = c.requires.owner });
+          (record { for_self = c.requires.scope.for_self; owner = c.requires.scope.owner });
       left = side_still g _ _ v.grows scope.for_self c.in_ok-u-in-Same.u words.from.now is
-          (side_read g _ _ u.grows scope.for_self c.in_ok-u-in-Same.u _ words.from.now c.requires.for_self u.is_of u.stands u.word u.equal);
+          (side_read g _ _ u.grows scope.for_self c.in_ok-u-in-Same.u _ words.from.now c.requires.scope.for_self u.is_of u.stands u.word
+          u.equal);
       right = side_read g _ _ v.grows scope.for_self c.in_ok-v-in-Same.v _ words.to.now is v.is_of v.stands v.word v.equal;
     }
 
@@ -158,8 +165,8 @@ give_required-returns-in_ok-give_same-in-Same t c =
     let v = c.in_ok-v-in-Same.ensures in
     let given = c.in_ok-give_same-in-Same.ensures in
     let grows = grows_then _ _ _ u.grows v.grows in
-    let then = term_still _ _ v.grows scope.for_self (is_still _ _ u.grows scope.for_self c.requires.for_self) in
-    let now = term_still _ _ grows scope.for_self c.requires.for_self in record {
+    let then = term_still _ _ v.grows scope.for_self (is_still _ _ u.grows scope.for_self c.requires.scope.for_self) in
+    let now = term_still _ _ grows scope.for_self c.requires.scope.for_self in record {
       both = both_as _ _ _ _ _ _ _ _ now refl refl given.both;
       grows = grows_then _ _ _ grows given.grows;
       derives = λ b f n d. given.derives b (as_term c.in-Same.left) (as_term c.in-Same.right)

@@ -109,16 +109,64 @@ lines_of_rule-lines_of_rule-requires t c =
     let there : HasRule b (record { system = c.system_at-system.result.now.below; rule = at.rule }) rule = record {
       system = record { history = system.history; within = omega (arith, same, below, within) };
       is = subst (λ z. slice_get (rules_at b z) at.rule ≡ Some rule) (sym same) low.1;
-    } in
-    (omega (arith, c.decreases, same, below), (there, (c.requires.derivation, (c.requires.subject, c.requires.head))))
+    } in (
+      omega (arith, c.decreases, same, below),
+      record { rule = there; derivation = c.requires.derivation; subject = c.requires.subject; head = c.requires.head },
+    )
 
-pub lines_of_rule-from_equation-requires : goal.lines_of_rule-from_equation-requires
-lines_of_rule-from_equation-requires t c =
+pub lines_of_rule-equation_at-equation-requires : goal.lines_of_rule-equation_at-equation-requires
+lines_of_rule-equation_at-equation-requires t c =
+    let v = system_at c.args.history.now c.args.at.system in
+    let number = c.in-Given.n in
     let born = born_past c.system_at-system.ensures c.if-at-system.false c.in-Given.is in
-    let (derivation, is, allows) = allowed_still c.args.history.now.alphabet c.args.derivation.now c.are_read_equal.new.derivation
-    c.in_ok-said.ensures.grows
-    c.args.subject c.args.rule.now.left c.requires.subject c.requires.head in
-    (omega (arith, c.decreases), (c.requires.rule, (born, (derivation, (is, allows)))))
+    let b = given_at c.requires.rule number born in
+    let above : 0 < number = b.above in
+    let within : number - 1 < length v.given = slice_get_within v.given (number - 1) b.equation b.is_there in
+    record { system = c.requires.rule.system.within; above = b.above; within = omega (arith, above, within) }
+
+pub lines_of_rule-give_equation-requires : goal.lines_of_rule-give_equation-requires
+lines_of_rule-give_equation-requires t c =
+    let g = c.args.history.now.alphabet in
+    let s1 = c.are_read_equal.new.derivation in
+    let left = c.args.rule.now.left in
+    let there = c.equation_at-equation.ensures in
+    let born = born_past c.system_at-system.ensures c.if-at-system.false c.in-Given.is in
+    let (derivation, is, head) = allowed_still g c.args.derivation.now s1 c.in_ok-said.ensures.grows c.args.subject left c.requires.subject
+    c.requires.head in
+    let asks = equation_asks c.requires.rule c.in-Given.n c.equation_at-equation.result.now born there in
+    let allows = asked_of g s1 (term_at s1.table c.args.subject) left asks.asked head asks.second in (
+      omega (arith, c.decreases),
+      record {
+        equation = record { system = c.requires.rule.system; there = (c.in-Given.n - 1, there) };
+        derivation = derivation;
+        subject = is;
+        head = (asks.asked, asks.first, allows);
+      },
+    )
+
+pub lines_of_rule-settle-requires : goal.lines_of_rule-settle-requires
+lines_of_rule-settle-requires t c =
+    let s1 = c.are_read_equal.new.derivation in
+    let s2 = c.give_equation.new.derivation in
+    let rule = c.args.rule.now in
+    let rules = rules_at c.args.history.now c.args.at.system in
+    let given = c.in_ok-give_equation-in-Given.ensures in
+    let is = is_still c.args.derivation.now s1 c.in_ok-said.ensures.grows c.args.subject c.requires.subject in
+    let born = born_past c.system_at-system.ensures c.if-at-system.false c.in-Given.is in
+    let b = given_at c.requires.rule c.in-Given.n born in
+    let e : b.equation ≡ c.equation_at-equation.result.now = same_Some _ _ (sym b.is_there ∙ c.equation_at-equation.ensures) in
+    let left = ap (λ (z : Equation). z.left) e ∙ sym c.sides_of.ensures.from in
+    let right = ap (λ (z : Equation). z.right) e ∙ sym c.sides_of.ensures.to in
+    let both = both_as c.args.history.now.alphabet s2 (term_at s1.table c.args.subject) (term_at s2.table c.args.subject) _ _ _ _
+    (sym (term_still s1 s2 given.grows c.args.subject is)) (sym c.sides_of.ensures.from) (sym c.sides_of.ensures.to) given.both in
+    let reduces = subst (λ z. ReducesTo rules c.args.at.rule z c.sides_of.result.to.now rule) left
+    (subst (λ z. ReducesTo rules c.args.at.rule b.equation.left z rule) right b.reduces) in (
+      omega (arith, c.decreases),
+      (
+        c.requires.rule,
+        (given.grows.derivation, (is_still s1 s2 given.grows c.args.subject is, (both, reduces))),
+      ),
+    )
 
 pub lines_of_rule-from_pair-requires : goal.lines_of_rule-from_pair-requires
 lines_of_rule-from_pair-requires t c =
@@ -126,15 +174,16 @@ lines_of_rule-from_pair-requires t c =
     let (derivation, is, allows) = allowed_still c.args.history.now.alphabet c.args.derivation.now c.are_read_equal.new.derivation
     c.in_ok-said.ensures.grows
     c.args.subject c.args.rule.now.left c.requires.subject c.requires.head in
-    (omega (arith, c.decreases), (c.requires.rule, (born, (derivation, (is, allows)))))
+    (omega (arith, c.decreases), (record { rule = c.requires.rule; derivation = derivation; subject = is; head = allows }, born))
 
-pub lines_of_rule-returns-in_ok-from_equation-in-Given : goal.lines_of_rule-returns-in_ok-from_equation-in-Given
-lines_of_rule-returns-in_ok-from_equation-in-Given t c =
-    let said = c.in_ok-said.ensures in
-    let born = c.in_ok-from_equation-in-Given.ensures in record {
-      both = both_before _ _ said.grows c.args.subject c.requires.subject born.both;
-      grows = grows_then _ _ _ said.grows born.grows;
-      derives = λ b f d. born.derives b f (said.derives b d);
+pub lines_of_rule-returns-in_ok-settle-in-Given : goal.lines_of_rule-returns-in_ok-settle-in-Given
+lines_of_rule-returns-in_ok-settle-in-Given t c =
+    let given = c.in_ok-give_equation-in-Given.ensures in
+    let settled = c.in_ok-settle-in-Given.ensures in
+    let grows = grows_then _ _ _ c.in_ok-said.ensures.grows given.grows in record {
+      both = both_before _ _ grows c.args.subject c.requires.subject settled.both;
+      grows = grows_then _ _ _ grows settled.grows;
+      derives = λ b f d. settled.derives b f (given.derives b f (c.in_ok-said.ensures.derives b d));
     }
 
 pub lines_of_rule-returns-in_ok-from_pair-in-Pair : goal.lines_of_rule-returns-in_ok-from_pair-in-Pair
@@ -146,69 +195,12 @@ lines_of_rule-returns-in_ok-from_pair-in-Pair t c =
       derives = λ b f d. born.derives b f (said.derives b d);
     }
 
--- ---- a rule born of an equation
-
-pub from_equation-equation_at-equation-requires : goal.from_equation-equation_at-equation-requires
-from_equation-equation_at-equation-requires t c =
-    let v = system_at c.args.history.now c.args.at.system in
-    let b = given_at c.requires.rule c.args.number c.requires.born in
-    let above : 0 < c.args.number = b.above in
-    let within : c.args.number - 1 < length v.given = slice_get_within v.given (c.args.number - 1) b.equation b.is_there in
-    record { system = c.requires.rule.system.within; above = b.above; within = omega (arith, above, within) }
-
-pub from_equation-give_equation-requires : goal.from_equation-give_equation-requires
-from_equation-give_equation-requires t c =
-    let s = c.args.derivation.now in
-    let asks = equation_asks c.requires.rule c.args.number c.equation_at-equation.result.now c.requires.born
-    c.equation_at-equation.ensures in
-    let allows = asked_of c.args.history.now.alphabet s (term_at s.table c.args.subject) c.args.rule.now.left asks.asked c.requires.head
-    asks.second in
-    let there = c.equation_at-equation.ensures in (
-      omega (arith, c.decreases),
-      (
-        record { system = c.requires.rule.system; there = (c.args.number - 1, there) },
-        (c.requires.derivation, (c.requires.subject, (asks.asked, asks.first, allows))),
-      ),
-    )
-
-pub from_equation-settle-requires : goal.from_equation-settle-requires
-from_equation-settle-requires t c =
-    let s = c.args.derivation.now in
-    let s1 = c.give_equation.new.derivation in
-    let rule = c.args.rule.now in
-    let rules = rules_at c.args.history.now c.args.at.system in
-    let grows = c.in_ok-give_equation.ensures.grows in
-    let b = given_at c.requires.rule c.args.number c.requires.born in
-    let e : b.equation ≡ c.equation_at-equation.result.now = same_Some _ _ (sym b.is_there ∙ c.equation_at-equation.ensures) in
-    let left = ap (λ (z : Equation). z.left) e ∙ sym c.symbols.ensures in
-    let right = ap (λ (z : Equation). z.right) e ∙ sym c.symbols-2.ensures in
-    let both = both_as c.args.history.now.alphabet s1 (term_at s.table c.args.subject) (term_at s1.table c.args.subject) _ _ _ _
-    (sym (term_still s s1 grows c.args.subject c.requires.subject)) (sym c.symbols.ensures) (sym c.symbols-2.ensures)
-    c.in_ok-give_equation.ensures.both in
-    let reduces = subst (λ z. ReducesTo rules c.args.at.rule z c.symbols-2.result.now rule) left
-    (subst (λ z. ReducesTo rules c.args.at.rule b.equation.left z rule) right b.reduces) in (
-      omega (arith, c.decreases),
-      (
-        c.requires.rule,
-        (grows.derivation, (is_still s s1 grows c.args.subject c.requires.subject, (both, reduces))),
-      ),
-    )
-
-pub from_equation-returns : goal.from_equation-returns
-from_equation-returns t c =
-    let given = c.in_ok-give_equation.ensures in
-    let settled = c.in_ok-settle.ensures in record {
-      both = both_before _ _ given.grows c.args.subject c.requires.subject settled.both;
-      grows = grows_then _ _ _ given.grows settled.grows;
-      derives = λ b f d. settled.derives b f (given.derives b f d);
-    }
-
 -- ---- a rule born of a pair
 
 pub from_pair-rule_of-first-requires : goal.from_pair-rule_of-first-requires
 from_pair-rule_of-first-requires t c =
     let rules = rules_at c.args.history.now c.args.at.system in
-    let p = paired_at c.requires.rule c.args.place c.requires.born in record {
+    let p = paired_at c.requires.asked.rule c.args.place c.requires.born in record {
       above = number_some rules c.args.place.i p.pair.first p.pair.first_at;
       within = subst (λ z. c.args.place.i ≤ length z) (sym c.all_rules-rules.ensures)
           (number_within rules c.args.place.i p.pair.first p.pair.first_at);
@@ -217,7 +209,7 @@ from_pair-rule_of-first-requires t c =
 pub from_pair-rule_of-second-requires : goal.from_pair-rule_of-second-requires
 from_pair-rule_of-second-requires t c =
     let rules = rules_at c.args.history.now c.args.at.system in
-    let p = paired_at c.requires.rule c.args.place c.requires.born in record {
+    let p = paired_at c.requires.asked.rule c.args.place c.requires.born in record {
       above = number_some rules c.args.place.j p.pair.second p.pair.second_at;
       within = subst (λ z. c.args.place.j ≤ length z) (sym c.all_rules-rules.ensures)
           (number_within rules c.args.place.j p.pair.second p.pair.second_at);
@@ -227,18 +219,22 @@ pub from_pair-lines_of_rule-requires : goal.from_pair-lines_of_rule-requires
 from_pair-lines_of_rule-requires t c =
     let s = c.args.derivation.now in
     let place = c.args.place in
-    let p = pair_here c.requires.rule place c.requires.born c.all_rules-rules.ensures c.rule_of-first.ensures c.rule_of-second.ensures in
-    let x = first_before c.requires.rule p c.before-2.result c.before-2.ensures in
-    let allows = first_asked c.requires.rule p s (term_at s.table c.args.subject) c.requires.head in
-    (omega (arith, c.decreases, x.same, x.earlier), (x.there, (c.requires.derivation, (c.requires.subject, allows))))
+    let p = pair_here c.requires.asked.rule place c.requires.born c.all_rules-rules.ensures c.rule_of-first.ensures
+    c.rule_of-second.ensures in
+    let x = first_before c.requires.asked.rule p c.before-2.result c.before-2.ensures in
+    let allows = first_asked c.requires.asked.rule p s (term_at s.table c.args.subject) c.requires.asked.head in
+    let now = c.requires.asked in (
+      omega (arith, c.decreases, x.same, x.earlier),
+      record { rule = x.there; derivation = now.derivation; subject = now.subject; head = allows },
+    )
 
 pub from_pair-lines_of_rule-requires-2 : goal.from_pair-lines_of_rule-requires-2
 from_pair-lines_of_rule-requires-2 t c =
     let g = c.args.history.now.alphabet in
     let place = c.args.place in
     let first = c.rule_of-first.result.now in
-    let second = c.rule_of-second.result.now in
-    let p = pair_here c.requires.rule place c.requires.born c.all_rules-rules.ensures c.rule_of-first.ensures c.rule_of-second.ensures in
+    let p = pair_here c.requires.asked.rule place c.requires.born c.all_rules-rules.ensures c.rule_of-first.ensures
+    c.rule_of-second.ensures in
     let s = c.args.derivation.now in
     let s1 = c.lines_of_rule.new.derivation in
     let s2 = c.read_word.new.derivation in
@@ -246,11 +242,14 @@ from_pair-lines_of_rule-requires-2 t c =
     let here = c.in_ok-v.ensures.stands ∙ ap (λ z. read_word g (term_at s1.table c.args.subject) z)
     (c.first_symbols-part.ensures ∙ ap (take place.at) c.symbols.ensures)
     ∙ ap (λ z. read_word g z (take place.at first.left))
-    (term_still s s1 c.in_ok-lines_of_rule.ensures.grows c.args.subject c.requires.subject) in
-    let x = second_before c.requires.rule p c.before-3.result c.before-3.ensures in
-    let allows = subst (λ z. IsHeadStated g s2 z second.left) (sym here) (second_asked c.requires.rule p s2 (term_at s.table c.args.subject)
-    (word_still g s1 s2 g2 (term_at s.table c.args.subject) first.left c.in_ok-lines_of_rule.ensures.both.left)) in
-    (omega (arith, c.decreases, x.same, x.earlier), (x.there, (g2.derivation, (c.in_ok-v.ensures.is_of, allows))))
+    (term_still s s1 c.in_ok-lines_of_rule.ensures.grows c.args.subject c.requires.asked.subject) in
+    let x = second_before c.requires.asked.rule p c.before-3.result c.before-3.ensures in
+    let allows = subst (λ z. IsHeadStated g s2 z c.rule_of-second.result.now.left) (sym here)
+    (second_asked c.requires.asked.rule p s2 (term_at s.table c.args.subject)
+    (word_still g s1 s2 g2 (term_at s.table c.args.subject) first.left c.in_ok-lines_of_rule.ensures.both.left)) in (
+      omega (arith, c.decreases, x.same, x.earlier),
+      record { rule = x.there; derivation = g2.derivation; subject = c.in_ok-v.ensures.is_of; head = allows },
+    )
 
 pub from_pair-read_pair-requires : goal.from_pair-read_pair-requires
 from_pair-read_pair-requires t c =
@@ -258,7 +257,8 @@ from_pair-read_pair-requires t c =
     let place = c.args.place in
     let first = c.rule_of-first.result.now in
     let second = c.rule_of-second.result.now in
-    let p = pair_here c.requires.rule place c.requires.born c.all_rules-rules.ensures c.rule_of-first.ensures c.rule_of-second.ensures in
+    let p = pair_here c.requires.asked.rule place c.requires.born c.all_rules-rules.ensures c.rule_of-first.ensures
+    c.rule_of-second.ensures in
     let s = c.args.derivation.now in
     let s1 = c.lines_of_rule.new.derivation in
     let s2 = c.read_word.new.derivation in
@@ -266,13 +266,14 @@ from_pair-read_pair-requires t c =
     let g1 = c.in_ok-lines_of_rule.ensures.grows in
     let g13 = grows_then s1 s2 s3 c.in_ok-v.ensures.grows c.in_ok-lines_of_rule-2.ensures.grows in
     let g03 = grows_then s s1 s3 g1 g13 in
-    let now = sym (term_still s s3 g03 c.args.subject c.requires.subject) in
+    let now = sym (term_still s s3 g03 c.args.subject c.requires.asked.subject) in
     let here = c.in_ok-v.ensures.stands ∙ ap (λ z. read_word g (term_at s1.table c.args.subject) z)
     (c.first_symbols-part.ensures ∙ ap (take place.at) c.symbols.ensures)
-    ∙ ap (λ z. read_word g z (take place.at first.left)) (term_still s s1 g1 c.args.subject c.requires.subject) in record {
+    ∙ ap (λ z. read_word g z (take place.at first.left)) (term_still s s1 g1 c.args.subject c.requires.asked.subject) in record {
       derivation = c.in_ok-lines_of_rule-2.ensures.grows.derivation;
-      subject = is_still s s3 g03 c.args.subject c.requires.subject;
-      pair = some_kind first second place.at p.born.left p.born.right (kind_of c.requires.rule p p.born.left p.born.right p.born.pair);
+      subject = is_still s s3 g03 c.args.subject c.requires.asked.subject;
+      pair = some_kind first second place.at p.born.left p.born.right
+          (kind_of c.requires.asked.rule p p.born.left p.born.right p.born.pair);
       first = both_as g s3 (term_at s.table c.args.subject) _ first.left first.left first.right first.right now refl refl
           (both_still g s1 s3 g13 (term_at s.table c.args.subject) first.left first.right c.in_ok-lines_of_rule.ensures.both);
       second = both_as g s3 (term_at s2.table c.in_ok-v.v) _ second.left second.left second.right second.right
@@ -284,9 +285,8 @@ from_pair-settle-requires t c =
     let g = c.args.history.now.alphabet in
     let rules = rules_at c.args.history.now c.args.at.system in
     let place = c.args.place in
-    let first = c.rule_of-first.result.now in
-    let second = c.rule_of-second.result.now in
-    let p = pair_here c.requires.rule place c.requires.born c.all_rules-rules.ensures c.rule_of-first.ensures c.rule_of-second.ensures in
+    let p = pair_here c.requires.asked.rule place c.requires.born c.all_rules-rules.ensures c.rule_of-first.ensures
+    c.rule_of-second.ensures in
     let s = c.args.derivation.now in
     let s1 = c.lines_of_rule.new.derivation in
     let s3 = c.lines_of_rule-2.new.derivation in
@@ -300,20 +300,20 @@ from_pair-settle-requires t c =
     let same = one_pair rules place p.born.left p.born.right left right p.born.pair here in
     let term_3 = term_at s3.table c.args.subject in
     let both = both_as g s4 term_3 (term_at s4.table c.args.subject) _ _ _ _
-    (sym (term_still s3 s4 g4 c.args.subject (is_still s s3 g03 c.args.subject c.requires.subject))) (sym c.deref.ensures.value)
+    (sym (term_still s3 s4 g4 c.args.subject (is_still s s3 g03 c.args.subject c.requires.asked.subject))) (sym c.deref.ensures.value)
     (sym c.deref-2.ensures.value)
-    (both_of_kind g s4 term_3 first second place.at left right (kind_of c.requires.rule p left right here) c.in_ok-read_pair.ensures.overlap
-    c.in_ok-read_pair.ensures.containment) in
+    (both_of_kind g s4 term_3 c.rule_of-first.result.now c.rule_of-second.result.now place.at left right
+    (kind_of c.requires.asked.rule p left right here) c.in_ok-read_pair.ensures.overlap c.in_ok-read_pair.ensures.containment) in
     let reduces = subst (λ z. ReducesTo rules c.args.at.rule z c.deref-2.result.now c.args.rule.now) (same.0 ∙ sym c.deref.ensures.value)
     (subst (λ z. ReducesTo rules c.args.at.rule p.born.left z c.args.rule.now) (same.1 ∙ sym c.deref-2.ensures.value) p.born.reduces) in
-    let is = is_still s s4 (grows_then s s3 s4 g03 g4) c.args.subject c.requires.subject in
-    (omega (arith, c.decreases), (c.requires.rule, (g4.derivation, (is, (both, reduces)))))
+    let is = is_still s s4 (grows_then s s3 s4 g03 g4) c.args.subject c.requires.asked.subject in
+    (omega (arith, c.decreases), (c.requires.asked.rule, (g4.derivation, (is, (both, reduces)))))
 
 pub from_pair-returns : goal.from_pair-returns
 from_pair-returns t c =
     let first = grows_then _ _ _ c.in_ok-lines_of_rule.ensures.grows c.in_ok-v.ensures.grows in
     let met = grows_then _ _ _ first (grows_then _ _ _ c.in_ok-lines_of_rule-2.ensures.grows c.in_ok-read_pair.ensures.grows) in record {
-      both = both_before _ _ met c.args.subject c.requires.subject c.in_ok-settle.ensures.both;
+      both = both_before _ _ met c.args.subject c.requires.asked.subject c.in_ok-settle.ensures.both;
       grows = grows_then _ _ _ met c.in_ok-settle.ensures.grows;
       derives = λ b f d. c.in_ok-settle.ensures.derives b f (c.in_ok-read_pair.ensures.derives b f.alphabet
           (c.in_ok-lines_of_rule-2.ensures.derives b f (c.in_ok-v.ensures.derives b (c.in_ok-lines_of_rule.ensures.derives b f d))));

@@ -27,19 +27,17 @@ use Rattle.swreq_births.proofs.unfolding.+lines_of_rule.Goals as goal
 pub read_type-loop-k-init : goal.read_type-loop-k-init
 read_type-loop-k-init t c =
     let g = c.args.history.now.alphabet in
-    let owner = c.args.scope.owner in
-    let rules = rules_at c.args.history.now c.args.scope.system in
-    let hd = c.args.param.now.head in
-    let xs = c.args.param.now.steps in
-    let w = c.args.word.now in
+    let scope = c.args.scope in
+    let param = c.args.param.now in
+    let rules = rules_at c.args.history.now scope.system in
     let s0 = c.args.derivation.now in
-    let top = term_at s0.table c.args.scope.for_self in
+    let top = term_at s0.table scope.for_self in
     let at = c.in_ok-at.ensures in record {
       is_of = at.is_of;
       stands = at.stands;
-      word = begins_said g c.start.new.derivation top owner rules hd xs w c.requires.shown
-          (asked_still s0 c.start.new.derivation at.grows top owner c.requires.owner);
-      equal = inl (sym (begins_read g top owner rules hd xs w c.requires.shown));
+      word = begins_said g c.start.new.derivation top scope.owner rules param.head param.steps c.args.word.now c.requires.shown
+          (asked_still s0 c.start.new.derivation at.grows top scope.owner c.requires.owner);
+      equal = inl (sym (begins_read g top scope.owner rules param.head param.steps c.args.word.now c.requires.shown));
       grows = at.grows;
       derives = λ b f d. at.derives b d;
     }

@@ -3,7 +3,7 @@ use Rattle.std.specs.List.Sorted.{IsStrictlySortedBy}
 use Rattle.std.proofs.lemmas.List.Filters.{dedup_is}
 use Rattle.std.proofs.lemmas.List.Kept.{IsStrictlySortedBy-dedup, Contains-dedup, Contains-from_dedup}
 use Rattle.std.proofs.lemmas.List.Sorted.{IsPermutation-sym, Contains-permutation}
-use Rattle.swreq_orders.proofs.Orderings.{is_equal}
+use Rattle.swreq_lemmas.proofs.Orderings.{is_equal}
 use Rattle.swreq_rank.proofs.ranked.Ranked.of.Goals as goal
 
 pub invariant_of-result : goal.invariant_of-result

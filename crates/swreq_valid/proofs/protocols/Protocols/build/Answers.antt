@@ -3,7 +3,7 @@ use Rattle.std.proofs.lemmas.Result.{err_from_is_err_and}
 use Rattle.swreq_symbols.specs.Meaning.{facts_of}
 use Rattle.swreq_world.specs.ByTable.{world_by}
 use Rattle.swreq_valid.specs.Built.{protocol_rules}
-use Rattle.swreq_valid.specs.Machines.{protocols_of}
+use Rattle.swreq_valid.specs.Protocols.{protocols_of}
 use Rattle.swreq_valid.specs.Rounds.{last_rules}
 use Rattle.swreq_valid.specs.Sides.{protocol_sides}
 use Rattle.swreq_valid.proofs.Building.{only_built}

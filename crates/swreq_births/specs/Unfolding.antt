@@ -1,0 +1,46 @@
+-- What a derivation states before and after a rule, an equation or a requirement of the history is read after a type parameter.
+use Rattle.std.specs.Prelude.{ℕ, List, take}
+use Rattle.swreq_param.specs.declared.ids.TermId.{TermId}
+use Rattle.swreq_param.specs.Tables.{IsOf, term_at}
+use Rattle.swreq_word.specs.declared.symbols.Symbol.{Symbol}
+use Rattle.swreq_rule.specs.declared.rules.Rule.{Rule}
+use Rattle.swreq_path.specs.declared.paths.Path.{Path}
+use Rattle.swreq_path.specs.Paths.{HasTarget}
+use Rattle.swreq_derivation.specs.declared.derivation.Derivation.{Derivation}
+use Rattle.swreq_derivation.specs.UnderWay.{IsUnderWay}
+use Rattle.swreq_readings.specs.Readable.{AreReadEqual}
+use Rattle.swreq_births.specs.declared.history.Equation.{Equation}
+use Rattle.swreq_births.specs.declared.history.History.{History}
+use Rattle.swreq_births.specs.declared.history.RulePlace.{RulePlace}
+use Rattle.swreq_births.specs.declared.types.ReadingPlace.{ReadingPlace}
+use Rattle.swreq_births.specs.Heads.{ConformsIfAny, IsHeadStated}
+use Rattle.swreq_births.specs.Systems.{HasEquation, HasRule, HasSystem, rules_at}
+
+-- The rule stands at this place of the history, and the lines of a derivation under way state what it asks of the type parameter of the id.
+pub record AllowsRule (b : History) (s : Derivation) (at : RulePlace) (r : Rule) (t : TermId) : Type 0 where
+  pub rule : HasRule b at r
+  pub derivation : IsUnderWay s
+  pub subject : IsOf s.table t
+  pub head : IsHeadStated b.alphabet s (term_at s.table t) r.left
+
+-- The system has the equation, and the lines of a derivation under way state what its left side asks of the type parameter of the id.
+pub record AllowsEquation (b : History) (s : Derivation) (system : ℕ) (e : Equation) (t : TermId) : Type 0 where
+  pub equation : HasEquation b system e
+  pub derivation : IsUnderWay s
+  pub subject : IsOf s.table t
+  pub head : IsHeadStated b.alphabet s (term_at s.table t) e.left
+
+-- The history has the system, and a line of a derivation under way states that what stands for `Self` conforms to the owner, if any.
+pub record AllowsScope (b : History) (s : Derivation) (scope : ReadingPlace) : Type 0 where
+  pub system : HasSystem b scope.system
+  pub derivation : IsUnderWay s
+  pub for_self : IsOf s.table scope.for_self
+  pub owner : ConformsIfAny s (term_at s.table scope.for_self) scope.owner
+
+-- The grown derivation states that the two sides of the rule are read alike after what the id stood for.
+abbrev pub IsSaid : History → Derivation → Derivation → TermId → Rule → Type 0
+IsSaid b old new subject rule = AreReadEqual b.alphabet new (term_at old.table subject) rule.left rule.right
+
+-- The path leads to the word, over the rules of the system before this place.
+abbrev pub LeadsTo : History → RulePlace → Path → List Symbol → Type 0
+LeadsTo b at path w = HasTarget (take at.rule (rules_at b at.system)) path w

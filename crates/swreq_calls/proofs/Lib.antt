@@ -1,3 +1,0 @@
-pub mod Predictive
-pub mod Answering
-mod AsWritten

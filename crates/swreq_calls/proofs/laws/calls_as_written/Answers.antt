@@ -1,5 +1,0 @@
-use Rattle.swreq_calls.proofs.AsWritten.{calls_as_written}
-use Rattle.swreq_calls.proofs.laws.calls_as_written.Goals as goal
-
-pub returns : goal.returns
-returns c = calls_as_written

@@ -1,5 +1,0 @@
-use Rattle.swreq_calls.proofs.Answering.{one_list_of}
-use Rattle.swreq_calls.proofs.laws.one_list_of_calls.Goals as goal
-
-pub returns : goal.returns
-returns c = one_list_of c.args.text.now c.args.from c.one_reading_from.ensures.one_list

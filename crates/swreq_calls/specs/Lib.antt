@@ -1,5 +1,0 @@
-pub mod Terminals
-pub mod Spellings
-pub mod Grammar
-pub mod Written
-pub mod Calls

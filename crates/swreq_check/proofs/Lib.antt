@@ -1,0 +1,7 @@
+pub mod OfChecks
+pub mod Flags
+pub mod Lines
+pub mod OneCheck
+pub mod PiecesMade
+pub mod Placed
+pub mod Settled

@@ -1,0 +1,22 @@
+use Rattle.swreq_reqsig.proofs.WellFormed.{list_formed}
+use Rattle.swreq_symbols.specs.Meaning.{facts_of}
+use Rattle.swreq_world.specs.FactsAt.{source_of}
+use Rattle.swreq_world.specs.Worlds.{signature_at}
+use Rattle.swreq_check.specs.Settings.{world_in}
+use Rattle.swreq_check.proofs.answering.put_path.Goals as goal
+
+pub shortest-requires-clause-machine : goal.shortest-requires-clause-machine
+shortest-requires-clause-machine c =
+    let w = world_in c.args.table.now c.args.s.now in
+    let own = signature_at w c.args.own.now.f in
+    let h = c.requires.machine in record {
+      signature = h.signature;
+      protocols = c.requires.ready.formed;
+      list = λ r has. list_formed (facts_of w) (source_of own) own.requirements h.valid r has;
+      machine = h.machine;
+      params = h.params;
+    }
+
+pub path_text-requires-clause-numbers : goal.path_text-requires-clause-numbers
+path_text-requires-clause-numbers c =
+    c.paths_have_texts.ensures _ _ _ _ _ c.in_ok-path.path.first c.in_ok-path.path.steps c.in_ok-path.ensures.path.path

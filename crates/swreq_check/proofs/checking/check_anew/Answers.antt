@@ -1,0 +1,40 @@
+use Rattle.std.proofs.Common.{inr}
+use Rattle.swreq_valid.specs.Rounds.{last_rules}
+use Rattle.swreq_world.specs.Worlds.{signature_at}
+use Rattle.swreq_check.specs.Settings.{IsMachineFor, world_in}
+use Rattle.swreq_check.proofs.OfChecks.{err_is, one_refused}
+use Rattle.swreq_check.proofs.Settled.{machine_on}
+use Rattle.swreq_check.proofs.checking.check_anew.Given as given
+use Rattle.swreq_check.proofs.checking.check_anew.Goals as goal
+use Rattle.swreq_check.proofs.checking.check_anew.Goals.{In_ok-machine}
+
+machine_for : (g : given.Over) (c : In_ok-machine g) → IsMachineFor c.args.table.now c.args.s.now c.args.f c.in_ok-machine.machine
+machine_for g c = record {
+  signature = c.requires.f;
+  valid = c.in_ok-machine.ensures.answer.1.1;
+  machine = c.in_ok-machine.ensures.machine;
+  params = c.in_ok-machine.ensures.params;
+  rounds = c.in_ok-machine.ensures.rounds;
+}
+
+pub returns-in_err-machine-clause-check : goal.returns-in_err-machine-clause-check
+returns-in_err-machine-clause-check g c =
+    let w = world_in c.args.table.now c.args.s.now in
+    rw (err_is c.from_residual.result _ c.from_residual.ensures.1)
+    (one_refused _ w _ (signature_at w c.args.f) _ _ c.in_err-machine.field-0.0 c.in_err-machine.ensures.answer)
+
+pub make_pieces-requires-clause-machine : goal.make_pieces-requires-clause-machine
+make_pieces-requires-clause-machine g c = machine_for g (goal.at.make_pieces-requires-clause-machine g c).In_ok-machine
+
+pub returns-in-Ok-clause-check : goal.returns-in-Ok-clause-check
+returns-in-Ok-clause-check g c =
+    let (told, comes, grew) = c.in_ok-machine.ensures.answer in (told, (last_rules c.in_ok-machine.machine.rounds, comes), grew)
+
+pub returns-in-Ok-clause-kept : goal.returns-in-Ok-clause-kept
+returns-in-Ok-clause-kept g c =
+    machine_on c.args.table.now c.make_pieces.new.table c.args.s.now c.in-Ok.ensures.extends c.requires.ready c.args.f
+    c.in_ok-machine.machine (machine_for g (goal.at.returns-in-Ok-clause-kept g c).In_ok-machine)
+
+pub returns-clause-check : goal.returns-clause-check
+returns-clause-check g c =
+    let (told, comes, grew) = c.in_ok-machine.ensures.answer in (told, inr (last_rules c.in_ok-machine.machine.rounds, comes), grew)

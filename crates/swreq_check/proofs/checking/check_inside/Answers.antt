@@ -1,0 +1,40 @@
+use Rattle.std.proofs.Common.{◌≡◌, List, refl, sym}
+use Rattle.swreq_derive.specs.Derivation.{TermRequirement}
+use Rattle.swreq_derive.specs.Derivation.Source.{Written}
+use Rattle.swreq_derive.specs.Facts.{generic_params}
+use Rattle.swreq_derive.specs.declared.known.Params.{Params}
+use Rattle.swreq_lowering.specs.Requirements.{PlacedRequirement}
+use Rattle.swreq_symbols.specs.Meaning.{facts_of}
+use Rattle.swreq_machine.specs.Machines.{IsMachineOf, list_of}
+use Rattle.swreq_valid.specs.Rounds.{AreRounds, last_rules}
+use Rattle.swreq_valid.specs.Sides.{HoldsOfEach, IsValidSide, sides}
+use Rattle.swreq_machine.proofs.OfSignatures.{as_meant, as_read}
+use Rattle.swreq_check.specs.Settings.{world_in}
+use Rattle.swreq_check.proofs.Settled.{machine_on}
+use Rattle.swreq_check.proofs.checking.check_inside.Goals as goal
+
+-- the machine of a struct is that of a function that adds nothing to it
+pub check_again-requires-clause-machine : goal.check_again-requires-clause-machine
+check_again-requires-clause-machine g c =
+    let terms = c.args.table.now in
+    let s = c.args.s.now in
+    let w = world_in terms s in
+    let m = c.args.kept.machine in
+    let h = c.requires.kept in
+    let Is = λ (p : Params) (rs : List TermRequirement) (qs : List PlacedRequirement).
+    HoldsOfEach (IsValidSide (facts_of w)) (sides (Written (generic_params p) rs) qs) × IsMachineOf w rs m × (m.params ≡ p)
+    × AreRounds s.limits (list_of w (last_rules s.protocols.now.rounds) p rs) m.rounds in
+    let read = as_read terms s.world.now c.args.kept.f _ _ refl refl Is (h.valid, h.machine, h.params, h.rounds) in
+    let (valid, machine, params, rounds) =
+    as_meant terms s.world.now c.args.f _ _ (sym c.requires.inside.params) (sym c.requires.inside.requirements) Is read in record {
+      signature = c.requires.f;
+      valid = valid;
+      machine = machine;
+      params = params;
+      rounds = rounds;
+    }
+
+pub returns-clause-kept : goal.returns-clause-kept
+returns-clause-kept g c =
+    machine_on c.args.table.now c.check_again.new.table c.args.s.now c.in_ok-check_again.ensures.extends c.requires.ready c.args.kept.f
+    c.args.kept.machine c.requires.kept

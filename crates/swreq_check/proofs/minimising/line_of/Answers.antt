@@ -1,0 +1,12 @@
+use Rattle.std.proofs.Common.{[], inl}
+use Rattle.swreq_minimal.specs.Told.AreParts.{no_part}
+use Rattle.swreq_watch.proofs.Told.{grew_none}
+use Rattle.swreq_check.proofs.OfChecks.{err_is}
+use Rattle.swreq_check.proofs.minimising.line_of.Goals as goal
+
+pub returns-in_err-machine-clause-failed : goal.returns-in_err-machine-clause-failed
+returns-in_err-machine-clause-failed g c =
+    rw (err_is c.from_residual.result _ c.from_residual.ensures.1) ([], inl no_part, grew_none (g.W.Watch.told c.args.watch.now))
+
+pub machine_of-requires-clause-passed : goal.machine_of-requires-clause-passed
+machine_of-requires-clause-passed g c = record { passed = c.requires.lists.passed; limits = c.requires.lists.limits }

@@ -1,0 +1,68 @@
+-- How the check of a text comes out.
+use Rattle.std.specs.Prelude.{◌⊎◌, List, Option, Some, None, Result, Ok, Err, length}
+use Rattle.swreq_param.specs.Terms.{Term}
+use Rattle.swreq_rule.specs.declared.rules.Rule.{Rule}
+use Rattle.swreq_rounds.specs.Rounds.{ComesTo}
+use Rattle.swreq_complete.specs.declared.limit.Limits.{Limits}
+use Rattle.swreq_watch.specs.declared.events.Event.{Event}
+use Rattle.swreq_watch.specs.Told.{GrewBy}
+use Rattle.swreq_lowering.specs.declared.ids.FuncId.{FuncId}
+use Rattle.swreq_lowering.specs.Requirements.{PlacedRequirement}
+use Rattle.swreq_world.specs.Worlds.{IdWorld, SignatureOver, TextWorld, signature_at}
+use Rattle.swreq_valid.specs.Protocols.{AreRulesOf}
+use Rattle.swreq_machine.specs.OfSignatures.{signature_plan}
+use Rattle.swreq_valid.specs.Rounds.{last_rules}
+use Rattle.swreq_valid.specs.declared.refused.Refused.{Refused}
+use Rattle.swreq_valid.specs.declared.refused.Refused.TheVariants.{Memory}
+use Rattle.swreq_check.specs.declared.checking.Checked.{Checked}
+use Rattle.swreq_check.specs.Machines.{IsBuiltOver, IsChecked, SignatureComes, SignaturesCome}
+use Rattle.swreq_check.specs.declared.content.Content.{Content}
+use Rattle.swreq_check.specs.Settings.{world_in}
+use Rattle.swreq_check.specs.declared.setting.Setting.{Setting}
+use Rattle.swreq_check.specs.Made.{AreMade, IsPiece}
+use Rattle.swreq_check.specs.Wanted.{count_of, maker}
+use Rattle.swreq_check.specs.Told.{CheckTells, SignaturesTell}
+
+-- how a check comes out, without what it gives
+abbrev pub ending : {A : Type 0} → Result A Refused → Result (Unit {0}) Refused
+ending (Ok x) = Ok tt
+ending (Err refused) = Err refused
+
+module _ (limits : Limits) (w : TextWorld) where
+  -- The rules are those of the protocols, and each signature comes to rules over them.
+  pub record HavePassed (rules : List Rule) : Type 0 where
+    pub rules_are : AreRulesOf w rules
+    pub told : List Event
+    pub built : IsBuiltOver limits w rules told
+
+  -- What a check without a refusal gives: such rules, and the pieces that the machines of all signatures make.
+  pub record IsCheckedFor (ids : IdWorld) (c : Content) (checked : Checked) : Type 0 where
+    pub passed : HavePassed (last_rules checked.protocols.rounds)
+    pub pieces : AreMade (IsPiece w c) (maker ids c) (count_of ids c) (length ids.signatures) checked.pieces.items
+
+  -- The check of one signature comes to this, and the watcher was told what it tells, or a part of that if memory runs out.
+  abbrev pub ChecksOne : List Rule → SignatureOver PlacedRequirement → Option (List Event) → Option (List Event)
+      → Result (Unit {0}) Refused → Type 0
+  ChecksOne rules g old new (Ok done) =
+      (told : List Event) × ((own : List Rule) × SignatureComes limits w rules g (Ok own) told) × GrewBy old new told
+  ChecksOne rules g old new (Err Memory) =
+      (told : List Event)
+      × (ComesTo limits (signature_plan w rules g) told ⊎ ((own : List Rule) × SignatureComes limits w rules g (Ok own) told))
+      × GrewBy old new told
+  ChecksOne rules g old new (Err e) = (told : List Event) × SignatureComes limits w rules g (Err e) told × GrewBy old new told
+
+  -- The checks of all signatures come to this, and the watcher was told what they tell, or a part of that if memory runs out.
+  abbrev pub ChecksAll : List Rule → Option (List Event) → Option (List Event) → Result (Unit {0}) Refused → Type 0
+  ChecksAll rules old new (Ok done) = (told : List Event) × SignaturesCome limits w rules w.signatures None told × GrewBy old new told
+  ChecksAll rules old new (Err Memory) = (told : List Event) × SignaturesTell limits w rules w.signatures told × GrewBy old new told
+  ChecksAll rules old new (Err e) = (told : List Event) × SignaturesCome limits w rules w.signatures (Some e) told × GrewBy old new told
+
+  -- The check of the text comes to this, and the watcher was told what it tells, or a part of that if memory runs out.
+  abbrev pub Checks : Option (List Event) → Option (List Event) → Result Checked Refused → Type 0
+  Checks old new (Ok checked) = (told : List Event) × IsBuiltOver limits w (last_rules checked.protocols.rounds) told × GrewBy old new told
+  Checks old new (Err Memory) = (told : List Event) × CheckTells limits w told × GrewBy old new told
+  Checks old new (Err e) = (told : List Event) × IsChecked limits w (Some e) told × GrewBy old new told
+
+-- The check of the signature at f comes to this, over the rules of the protocols that were checked.
+abbrev pub ChecksAt : List Term → Setting → FuncId → Option (List Event) → Option (List Event) → Result (Unit {0}) Refused → Type 0
+ChecksAt terms s f = ChecksOne s.limits (world_in terms s) (last_rules s.protocols.now.rounds) (signature_at (world_in terms s) f)

@@ -1,0 +1,21 @@
+-- A text that has passed its check.
+use Rattle.std.specs.Prelude.{List}
+use Rattle.swreq_param.specs.Terms.{Term}
+use Rattle.swreq_rule.specs.declared.rules.Rule.{Rule}
+use Rattle.swreq_complete.specs.Limits.{AreInRange}
+use Rattle.swreq_valid.specs.Rounds.{last_rules}
+use Rattle.swreq_world.specs.ByTable.{world_by}
+use Rattle.swreq_world.specs.Worlds.{TextWorld}
+use Rattle.swreq_check.specs.declared.passed.Passed.{Passed}
+use Rattle.swreq_check.specs.Checks.{HavePassed}
+
+abbrev pub world_of : List Term → Passed → TextWorld
+world_of terms p = world_by terms p.world.now
+
+abbrev pub rules_of : Passed → List Rule
+rules_of p = last_rules p.protocols.now.rounds
+
+-- The check came to these rules of the protocols, and refused nothing.
+pub record HasPassed (terms : List Term) (p : Passed) : Type 0 where
+  pub passed : HavePassed p.limits (world_of terms p) (rules_of p)
+  pub limits : AreInRange p.limits

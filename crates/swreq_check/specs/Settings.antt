@@ -1,0 +1,120 @@
+-- Over what the pieces of a command are made.
+use Rattle.std.specs.Prelude.{◌≡◌, ◌<◌, ℕ, List, Option, Some, None, Contains, get_or, length}
+use Rattle.std.specs.Option.{option_copied}
+use Rattle.swreq_param.specs.Terms.{Term}
+use Rattle.swreq_derive.specs.WellFormed.{AreProtocolsWellFormed}
+use Rattle.swreq_complete.specs.Limits.{AreInRange}
+use Rattle.swreq_lowering.specs.declared.ids.FuncId.{FuncId}
+use Rattle.swreq_world.specs.ByTable.{world_by}
+use Rattle.swreq_world.specs.FactsAt.{written_list}
+use Rattle.swreq_world.specs.Short.{IsShort}
+use Rattle.swreq_world.specs.Worlds.{IdWorld, TextWorld, signature_at}
+use Rattle.swreq_symbols.specs.Known.{IsTextOver}
+use Rattle.swreq_symbols.specs.Meaning.{facts_of}
+use Rattle.swreq_valid.specs.Protocols.{AreRulesOf, ProtocolsView, protocols_of}
+use Rattle.swreq_machine.specs.Machines.{IsMachineOf, MachineView}
+use Rattle.swreq_machine.specs.OfSignatures.{signature_plan, signature_sides}
+use Rattle.swreq_valid.specs.Rounds.{AreRounds, last_rules}
+use Rattle.swreq_valid.specs.Sides.{HoldsOfEach, IsValidSide}
+use Rattle.swreq_check.specs.declared.checking.Asked.{Asked}
+use Rattle.swreq_check.specs.declared.content.Backing.TheVariants.{Derivation}
+use Rattle.swreq_check.specs.declared.content.Content.{Content}
+use Rattle.swreq_check.specs.declared.setting.Kept.{Kept}
+use Rattle.swreq_check.specs.declared.setting.Means.{Means}
+use Rattle.swreq_check.specs.declared.setting.Setting.{Setting}
+use Rattle.swreq_lowering.specs.declared.ids.Query.{Query}
+use Rattle.swreq_lowering.specs.Queries.{TermQuery}
+use Rattle.swreq_lowering.specs.Queries.TermQuery.{AsksReduced}
+use Rattle.swreq_map.specs.Follows.{AreEndingsOf, EndingsView, IsMapOf, MapView}
+use Rattle.swreq_print.specs.Names.{Text}
+use Rattle.swreq_explain.specs.Histories.{IsHistoryFor, IsTextHistory}
+use Rattle.swreq_explain.specs.declared.text_history.TextHistory.{TextHistory}
+use Rattle.swreq_births.specs.declared.history.History.{History}
+use Rattle.swreq_check.specs.Contents.{backing_of}
+use Rattle.swreq_check.specs.Made.{AreMade, IsPiece}
+use Rattle.swreq_check.specs.Wanted.{ArePlaces, count_of, machine_asked, maker}
+
+-- the world of the text, by the table that has its ids
+abbrev pub world_in : List Term → Setting → TextWorld
+world_in terms s = world_by terms s.world.now
+
+-- Where derivations are printed for queries there is what all histories of the text have in common.
+abbrev pub HasBase : List Term → IdWorld → ProtocolsView → Content → Option TextHistory → Type 0
+HasBase terms w p content None = backing_of content ≡ Derivation → 0 < length w.queries → ⊥
+HasBase terms w p content (Some base) = IsTextHistory terms w p base
+
+-- What is kept with the endings of words, where it is, is that of the rules of the protocols.
+abbrev pub HaveEndings : IdWorld → ProtocolsView → Option EndingsView → Type 0
+HaveEndings w p None = Unit {0}
+HaveEndings w p (Some endings) = AreEndingsOf (length w.lexicon.protocols) (last_rules p.rounds) endings
+
+-- The ids are of the table, the rules are those of the protocols, whose requirements are over type parameters, each machine is asked for
+-- the pieces that it makes, what the histories have in common is there where it is read, and endings are those of the rules.
+pub record IsReady (terms : List Term) (s : Setting) : Type 0 where
+  pub text : IsTextOver terms s.world.now
+  pub short : IsShort s.world.now
+  pub formed : AreProtocolsWellFormed (facts_of (world_in terms s))
+  pub rules : AreRulesOf (world_in terms s) (last_rules s.protocols.now.rounds)
+  pub rounds : AreRounds s.limits (protocols_of (world_in terms s)) s.protocols.now.rounds
+  pub places : ArePlaces (maker s.world.now s.content) (length s.world.now.signatures) (count_of s.world.now s.content) s.places.now
+  pub limits : AreInRange s.limits
+  pub base : HasBase terms s.world.now s.protocols.now s.content s.base.now
+  pub endings : HaveEndings s.world.now s.protocols.now s.endings.now
+
+-- The signature is of the text, each side of its requirements is a type parameter, and this is its machine, over the rules of the
+-- protocols.
+pub record IsMachineFor (terms : List Term) (s : Setting) (f : FuncId) (m : MachineView) : Type 0 where
+  pub signature : f.place < length s.world.now.signatures
+  pub valid : HoldsOfEach (IsValidSide (facts_of (world_in terms s))) (signature_sides (signature_at (world_in terms s) f))
+  pub machine : IsMachineOf (world_in terms s) (written_list (signature_at (world_in terms s) f)) m
+  pub params : m.params ≡ (signature_at (world_in terms s) f).params
+  pub rounds : AreRounds s.limits
+      (signature_plan (world_in terms s) (last_rules s.protocols.now.rounds) (signature_at (world_in terms s) f)) m.rounds
+
+-- The machine is that of the signature with which it is kept.
+abbrev pub IsKeptFor : List Term → Setting → Kept → Type 0
+IsKeptFor terms s kept = IsMachineFor terms s kept.f kept.machine
+
+-- If a machine is kept, it is that of the signature with which it is kept.
+abbrev pub IsLast : List Term → Setting → Option Kept → Type 0
+IsLast terms s None = Unit {0}
+IsLast terms s (Some kept) = IsKeptFor terms s kept
+
+-- Of each signature of the text the places are those of the pieces that its machine makes.
+pub record IsAskedOf (terms : List Term) (w : IdWorld) (a : Asked) : Type 0 where
+  pub places : ArePlaces (maker w a.content) (length w.signatures) (count_of w a.content) a.places.now
+  pub limits : AreInRange a.limits
+
+-- The query is one of the text, and asks this signature.
+pub record IsQueryFor (terms : List Term) (s : Setting) (f : FuncId) (q : Query) : Type 0 where
+  pub is : Contains s.world.now.queries q
+  pub asks : machine_asked q ≡ Some f
+
+-- At this place of the text stands a query that asks this signature.
+pub record IsPlaceFor (terms : List Term) (s : Setting) (f : FuncId) (place : ℕ) : Type 0 where
+  pub below : place < length s.world.now.queries
+  pub query : (q : Query) → q ≡ get_or s.world.now.queries place q → IsQueryFor terms s f q
+
+-- The query asks for a reduced type.
+abbrev pub AsksType : TermQuery → Type 0
+AsksType q = (f : FuncId) × (t : Term) × (q ≡ AsksReduced f t)
+
+-- The map is that of the rules of the machine.
+pub record IsMapFor (s : Setting) (m : MachineView) (map : MapView) : Type 0 where
+  pub rules : IsMapOf (last_rules m.rounds) map
+  pub protocols : map.protocols ≡ length s.world.now.lexicon.protocols
+
+-- Where derivations are printed there is a history, and it is one for the signature.
+abbrev pub HasHistory : List Term → Setting → FuncId → Option History → Type 0
+HasHistory terms s f history = backing_of s.content ≡ Derivation → (b : History) × (history ≡ Some b) × IsHistoryFor (world_in terms s) f b
+
+-- The machine is that of the signature, the map is that of its rules, and there is a history where one is read.
+pub record AreMeansFor (terms : List Term) (s : Setting) (m : Means) : Type 0 where
+  pub machine : IsMachineFor terms s m.own.f m.own.machine.now
+  pub map : IsMapFor s m.own.machine.now m.map.now
+  pub history : HasHistory terms s m.own.f (option_copied m.history)
+
+-- The pieces that the machines of the first `signatures` signatures make stand at their places.
+abbrev pub AreMadeIn : List Term → Setting → ℕ → List (Option Text) → Type 0
+AreMadeIn terms s signatures pieces =
+    AreMade (IsPiece (world_in terms s) s.content) (maker s.world.now s.content) (count_of s.world.now s.content) signatures pieces

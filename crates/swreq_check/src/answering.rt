@@ -1,0 +1,340 @@
+//! The pieces that answer queries of requirements and types, by the machine of the signature that they ask.
+ghost use Rattle.std.specs.Prelude.{◌≡◌, ◌<◌, ◌+◌, ◌++◌, ℕ, List, Some, Contains, length, set, IfOk, OnOk, true};
+ghost use Rattle.swreq_param.specs.Tables.{Extends, term_at};
+ghost use Rattle.swreq_derive.specs.Derivation.{Derivable};
+ghost use Rattle.swreq_derive.specs.Derivation.TermRequirement.{Conforms};
+ghost use Rattle.swreq_derive.specs.Derivation.TermStatement.{Requires};
+ghost use Rattle.swreq_derive.specs.declared.requirements.Requirement.TheVariants.{Conf};
+ghost use Rattle.swreq_explain.specs.Histories.{IsHistoryFor};
+ghost use Rattle.swreq_query.specs.Answers.Answer.{Yes};
+ghost use Rattle.swreq_query.specs.Asked.{AsksRequirement, IsRoomFor, answer_of};
+ghost use Rattle.swreq_symbols.specs.Known.{IsRequirementIn};
+ghost use Rattle.swreq_symbols.specs.Meaning.{facts_of};
+ghost use Rattle.swreq_world.specs.FactsAt.{source_of};
+ghost use Rattle.swreq_world.specs.Worlds.{signature_at};
+ghost use Rattle.swreq_lowering.specs.ByTable.{HasQueryIdsOf, query_by};
+ghost use Rattle.swreq_check.specs.Contents.{AreAnswers, backing_of};
+ghost use Rattle.swreq_check.specs.Made.{IsPiece};
+ghost use Rattle.swreq_check.specs.QueryLines.{AnswersByTypes, Backs, BacksYes, HasAnswer, IsDerivationText, IsLineOf, IsPathLine, signature_of};
+ghost use Rattle.swreq_check.specs.Settings.{AreMadeIn, AreMeansFor, AsksType, HasHistory, IsMachineFor, IsMapFor, IsPlaceFor, IsQueryFor, IsReady, world_in};
+
+use crate::content::{Backing, backing_of};
+use crate::setting::{Means, Own, Setting};
+use std::alloc::{AllocError, Global};
+use swreq_births::History;
+use swreq_confpath::laws::paths_have_texts;
+use swreq_confpath::{path_text, shortest};
+use swreq_explain::{explain_by, history_of};
+use swreq_lines::lines_text;
+use swreq_lowering::Query;
+use swreq_machine::Scratch;
+use swreq_map::PropertyMap;
+use swreq_param::{ParamTable, ProtoId, TermId};
+use swreq_query::{Verdict, answer, judge};
+use swreq_symbols::Text;
+use swreq_text::{Seq, append_bytes};
+
+/// Room for the type parameters that a query names.
+fn scratch(alloc: Global, table: &ParamTable, query: &Query) -> Result<Scratch, AllocError>
+    requires { HasQueryIdsOf table.now query.now }
+    ensures { IfOk result (λ s. IsRoomFor (query_by table.now query.now) s.room) }
+{
+    match *query {
+        Query::Signature { .. } => Scratch::with_room(alloc, 0),
+        Query::Reduced { t, .. } | Query::Conf { t, .. } | Query::Layout { t, .. } => {
+            Scratch::for_type(alloc, table, t)
+        }
+        Query::Same { a, b, .. } => Scratch::for_types(alloc, table, a, b),
+    }
+}
+
+/// Appends the line of the conformance path that is given for `[t : p]`, which is derivable.
+fn put_path(
+    s: &Setting<'_>,
+    table: &ParamTable,
+    own: &Own<'_>,
+    t: TermId,
+    p: ProtoId,
+    out: &mut Vec<u8>,
+) -> Result<(), AllocError>
+    requires ready { IsReady table.now s.now }
+    requires machine { IsMachineFor table.now s.now own.now.f own.now.machine.now }
+    requires asked { IsRequirementIn table.now s.now.world.now.lexicon (Conf t p) }
+    requires derivable { Derivable (facts_of (world_in table.now s.now))
+        (source_of (signature_at (world_in table.now s.now) own.now.f))
+        (Requires (Conforms (term_at table.now t) p)) }
+    ensures { OnOk result ((text : List ℕ)
+        × IsPathLine (world_in table.now s.now) own.now.f (term_at table.now t) p text
+        × (out.new.items ≡ out.old.items ++ text)) }
+{
+    paths_have_texts();
+    let path = shortest(s.alloc, s.world, table, own.machine, own.f, t, p)?;
+    append_bytes(out, b"  ")?;
+    path_text(s.alloc, s.world, table, own.f, &path, out)?;
+    append_bytes(out, b"\n")
+}
+
+/// Appends the lines of a derivation of what a query asks, which is derivable, by the history of its signature.
+fn put_derivation(
+    s: &Setting<'_>,
+    table: &mut ParamTable,
+    history: &History,
+    query: &Query,
+    out: &mut Vec<u8>,
+) -> Result<(), AllocError>
+    requires ready { IsReady table.old s.now }
+    requires history { IsHistoryFor (world_in table.old s.now)
+        (signature_of (query_by table.old query.now)) history.now }
+    requires query { Contains s.now.world.now.queries query.now }
+    requires yes { HasAnswer (world_in table.old s.now) true Yes (query_by table.old query.now) }
+    ensures backing { OnOk result ((text : List ℕ)
+        × IsDerivationText (world_in table.old s.now) (query_by table.old query.now) text
+        × (out.new.items ≡ out.old.items ++ text)) }
+    ensures extends { OnOk result (Extends table.old table.new) }
+{
+    let lines = explain_by(s.alloc, s.world, table, history, query)?;
+    lines_text(s.alloc, s.world.lexicon(), table, &lines, out)
+}
+
+/// Appends what backs the `yes` to a query.
+fn put_backing(
+    s: &Setting<'_>,
+    table: &mut ParamTable,
+    means: &Means<'_>,
+    query: &Query,
+    out: &mut Vec<u8>,
+) -> Result<(), AllocError>
+    requires ready { IsReady table.old s.now }
+    requires means { AreMeansFor table.old s.now means.now }
+    requires query { Contains s.now.world.now.queries query.now }
+    requires asks { signature_of (query_by table.old query.now) ≡ means.now.own.f }
+    requires yes { HasAnswer (world_in table.old s.now) true Yes (query_by table.old query.now) }
+    ensures backing { OnOk result ((text : List ℕ)
+        × BacksYes (world_in table.old s.now) (backing_of s.now.content)
+        (query_by table.old query.now) text
+        × (out.new.items ≡ out.old.items ++ text)) }
+    ensures extends { OnOk result (Extends table.old table.new) }
+{
+    match backing_of(s.content) {
+        Backing::Nothing => Ok(()),
+        Backing::Derivation => match means.history {
+            Some(history) => put_derivation(s, table, history, query, out),
+            None => unreachable!(),
+        },
+        Backing::Path => match *query {
+            Query::Conf { t, p, .. } => put_path(s, table, &means.own, t, p, out),
+            _ => Ok(()),
+        },
+    }
+}
+
+/// Appends what follows this answer to a query.
+fn put_behind(
+    s: &Setting<'_>,
+    table: &mut ParamTable,
+    means: &Means<'_>,
+    query: &Query,
+    verdict: Verdict,
+    out: &mut Vec<u8>,
+) -> Result<(), AllocError>
+    requires ready { IsReady table.old s.now }
+    requires means { AreMeansFor table.old s.now means.now }
+    requires query { Contains s.now.world.now.queries query.now }
+    requires asks { signature_of (query_by table.old query.now) ≡ means.now.own.f }
+    requires answer { HasAnswer (world_in table.old s.now) true (answer_of verdict)
+        (query_by table.old query.now) }
+    ensures backing { OnOk result ((text : List ℕ)
+        × Backs (world_in table.old s.now) (backing_of s.now.content) (query_by table.old query.now)
+        (answer_of verdict) text
+        × (out.new.items ≡ out.old.items ++ text)) }
+    ensures extends { OnOk result (Extends table.old table.new) }
+{
+    match verdict {
+        Verdict::Yes => put_backing(s, table, means, query, out),
+        Verdict::Invalid | Verdict::No => Ok(()),
+    }
+}
+
+/// The piece that answers a query of a requirement.
+fn requirement_piece(
+    s: &Setting<'_>,
+    table: &mut ParamTable,
+    means: &Means<'_>,
+    query: &Query,
+) -> Result<Seq<u8>, AllocError>
+    requires ready { IsReady table.old s.now }
+    requires means { AreMeansFor table.old s.now means.now }
+    requires query { IsQueryFor table.old s.now means.now.own.f query.now }
+    requires asks { AsksRequirement (query_by table.old query.now) }
+    ensures piece { IfOk result (AnswersByTypes (world_in table.old s.now) true
+        (backing_of s.now.content) (query_by table.old query.now)) }
+    ensures extends { OnOk result (Extends table.old table.new) }
+{
+    let mut scratch = scratch(s.alloc, table, query)?;
+    let verdict = judge(
+        s.world,
+        table,
+        means.own.machine,
+        means.map,
+        query,
+        &mut scratch,
+    );
+    let mut piece = Vec::new(s.alloc);
+    append_bytes(&mut piece, verdict.line())?;
+    put_behind(s, table, means, query, verdict, &mut piece)?;
+    Ok(Seq::new(piece))
+}
+
+/// The piece that answers a query of a type.
+fn type_piece(
+    s: &Setting<'_>,
+    table: &ParamTable,
+    means: &Means<'_>,
+    query: &Query,
+) -> Result<Seq<u8>, AllocError>
+    requires ready { IsReady table.now s.now }
+    requires means { AreMeansFor table.now s.now means.now }
+    requires query { IsQueryFor table.now s.now means.now.own.f query.now }
+    requires asks { AsksType (query_by table.now query.now) }
+    ensures { IfOk result (AnswersByTypes (world_in table.now s.now) true (backing_of s.now.content)
+        (query_by table.now query.now)) }
+{
+    let mut scratch = scratch(s.alloc, table, query)?;
+    let mut piece = Vec::new(s.alloc);
+    answer(
+        s.alloc,
+        s.world,
+        table,
+        means.own.machine,
+        means.map,
+        query,
+        &mut scratch,
+        &mut piece,
+    )?;
+    Ok(Seq::new(piece))
+}
+
+/// The piece that answers a query by the machine of the signature that it asks.
+fn piece(
+    s: &Setting<'_>,
+    table: &mut ParamTable,
+    means: &Means<'_>,
+    query: &Query,
+) -> Result<Seq<u8>, AllocError>
+    requires ready { IsReady table.old s.now }
+    requires means { AreMeansFor table.old s.now means.now }
+    requires query { IsQueryFor table.old s.now means.now.own.f query.now }
+    ensures piece { IfOk result (IsLineOf (world_in table.old s.now) true (backing_of s.now.content)
+        (query_by table.old query.now)) }
+    ensures extends { OnOk result (Extends table.old table.new) }
+{
+    match *query {
+        Query::Signature { .. } => unreachable!(),
+        Query::Reduced { .. } => type_piece(s, table, means, query),
+        Query::Conf { .. } | Query::Layout { .. } | Query::Same { .. } => {
+            requirement_piece(s, table, means, query)
+        }
+    }
+}
+
+/// The history of the machine of a signature, where derivations are printed. The text has queries.
+fn history_for<'a>(
+    s: &Setting<'a>,
+    table: &ParamTable,
+    own: &Own<'_>,
+) -> Result<Option<History<'a>>, AllocError>
+    requires ready { IsReady table.now s.now }
+    requires machine { IsMachineFor table.now s.now own.now.f own.now.machine.now }
+    requires some { 0 < length s.now.world.now.queries }
+    ensures { IfOk result (HasHistory table.now s.now own.now.f) }
+{
+    let text = Text {
+        world: s.world,
+        table,
+    };
+    match s.base {
+        None => Ok(None),
+        Some(base) => {
+            let history = history_of(s.alloc, &text, base, s.protocols, own.machine, own.f)?;
+            Ok(Some(history))
+        }
+    }
+}
+
+/// The map of the rules of a machine, over what those of the protocols keep with the endings of words.
+fn map_for<'a>(
+    s: &Setting<'a>,
+    table: &ParamTable,
+    own: &Own<'_>,
+) -> Result<PropertyMap<'a>, AllocError>
+    requires ready { IsReady table.now s.now }
+    requires machine { IsMachineFor table.now s.now own.now.f own.now.machine.now }
+    ensures { IfOk result (IsMapFor s.now own.now.machine.now) }
+{
+    let rules = own.machine.rules();
+    let protocols = s.world.protocols();
+    match s.endings {
+        None => PropertyMap::build(s.alloc, rules, protocols),
+        Some(endings) => {
+            let count = s.protocols.rules().count();
+            PropertyMap::over(s.alloc, endings, count, rules, protocols)
+        }
+    }
+}
+
+/// Answers the query at a place, and puts the piece there.
+fn answer_at(
+    s: &Setting<'_>,
+    table: &mut ParamTable,
+    means: &Means<'_>,
+    place: usize,
+    pieces: &mut Vec<Option<Seq<u8>>>,
+) -> Result<(), AllocError>
+    requires ready { IsReady table.old s.now }
+    requires answers { AreAnswers s.now.content }
+    requires means { AreMeansFor table.old s.now means.now }
+    requires place { IsPlaceFor table.old s.now means.now.own.f place }
+    requires pieces { length pieces.old.items ≡ length s.now.world.now.queries }
+    ensures piece { OnOk result
+        ((piece : List ℕ) × IsPiece (world_in table.old s.now) s.now.content place piece
+        × (pieces.new.items ≡ set pieces.old.items place (Some piece))) }
+    ensures extends { OnOk result (Extends table.old table.new) }
+{
+    let query = &s.world.queries()[place];
+    let made = piece(s, table, means, query)?;
+    pieces[place] = Some(made);
+    Ok(())
+}
+
+/// Answers the queries of requirements and types on a signature, by its machine, at their places.
+pub(crate) fn answer_queries(
+    s: &Setting<'_>,
+    table: &mut ParamTable,
+    own: &Own<'_>,
+    pieces: &mut Vec<Option<Seq<u8>>>,
+) -> Result<(), AllocError>
+    requires ready { IsReady table.old s.now }
+    requires answers { AreAnswers s.now.content }
+    requires machine { IsMachineFor table.old s.now own.now.f own.now.machine.now }
+    requires pieces { AreMadeIn table.old s.now own.now.f.place pieces.old.items }
+    ensures pieces { OnOk result
+        (AreMadeIn table.old s.now (own.now.f.place + 1) pieces.new.items) }
+    ensures extends { OnOk result (Extends table.old table.new) }
+{
+    let places = &s.places[own.f.place as usize];
+    if places.is_empty() {
+        return Ok(());
+    }
+    let map = map_for(s, table, own)?;
+    let history = history_for(s, table, own)?;
+    let means = Means {
+        own: *own,
+        map: &map,
+        history: history.as_ref(),
+    };
+    for j in 0..places.len() {
+        let place = places[j];
+        answer_at(s, table, &means, place, pieces)?;
+    }
+    Ok(())
+}

@@ -1,0 +1,325 @@
+//! The check of a text: its protocols, then its signatures in written order.
+ghost use Rattle.std.specs.Prelude.{◌+◌, ◌<◌, length, IfOk, OnOk};
+ghost use Rattle.swreq_param.specs.Tables.{Extends};
+ghost use Rattle.swreq_symbols.specs.Known.{IsTextOver};
+ghost use Rattle.swreq_complete.specs.declared.limit.Limits.{Limits as LimitsView};
+ghost use Rattle.swreq_valid.specs.Protocols.{protocols_of};
+ghost use Rattle.swreq_valid.specs.Rounds.{AreRounds, last_rules};
+ghost use Rattle.swreq_world.specs.Additions.{AddsNothing};
+ghost use Rattle.swreq_world.specs.ByTable.{world_by};
+ghost use Rattle.swreq_world.specs.Short.{IsShort};
+ghost use Rattle.swreq_check.specs.Checks.{Checks, ChecksAll, ChecksAt, IsCheckedFor, ending};
+ghost use Rattle.swreq_check.specs.Made.{AreNone};
+ghost use Rattle.swreq_check.specs.Settings.{AreMadeIn, HasBase, HaveEndings, IsAskedOf, IsKeptFor, IsLast, IsMachineFor, IsReady, world_in};
+
+use crate::content::{Backing, Content, Made, backing_of};
+use crate::making::make_pieces;
+use crate::placing::count_of;
+use crate::setting::{Kept, Own, Setting};
+use std::alloc::{AllocError, Global};
+use swreq_complete::Limits;
+use swreq_explain::{TextHistory, text_history_of};
+use swreq_lowering::FuncId;
+use swreq_machine::Machine;
+use swreq_map::Endings;
+use swreq_param::ParamTable;
+use swreq_symbols::Text;
+use swreq_text::Seq;
+use swreq_valid::{Protocols, Refused};
+use swreq_watch::Watch;
+use swreq_world::World;
+
+/// What a check without a refusal gives: the rules of the protocols, and the pieces that the machines of the signatures make, each at its
+/// place.
+#[derive(Drop)]
+pub struct Checked {
+    pub protocols: Protocols,
+    pub pieces: Vec<Option<Seq<u8>>>,
+}
+
+/// What is asked of the machines of a text.
+#[derive(Clone, Copy)]
+pub struct Asked<'a> {
+    /// What is printed.
+    pub content: Content,
+    /// Of each signature the places of the pieces that its machine makes.
+    pub places: &'a [Vec<usize>],
+    pub limits: Limits,
+}
+
+/// Checks one signature by the machine of its list, and makes of it what is asked.
+fn check_anew<'a, W: Watch>(
+    s: &Setting<'a>,
+    table: &mut ParamTable,
+    f: FuncId,
+    watch: &mut W,
+    pieces: &mut Vec<Option<Seq<u8>>>,
+) -> Result<Kept<'a>, Refused>
+    requires ready { IsReady table.old s.now }
+    requires f { f.place < length s.now.world.now.signatures }
+    requires pieces { AreMadeIn table.old s.now f.place pieces.old.items }
+    ensures check { ChecksAt table.old s.now f (W.told watch.old)
+        (W.told watch.new) (ending result) }
+    ensures kept { IfOk result (IsKeptFor table.new s.now) }
+    ensures pieces { OnOk result (AreMadeIn table.old s.now (f.place + 1) pieces.new.items) }
+    ensures extends { OnOk result (Extends table.old table.new) }
+{
+    let text = Text {
+        world: s.world,
+        table,
+    };
+    let machine = Machine::of_signature(s.alloc, &text, s.protocols, f, s.limits, watch)?;
+    let own = Own {
+        f,
+        machine: &machine,
+    };
+    match make_pieces(s, table, &own, pieces) {
+        Ok(()) => Ok(Kept { f, machine }),
+        Err(_) => Err(Refused::Memory),
+    }
+}
+
+/// Checks one signature by a machine that it has already, and makes of it what is asked.
+fn check_again<W: Watch>(
+    s: &Setting<'_>,
+    table: &mut ParamTable,
+    own: &Own<'_>,
+    watch: &mut W,
+    pieces: &mut Vec<Option<Seq<u8>>>,
+) -> Result<(), Refused>
+    requires ready { IsReady table.old s.now }
+    requires machine { IsMachineFor table.old s.now own.now.f own.now.machine.now }
+    requires pieces { AreMadeIn table.old s.now own.now.f.place pieces.old.items }
+    ensures check { ChecksAt table.old s.now own.now.f (W.told watch.old)
+        (W.told watch.new) result }
+    ensures pieces { OnOk result
+        (AreMadeIn table.old s.now (own.now.f.place + 1) pieces.new.items) }
+    ensures extends { OnOk result (Extends table.old table.new) }
+{
+    own.machine.tell_again(s.protocols, watch)?;
+    make_pieces(s, table, own, pieces).map_err(|_| Refused::Memory)
+}
+
+/// Checks a function that adds nothing to the struct whose machine is kept.
+fn check_inside<'a, W: Watch>(
+    s: &Setting<'a>,
+    table: &mut ParamTable,
+    f: FuncId,
+    kept: Kept<'a>,
+    watch: &mut W,
+    pieces: &mut Vec<Option<Seq<u8>>>,
+) -> Result<Kept<'a>, Refused>
+    requires ready { IsReady table.old s.now }
+    requires f { f.place < length s.now.world.now.signatures }
+    requires kept { IsKeptFor table.old s.now kept }
+    requires inside { AddsNothing s.now.world.now.signatures kept.f f }
+    requires pieces { AreMadeIn table.old s.now f.place pieces.old.items }
+    ensures check { ChecksAt table.old s.now f (W.told watch.old)
+        (W.told watch.new) (ending result) }
+    ensures kept { IfOk result (IsKeptFor table.new s.now) }
+    ensures pieces { OnOk result (AreMadeIn table.old s.now (f.place + 1) pieces.new.items) }
+    ensures extends { OnOk result (Extends table.old table.new) }
+{
+    let own = Own {
+        f,
+        machine: &kept.machine,
+    };
+    check_again(s, table, &own, watch, pieces)?;
+    Ok(kept)
+}
+
+/// Checks another signature. Its machine is kept where it is a struct, and otherwise the one before.
+fn check_beside<'a, W: Watch>(
+    s: &Setting<'a>,
+    table: &mut ParamTable,
+    f: FuncId,
+    kept: Kept<'a>,
+    watch: &mut W,
+    pieces: &mut Vec<Option<Seq<u8>>>,
+) -> Result<Kept<'a>, Refused>
+    requires ready { IsReady table.old s.now }
+    requires f { f.place < length s.now.world.now.signatures }
+    requires kept { IsKeptFor table.old s.now kept }
+    requires pieces { AreMadeIn table.old s.now f.place pieces.old.items }
+    ensures check { ChecksAt table.old s.now f (W.told watch.old)
+        (W.told watch.new) (ending result) }
+    ensures kept { IfOk result (IsKeptFor table.new s.now) }
+    ensures pieces { OnOk result (AreMadeIn table.old s.now (f.place + 1) pieces.new.items) }
+    ensures extends { OnOk result (Extends table.old table.new) }
+{
+    let next = check_anew(s, table, f, watch, pieces)?;
+    if s.world.is_struct(f) {
+        Ok(next)
+    } else {
+        Ok(kept)
+    }
+}
+
+/// Checks the signature after one whose machine is kept. The machine of a struct serves its functions that add nothing to it.
+fn check_after<'a, W: Watch>(
+    s: &Setting<'a>,
+    table: &mut ParamTable,
+    f: FuncId,
+    kept: Kept<'a>,
+    watch: &mut W,
+    pieces: &mut Vec<Option<Seq<u8>>>,
+) -> Result<Kept<'a>, Refused>
+    requires ready { IsReady table.old s.now }
+    requires f { f.place < length s.now.world.now.signatures }
+    requires kept { IsKeptFor table.old s.now kept }
+    requires pieces { AreMadeIn table.old s.now f.place pieces.old.items }
+    ensures check { ChecksAt table.old s.now f (W.told watch.old)
+        (W.told watch.new) (ending result) }
+    ensures kept { IfOk result (IsKeptFor table.new s.now) }
+    ensures pieces { OnOk result (AreMadeIn table.old s.now (f.place + 1) pieces.new.items) }
+    ensures extends { OnOk result (Extends table.old table.new) }
+{
+    if s.world.adds_nothing(kept.f, f) {
+        check_inside(s, table, f, kept, watch, pieces)
+    } else {
+        check_beside(s, table, f, kept, watch, pieces)
+    }
+}
+
+/// Checks one signature, with the machine of the last struct at hand, if one is kept.
+fn check_one<'a, W: Watch>(
+    s: &Setting<'a>,
+    table: &mut ParamTable,
+    f: FuncId,
+    last: Option<Kept<'a>>,
+    watch: &mut W,
+    pieces: &mut Vec<Option<Seq<u8>>>,
+) -> Result<Kept<'a>, Refused>
+    requires ready { IsReady table.old s.now }
+    requires f { f.place < length s.now.world.now.signatures }
+    requires last { IsLast table.old s.now last }
+    requires pieces { AreMadeIn table.old s.now f.place pieces.old.items }
+    ensures check { ChecksAt table.old s.now f (W.told watch.old)
+        (W.told watch.new) (ending result) }
+    ensures kept { IfOk result (IsKeptFor table.new s.now) }
+    ensures pieces { OnOk result (AreMadeIn table.old s.now (f.place + 1) pieces.new.items) }
+    ensures extends { OnOk result (Extends table.old table.new) }
+{
+    match last {
+        Some(kept) => check_after(s, table, f, kept, watch, pieces),
+        None => check_anew(s, table, f, watch, pieces),
+    }
+}
+
+/// Checks the signatures, in order.
+fn check_all<W: Watch>(
+    s: &Setting<'_>,
+    table: &mut ParamTable,
+    watch: &mut W,
+    pieces: &mut Vec<Option<Seq<u8>>>,
+) -> Result<(), Refused>
+    requires ready { IsReady table.old s.now }
+    requires pieces { AreMadeIn table.old s.now 0 pieces.old.items }
+    ensures check { ChecksAll s.now.limits (world_in table.old s.now)
+        (last_rules s.now.protocols.now.rounds) (W.told watch.old) (W.told watch.new) result }
+    ensures pieces { OnOk result
+        (AreMadeIn table.old s.now (length s.now.world.now.signatures) pieces.new.items) }
+    ensures extends { OnOk result (Extends table.old table.new) }
+{
+    let mut last = None;
+    for k in 0..s.world.functions() {
+        let kept = check_one(s, table, FuncId { place: k }, last, watch, pieces)?;
+        last = Some(kept);
+    }
+    Ok(())
+}
+
+/// `count` places, none of them filled.
+pub(crate) fn no_pieces(alloc: Global, count: usize) -> Result<Vec<Option<Seq<u8>>>, AllocError>
+    ensures { IfOk result (AreNone count) }
+{
+    let mut pieces = Vec::new(alloc);
+    for _ in 0..count {
+        pieces.push(None)?;
+    }
+    Ok(pieces)
+}
+
+/// What is the same for the histories of all signatures, where derivations are printed for queries.
+fn base_for<'x>(
+    alloc: Global,
+    world: &'x World,
+    table: &'x ParamTable,
+    protocols: &Protocols,
+    content: Content,
+) -> Result<Option<TextHistory>, AllocError>
+    requires text { IsTextOver table.now world.now }
+    requires short { IsShort world.now }
+    requires rounds { (limits : LimitsView) × AreRounds limits
+        (protocols_of (world_by table.now world.now)) protocols.now.rounds }
+    ensures { IfOk result (HasBase table.now world.now protocols.now content) }
+{
+    if world.queries().is_empty() {
+        return Ok(None);
+    }
+    match backing_of(content) {
+        Backing::Derivation => {
+            let base = text_history_of(alloc, &Text { world, table }, protocols)?;
+            Ok(Some(base))
+        }
+        Backing::Nothing | Backing::Path => Ok(None),
+    }
+}
+
+/// What the rules of the protocols keep with the endings of words, where queries are answered.
+fn endings_for(
+    alloc: Global,
+    world: &World,
+    protocols: &Protocols,
+    content: Content,
+) -> Result<Option<Endings>, AllocError>
+    ensures { IfOk result (HaveEndings world.now protocols.now) }
+{
+    if world.queries().is_empty() {
+        return Ok(None);
+    }
+    match content.makes() {
+        Made::Lines => {
+            let endings = Endings::of(alloc, protocols.rules(), world.protocols())?;
+            Ok(Some(endings))
+        }
+        Made::Systems | Made::Lists | Made::Nothing => Ok(None),
+    }
+}
+
+/// Checks the protocols of a text, then its signatures in written order, and makes of their machines what is asked.
+///
+/// It is the first refusal among these, or `Refused::Memory`. The watcher is told the events of the rounds up to it.
+pub fn check<W: Watch>(
+    alloc: Global,
+    world: &World,
+    table: &mut ParamTable,
+    asked: &Asked<'_>,
+    watch: &mut W,
+) -> Result<Checked, Refused>
+    requires text { IsTextOver table.old world.now }
+    requires short { IsShort world.now }
+    requires asked { IsAskedOf table.old world.now asked.now }
+    ensures check { Checks asked.now.limits (world_by table.old world.now) (W.told watch.old)
+        (W.told watch.new) result }
+    ensures checked { IfOk result
+        (IsCheckedFor asked.now.limits (world_by table.old world.now) world.now asked.now.content) }
+    ensures extends { OnOk result (Extends table.old table.new) }
+{
+    let protocols = Protocols::build(alloc, world, table, asked.limits, watch)?;
+    let base = base_for(alloc, world, table, &protocols, asked.content)?;
+    let endings = endings_for(alloc, world, &protocols, asked.content)?;
+    let mut pieces = no_pieces(alloc, count_of(world, asked.content))?;
+    let setting = Setting {
+        alloc,
+        world,
+        protocols: &protocols,
+        limits: asked.limits,
+        content: asked.content,
+        places: asked.places,
+        base: &base,
+        endings: &endings,
+    };
+    check_all(&setting, table, watch, &mut pieces)?;
+    Ok(Checked { protocols, pieces })
+}

@@ -1,0 +1,59 @@
+//! The machines of a text that has passed its check.
+ghost use Rattle.std.specs.Prelude.{◌≡◌, ◌<◌, length, IfOk};
+ghost use Rattle.swreq_symbols.specs.Known.{IsTextOver};
+ghost use Rattle.swreq_machine.specs.Machines.{IsMachineOf};
+ghost use Rattle.swreq_valid.specs.declared.refused.Refused.TheVariants.{Memory};
+ghost use Rattle.swreq_world.specs.FactsAt.{written_list};
+ghost use Rattle.swreq_world.specs.Worlds.{signature_at};
+ghost use Rattle.swreq_check.specs.Passed.{HasPassed, world_of};
+
+use std::alloc::{AllocError, Global};
+use swreq_complete::Limits;
+use swreq_lowering::FuncId;
+use swreq_machine::Machine;
+use swreq_param::ParamTable;
+use swreq_symbols::Text;
+use swreq_valid::{Protocols, Refused};
+use swreq_watch::Quiet;
+use swreq_world::World;
+
+/// A text that has passed its check.
+#[derive(Clone, Copy)]
+pub struct Passed<'a> {
+    pub alloc: Global,
+    pub world: &'a World,
+    /// The rules of the protocols.
+    pub protocols: &'a Protocols,
+    pub limits: Limits,
+}
+
+/// Why the machine of a list that has passed the check is refused: only since memory ran out.
+fn want_of_memory(_refused: &Refused) -> AllocError
+    requires { _refused.now ≡ Memory }
+{
+    AllocError
+}
+
+/// The machine of a signature, built again. No watcher is told of it.
+pub(crate) fn machine_of<'b>(
+    p: &Passed<'b>,
+    table: &ParamTable,
+    f: FuncId,
+) -> Result<Machine<'b>, AllocError>
+    requires text { IsTextOver table.now p.now.world.now }
+    requires passed { HasPassed table.now p.now }
+    requires f { f.place < length p.now.world.now.signatures }
+    ensures machine { IfOk result (IsMachineOf (world_of table.now p.now)
+        (written_list (signature_at (world_of table.now p.now) f))) }
+    ensures params { IfOk result
+        (λ m. m.params ≡ (signature_at (world_of table.now p.now) f).params) }
+{
+    let text = Text {
+        world: p.world,
+        table,
+    };
+    match Machine::of_signature(p.alloc, &text, p.protocols, f, p.limits, &mut Quiet) {
+        Ok(machine) => Ok(machine),
+        Err(refused) => Err(want_of_memory(&refused)),
+    }
+}

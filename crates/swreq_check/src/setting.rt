@@ -1,0 +1,53 @@
+//! Over what the pieces are made that are printed.
+use crate::content::Content;
+use std::alloc::Global;
+use swreq_births::History;
+use swreq_complete::Limits;
+use swreq_explain::TextHistory;
+use swreq_lowering::FuncId;
+use swreq_machine::Machine;
+use swreq_map::{Endings, PropertyMap};
+use swreq_valid::Protocols;
+use swreq_world::World;
+
+/// A text whose protocols are checked, and what is asked of the machines of its signatures.
+#[derive(Clone, Copy)]
+pub(crate) struct Setting<'a> {
+    pub alloc: Global,
+    pub world: &'a World,
+    /// The rules of the protocols, within the limits.
+    pub protocols: &'a Protocols,
+    pub limits: Limits,
+    /// What is printed.
+    pub content: Content,
+    /// Of each signature the places of the pieces that its machine makes.
+    pub places: &'a [Vec<usize>],
+    /// What is the same for the histories of all signatures, where derivations are printed for queries.
+    pub base: &'a Option<TextHistory>,
+    /// What the rules of the protocols keep with the endings of words, where queries are answered.
+    pub endings: &'a Option<Endings>,
+}
+
+/// A signature with its machine.
+#[derive(Clone, Copy)]
+pub(crate) struct Own<'a> {
+    pub f: FuncId,
+    pub machine: &'a Machine<'a>,
+}
+
+/// A signature with its machine, kept for the functions that add nothing to it.
+#[derive(Drop)]
+pub(crate) struct Kept<'b> {
+    pub f: FuncId,
+    pub machine: Machine<'b>,
+}
+
+/// With what the queries of a signature are answered.
+#[derive(Clone, Copy)]
+pub(crate) struct Means<'a> {
+    pub own: Own<'a>,
+    /// The map of the machine's rules.
+    pub map: &'a PropertyMap<'a>,
+    /// The history of the machine, where derivations are printed.
+    pub history: Option<&'a History<'a>>,
+}

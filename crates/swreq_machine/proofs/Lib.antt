@@ -1,0 +1,10 @@
+pub mod Listing
+pub mod Valid
+pub mod Made
+pub mod Answering
+pub mod Deciding
+pub mod Firsts
+pub mod Typed
+pub mod Reducing
+pub mod Telling
+pub mod OfSignatures

@@ -1,0 +1,9 @@
+use Rattle.swreq_param.specs.Tables.{term_at}
+use Rattle.swreq_world.specs.ByTable.{world_by}
+use Rattle.swreq_machine.proofs.Answering.{valid_answer}
+use Rattle.swreq_machine.proofs.machine.Machine.is_valid.Goals as goal
+
+pub returns-clause-answer : goal.returns-clause-answer
+returns-clause-answer c list is =
+    valid_answer (world_by c.args.table.now c.args.world.now) c.requires.text.closed c.args.self.now list is
+    (term_at c.args.table.now c.args.subject) c.walk.result c.walk.ensures.valid

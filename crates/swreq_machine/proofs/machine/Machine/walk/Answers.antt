@@ -1,0 +1,28 @@
+use Rattle.std.proofs.Common.{subst₂, ◌↔◌, IsTrue}
+use Rattle.std.specs.Bool.{OnTrue}
+use Rattle.swreq_param.specs.Tables.{term_at}
+use Rattle.swreq_correspondence.specs.Shown.{ShowsValid}
+use Rattle.swreq_correspondence.specs.Symbols.{word_of}
+use Rattle.swreq_symbols.specs.Meaning.{facts_of, symbols_of}
+use Rattle.swreq_symbols.specs.Overs.{source_over}
+use Rattle.swreq_symbols.specs.declared.over.Over.TheVariants.{Signature}
+use Rattle.swreq_symbols.specs.Vanishing.{IsLeastBy, Links}
+use Rattle.swreq_world.specs.ByTable.{world_by}
+use Rattle.swreq_machine.proofs.Answering.{on_true}
+use Rattle.swreq_machine.proofs.machine.Machine.walk.Goals as goal
+
+pub returns-clause-valid : goal.returns-clause-valid
+returns-clause-valid c =
+    let w = world_by c.args.table.now c.args.world.now in
+    subst₂ (λ r p. IsTrue c.least_word.result
+    ↔ ShowsValid (symbols_of w.lexicon) (facts_of w) (source_over (Signature p)) (Links r) (term_at c.args.table.now c.args.subject))
+    c.rules.ensures c.params.ensures c.least_word.ensures.valid
+
+pub returns-clause-least : goal.returns-clause-least
+returns-clause-least c =
+    let w = world_by c.args.table.now c.args.world.now in
+    subst₂ (λ r p. OnTrue c.least_word.result (IsLeastBy r c.least_word.new.word.items
+    × Links r (word_of (symbols_of w.lexicon) (source_over (Signature p)) (term_at c.args.table.now c.args.subject))
+    c.least_word.new.word.items))
+    c.rules.ensures c.params.ensures
+    (on_true c.least_word.result (λ read. (read.least, read.linked)) c.least_word.ensures.read)

@@ -1,0 +1,102 @@
+//! What the property map of the rules of a machine answers of a type parameter, without memory.
+ghost use Rattle.std.specs.Prelude.{◌≡◌, ◌↔◌, ◌+◌, ◌*◌, ◌≤◌, IsTrue, List, MatchOption};
+ghost use Rattle.swreq_param.specs.Tables.{term_at};
+ghost use Rattle.swreq_param.specs.Terms.{member_count};
+ghost use Rattle.swreq_derive.specs.Derivation.{TermRequirement};
+ghost use Rattle.swreq_map.specs.Follows.{IsMapOf};
+ghost use Rattle.swreq_map.specs.Properties.{IsProperty};
+ghost use Rattle.swreq_symbols.specs.Known.{IsTextOver, IsTypeIn};
+ghost use Rattle.swreq_world.specs.ByTable.{world_by};
+ghost use Rattle.swreq_machine.specs.Asked.{IsBehind, IsDerivable, IsShownBy};
+ghost use Rattle.swreq_machine.specs.Having.{IsBelow, TellsIfHas, symbol_of};
+ghost use Rattle.swreq_machine.specs.Machines.{IsMachineOf};
+ghost use Rattle.swreq_valid.specs.Rounds.{last_rules};
+
+use crate::machine::Machine;
+use crate::scratch::Scratch;
+use swreq_map::PropertyMap;
+use swreq_param::{ProtoId, TermId};
+use swreq_symbols::Text;
+use swreq_word::Symbol;
+
+/// A property of a type parameter.
+#[derive(Clone, Copy)]
+pub enum Property {
+    /// That it conforms to this protocol.
+    Protocol(ProtoId),
+    /// That it is `AnyObject`.
+    Layout,
+}
+
+impl Property {
+    /// The symbol that vanishes after the words of the type parameters that have it.
+    fn symbol(self) -> Symbol
+        ensures { result ≡ symbol_of self }
+    {
+        match self {
+            Property::Protocol(p) => Symbol::Proto(p.rank),
+            Property::Layout => Symbol::Layout,
+        }
+    }
+}
+
+impl Machine<'_> {
+    /// Whether a property's symbol vanishes after the word of t, by the map of the rules; None if and only if t is not valid.
+    fn vanishing(
+        &self,
+        text: &Text<'_>,
+        map: &PropertyMap,
+        t: TermId,
+        x: Symbol,
+        scratch: &mut Scratch,
+    ) -> Option<bool>
+        requires text { IsTextOver text.now.table.now text.now.world.now }
+        requires t { IsTypeIn text.now.table.now text.now.world.now.lexicon t }
+        requires map { IsMapOf (last_rules self.now.rounds) map.now }
+        requires property { IsProperty map.now.protocols x }
+        requires room { 4 * (member_count (term_at text.now.table.now t) + 2) ≤ scratch.old.room }
+        ensures answer { MatchOption result
+            (IsShownBy (world_by text.now.table.now text.now.world.now) self.now
+            (term_at text.now.table.now t) → ⊥)
+            (λ b. IsShownBy (world_by text.now.table.now text.now.world.now) self.now
+            (term_at text.now.table.now t)
+            × (IsTrue b ↔ IsBehind (world_by text.now.table.now text.now.world.now) self.now
+            (term_at text.now.table.now t) x)) }
+        ensures room { scratch.new.room ≡ scratch.old.room }
+    {
+        if self.walk(
+            text.world,
+            text.table,
+            t,
+            &mut scratch.word,
+            &mut scratch.test,
+        ) {
+            Some(map.has(self.rules(), &scratch.word, x, &mut scratch.test))
+        } else {
+            None
+        }
+    }
+
+    /// Whether t has a property, by the property map of the rules of the machine; None if and only if t is not valid.
+    pub fn has(
+        &self,
+        text: &Text<'_>,
+        map: &PropertyMap,
+        t: TermId,
+        property: Property,
+        scratch: &mut Scratch,
+    ) -> Option<bool>
+        requires text { IsTextOver text.now.table.now text.now.world.now }
+        requires t { IsTypeIn text.now.table.now text.now.world.now.lexicon t }
+        requires map { IsMapOf (last_rules self.now.rounds) map.now }
+        requires property { IsBelow map.now.protocols property }
+        requires room { 4 * (member_count (term_at text.now.table.now t) + 2) ≤ scratch.old.room }
+        ensures answer { (list : List TermRequirement)
+            → IsMachineOf (world_by text.now.table.now text.now.world.now) list self.now
+            → TellsIfHas (IsDerivable (world_by text.now.table.now text.now.world.now) self.now
+            list) (term_at text.now.table.now t) property result }
+        ensures room { scratch.new.room ≡ scratch.old.room }
+    {
+        self.vanishing(text, map, t, property.symbol(), scratch)
+    }
+}

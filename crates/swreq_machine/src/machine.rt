@@ -1,0 +1,122 @@
+//! Machines of lists.
+ghost use Rattle.std.specs.Prelude.{◌≡◌, map, IfOk};
+ghost use Rattle.swreq_complete.specs.Limits.{AreInRange};
+ghost use Rattle.swreq_symbols.specs.Known.{IsTextOver};
+ghost use Rattle.swreq_world.specs.ByTable.{world_by};
+ghost use Rattle.swreq_valid.specs.Answers.{Answers, IsOnlyOutcome};
+ghost use Rattle.swreq_valid.specs.Protocols.{AreRulesOf};
+ghost use Rattle.swreq_machine.specs.Machines.{IsMachineOf, machine_plan, machine_rules};
+ghost use Rattle.swreq_valid.specs.Plans.{AreKnown, in_signature, listed};
+ghost use Rattle.swreq_valid.specs.Rounds.{AreRounds, last_rules};
+
+use std::alloc::{AllocError, Global};
+use std::marker::Model;
+use swreq_complete::{CompleteRules, Failed, Limits};
+use swreq_derive::{Params, Requirement};
+use swreq_param::ParamTable;
+use swreq_symbols::Over;
+use swreq_valid::{Protocols, RoundRequirement, RoundStart, Rounds, run_rounds};
+use swreq_watch::Watch;
+use swreq_world::World;
+
+/// The machine of a list: its generic parameters, and the rounds that found its rules. It borrows the rules of the protocols.
+#[derive(Drop)]
+pub struct Machine<'b> {
+    params: Params,
+    rounds: Rounds<'b>,
+}
+
+impl<'b> Model for Machine<'b> {
+    ghost use Rattle.swreq_machine.specs.Machines.{MachineView};
+
+    ghost Value = { MachineView };
+
+    ghost view = { λ m. record { params = m.params; rounds = m.rounds } };
+}
+
+impl<'b> Machine<'b> {
+    /// The machine with these generic parameters and these rounds.
+    pub(crate) fn new(params: Params, rounds: Rounds<'b>) -> Machine<'b>
+        ensures { result ≡ record { params = params; rounds = rounds.entry } }
+    {
+        Machine { params, rounds }
+    }
+
+    /// The generic parameters with which it was made.
+    pub fn params(&self) -> Params
+        ensures { result ≡ self.now.params }
+    {
+        self.params
+    }
+
+    /// The rounds that found its rules.
+    pub fn rounds(&self) -> &Rounds<'b>
+        ensures { result.now ≡ self.now.rounds }
+    {
+        &self.rounds
+    }
+
+    /// The rules of its last round.
+    pub fn rules(&self) -> &CompleteRules<'b>
+        ensures { result.now ≡ last_rules self.now.rounds }
+    {
+        self.rounds.last()
+    }
+}
+
+/// The requirements of a list with these generic parameters.
+fn in_signature(
+    alloc: Global,
+    params: Params,
+    list: &[Requirement],
+) -> Result<Vec<RoundRequirement>, AllocError>
+    ensures { IfOk result (λ v. v.items ≡ map (in_signature params) list.now) }
+{
+    let mut wanted: Vec<RoundRequirement> = Vec::new(alloc);
+    for k in 0..list.len() {
+        let requirement = list[k];
+        wanted.push(RoundRequirement {
+            over: Over::Signature(params),
+            requirement,
+        })?;
+    }
+    Ok(wanted)
+}
+
+/// The machine of the usable part of a list, over the rules of the protocols.
+///
+/// `Failed::Limit` comes if and only if the rounds of the list stop at a limit, with the limit that was passed first and the trace of that
+/// round.
+pub fn core<'b, W: Watch>(
+    alloc: Global,
+    world: &World,
+    table: &ParamTable,
+    protocols: &'b Protocols,
+    params: Params,
+    list: &[Requirement],
+    limits: Limits,
+    watch: &mut W,
+) -> Result<Machine<'b>, Failed>
+    requires text { IsTextOver table.now world.now }
+    requires protocols { AreRulesOf (world_by table.now world.now)
+        (last_rules protocols.now.rounds) }
+    requires list { AreKnown table.now world.now.lexicon list.now }
+    requires limits { AreInRange limits }
+    ensures answer { Answers limits
+        (machine_plan table.now world.now (last_rules protocols.entry.now.rounds) params list.now)
+        (W.told watch.old) (W.told watch.new) (machine_rules result) }
+    ensures only { IsOnlyOutcome limits
+        (machine_plan table.now world.now (last_rules protocols.entry.now.rounds) params list.now)
+        (machine_rules result) }
+    ensures rounds { IfOk result (λ m. AreRounds limits (machine_plan table.now world.now
+        (last_rules protocols.entry.now.rounds) params list.now) m.rounds) }
+    ensures machine { IfOk result
+        (IsMachineOf (world_by table.now world.now) (listed table.now list.now)) }
+    ensures params { IfOk result (λ m. m.params ≡ params) }
+{
+    let all = in_signature(alloc, params, list)?;
+    let basic = Vec::new(alloc);
+    let start = RoundStart { basic, all, limits };
+    let rounds = run_rounds(alloc, world, table, Some(protocols.rules()), &start, watch)?;
+    Ok(Machine::new(params, rounds))
+}

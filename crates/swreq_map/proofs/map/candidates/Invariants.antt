@@ -1,7 +1,0 @@
-use Rattle.std.proofs.Common.{ℕ, ◌<◌, ◌≤◌, Contains, drop}
-use Rattle.swreq_word.specs.declared.symbols.Symbol.{Symbol}
-use Rattle.swreq_map.specs.Follows.{Follows}
-use Rattle.swreq_map.proofs.map.candidates.Given as goal
-
-abbrev pub invariant-loop-at : goal.invariant-loop-at
-invariant-loop-at l = (at : ℕ) (x : Symbol) → l.from ≤ at → at < l.at → Follows l.table l.lists (drop at l.u) x → Contains l.found.items x

@@ -1,0 +1,6 @@
+use Rattle.std.proofs.Common.{◌≡◌, map, take}
+use Rattle.swreq_names.specs.Spaces.{of_params}
+use Rattle.swreq_names.proofs.kinds.nested_params.Given as goal
+
+abbrev pub invariant-loop-item : goal.invariant-loop-item
+invariant-loop-item l = l.found.items ≡ map (λ t. map (λ f. of_params l.text f.params) t.functions) (take l.item-index l.structs)

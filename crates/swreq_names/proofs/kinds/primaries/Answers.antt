@@ -1,0 +1,12 @@
+use Rattle.std.proofs.Common.{◌∙◌, ap, map, map-id}
+use Rattle.swreq_names.specs.Spaces.{declarations}
+use Rattle.swreq_names.proofs.Pieces.{mapped_more}
+use Rattle.swreq_names.proofs.kinds.primaries.Goals as goal
+
+pub loop-protocol-preserved : goal.loop-protocol-preserved
+loop-protocol-preserved c =
+    mapped_more (λ p. declarations c.args.text.now p.primaries) c.args.protocols.now c.loop-protocol.protocol-index
+    c.protocol-item.result c.in_ok-names.names
+    c.loop-protocol.found.items c.push.new.self.items c.loop-protocol-test.true c.protocol-item.is c.in_ok-push.ensures.items
+    (c.in_ok-names.ensures ∙ (λ j. declarations c.args.text.now (map (λ s. s) (c.items.ensures j)))
+    ∙ ap (declarations c.args.text.now) (map-id c.protocol-item.result.primaries)) c.loop-protocol.invariant

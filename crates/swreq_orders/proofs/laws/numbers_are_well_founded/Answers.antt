@@ -1,5 +1,0 @@
-use Rattle.swreq_orders.proofs.Induction as induction
-use Rattle.swreq_orders.proofs.laws.numbers_are_well_founded.Goals as goal
-
-pub returns : goal.returns
-returns c = record { accessible = induction.numbers_founded; no_descent = induction.no_descent induction.numbers_founded }

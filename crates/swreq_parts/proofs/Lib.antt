@@ -1,3 +1,0 @@
-pub mod Lined
-pub mod LineEnds
-pub mod Divided

@@ -1,9 +1,0 @@
-use Rattle.std.proofs.Common.{◌-◌, length}
-use Rattle.swreq_parts.proofs.Divided.{IsSearched}
-use Rattle.swreq_parts.proofs.division.parts.Given as goal
-
-abbrev pub invariant-loop-found : goal.invariant-loop-found
-invariant-loop-found l = IsSearched l.input l.at
-
-abbrev pub decreases-loop-found : goal.decreases-loop-found
-decreases-loop-found l = length l.input - l.at

@@ -1,7 +1,0 @@
-use Rattle.std.proofs.Common.{take}
-use Rattle.swreq_watch.specs.Told.{GrewBy}
-use Rattle.swreq_valid.specs.Again.{events_of}
-use Rattle.swreq_valid.proofs.machine.Machine.tell_again.Given as goal
-
-abbrev pub invariant-loop-k : goal.invariant-loop-k
-invariant-loop-k g l = GrewBy (g.W.Watch.told l.fn.watch) (g.W.Watch.told l.watch) (events_of l.base (take l.k l.before))
