@@ -8,14 +8,10 @@ use Rattle.swreq_word.specs.declared.symbols.Symbol.{Symbol}
 use Rattle.swreq_rule.specs.declared.rules.Rule.{Rule}
 use Rattle.swreq_rule.specs.Oriented.{IsOriented}
 use Rattle.swreq_derivation.specs.declared.derivation.Derivation.{Derivation}
-use Rattle.swreq_derivation.specs.UnderWay.{AddsLines, IsUnderWay}
-use Rattle.swreq_derivation.proofs.DerivationLemmas as derivations
+use Rattle.swreq_derivation.specs.UnderWay.{AddsLines}
 use Rattle.swreq_readings.specs.declared.alphabet.Alphabet.{Alphabet}
 use Rattle.swreq_readings.specs.Readable.{AllowsWord, AreReadEqual, read_symbol}
 use Rattle.swreq_readings.proofs.ReadingLemmas.{both_still, term_still}
-
-pub grown_by_none : (s : Derivation) → IsUnderWay s → AddsLines s s
-grown_by_none s h = derivations.grown_by_none s h
 
 pub both_as : (g : Alphabet) (s : Derivation) (t u : Term) (a a' b b' : List Symbol) → t ≡ u → a ≡ a' → b ≡ b' → AreReadEqual g s t a b
     → AreReadEqual g s u a' b'

@@ -14,7 +14,7 @@ use Rattle.swreq_births.specs.Systems.{ReducesTo}
 use Rattle.swreq_path.specs.Paths.{replaced_side}
 use Rattle.swreq_derivation.specs.declared.derivation.Derivation.{Derivation}
 use Rattle.swreq_readings.specs.declared.alphabet.Alphabet.{Alphabet}
-use Rattle.swreq_readings.specs.Readable.{AllowsWord, read_symbol}
+use Rattle.swreq_readings.specs.Readable.{AllowsWord}
 use Rattle.swreq_births.specs.Heads.{head_of, ConformsIfAny, IsHeadStated}
 use Rattle.std.proofs.lemmas.Option.{same_Some}
 

@@ -11,7 +11,7 @@ use Rattle.swreq_word.specs.declared.symbols.Symbol.{Symbol}
 use Rattle.swreq_word.specs.declared.symbols.Symbol.TheVariants.{Layout as LayoutSymbol, Member, Name, Proto}
 use Rattle.swreq_rule.specs.declared.rules.Rule.{Rule}
 use Rattle.swreq_derivation.specs.declared.derivation.Derivation.{Derivation}
-use Rattle.swreq_derivation.specs.UnderWay.{AddsLines, IsUnderWay, States}
+use Rattle.swreq_derivation.specs.UnderWay.{AddsLines, States}
 use Rattle.swreq_readings.specs.declared.alphabet.Alphabet.{Alphabet}
 use Rattle.swreq_readings.specs.declared.alphabet.Named.{Named}
 use Rattle.swreq_readings.specs.Alphabets.{member_at}
@@ -47,8 +47,8 @@ allows_now g s u grows t w i a = (a.0, a.1, asked_now s u grows t a.0 i a.2)
 
 -- if a rule may be read in a derivation, it may be read in the grown derivation
 pub allowed_still : (g : Alphabet) (s u : Derivation) → AddsLines s u → (t : TermId) (w : List Symbol) → IsOf s.table t
-    → IsHeadStated g s (term_at s.table t) w → IsUnderWay u × IsOf u.table t × IsHeadStated g u (term_at u.table t) w
-allowed_still g s u grows t w i a = (grows.derivation, is_still s u grows t i, allows_now g s u grows t w i a)
+    → IsHeadStated g s (term_at s.table t) w → IsOf u.table t × IsHeadStated g u (term_at u.table t) w
+allowed_still g s u grows t w i a = (is_still s u grows t i, allows_now g s u grows t w i a)
 
 -- ---- what the left sides of equations ask
 

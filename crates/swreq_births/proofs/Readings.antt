@@ -1,5 +1,6 @@
 -- What lines say of type parameters with their words, as a derivation grows.
-use Rattle.std.proofs.Common.{◌≡◌, List, sym, ap, subst, ◌∙◌}
+use Rattle.std.proofs.Common.{◌≡◌, List, Option, sym, ap, subst, ◌∙◌}
+use Rattle.swreq_param.specs.declared.ids.ProtoId.{ProtoId}
 use Rattle.swreq_param.specs.declared.ids.Step.{Step}
 use Rattle.swreq_param.specs.declared.ids.TermId.{TermId}
 use Rattle.swreq_param.specs.Tables.{IsOf, term_at}
@@ -14,6 +15,7 @@ use Rattle.swreq_readings.specs.Readable.{AllowsWord, IsGiven, read_word}
 use Rattle.swreq_readings.proofs.ReadingLemmas.{equal_as, equal_still, is_still, term_still, word_still}
 use Rattle.swreq_births.specs.declared.giving.Origin.{Origin}
 use Rattle.swreq_births.specs.Readings.{IsOrigin, IsReadBy}
+use Rattle.swreq_births.specs.Types.{placed}
 use Rattle.swreq_births.proofs.Equations.{asked_now}
 
 pub origin_still : (s u : Derivation) → AddsLines s u → (o : Origin) → IsOrigin s o → IsOrigin u o
@@ -21,6 +23,16 @@ origin_still s u grows o w = record {
   for_self = is_still s u grows o.for_self w.for_self;
   owner = asked_now s u grows o.for_self o.owner w.for_self w.owner;
 }
+
+-- A type parameter with what an id stood for put in for `Self` is the same with what the id stands for now.
+pub placed_now : (s u : Derivation) → AddsLines s u → (o : Option ProtoId) (t v : TermId) (x : Term) → IsOf s.table t
+    → term_at u.table v ≡ placed o (term_at s.table t) x → term_at u.table v ≡ placed o (term_at u.table t) x
+placed_now s u grows o t v x h e = e ∙ ap (λ z. placed o z x) (sym (term_still s u grows t h))
+
+pub placed_still : (s n u : Derivation) → AddsLines s n → AddsLines n u → (o : Option ProtoId) (t v : TermId) (x : Term) → IsOf s.table t
+    → IsOf n.table v → term_at n.table v ≡ placed o (term_at s.table t) x → term_at u.table v ≡ placed o (term_at u.table t) x
+placed_still s n u first second o t v x h k e =
+    placed_now s u (grows_then first second) o t v x h (term_still n u second v k ∙ e)
 
 pub side_still : (g : Alphabet) (s u : Derivation) → AddsLines s u → (t v : TermId) (w : List Symbol) → IsOf s.table t → IsReadBy g s t v w
     → IsReadBy g u t v w
@@ -54,7 +66,7 @@ pub record IsOnSide (g : Alphabet) (s u : Derivation) (t v last : TermId) (w : L
 pub on_side : (g : Alphabet) (s n u : Derivation) → AddsLines s n → AddsLines n u → (t v last : TermId) (w : List Symbol) → IsOf s.table t
     → IsReadBy g s t v w → term_at u.table last ≡ read_word g (term_at n.table t) w → IsOnSide g s u t v last w
 on_side g s n u first second t v last w h side e =
-    let grows = grows_then s n u first second in
+    let grows = grows_then first second in
     let stands = e ∙ ap (λ z. read_word g z w) (term_still s n first t h) in record {
       grows = grows;
       stands = stands;
@@ -68,7 +80,7 @@ module _ (g : Alphabet) (s0 s s1 s2 : Derivation) (g0 : AddsLines s0 s) (g1 : Ad
     (part w : List Symbol) (e : part ≡ w) where
   pub part_read : term_at s2.table last ≡ read_word g (term_at s1.table t) part → term_at s2.table last ≡ read_word g (term_at s0.table t) w
   part_read stands = stands ∙ ap (read_word g (term_at s1.table t)) e ∙ ap (λ z. read_word g z w)
-      (term_still s0 s1 (grows_then s0 s s1 g0 g1) t h)
+      (term_still s0 s1 (grows_then g0 g1) t h)
 
   pub part_given : (x : Step) (n : Named) → IsGiven g s1 (read_word g (term_at s.table t) part) x n
       → IsGiven g s1 (read_word g (term_at s0.table t) w) x n

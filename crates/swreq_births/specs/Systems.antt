@@ -20,8 +20,7 @@ use Rattle.swreq_derive.specs.Facts.{generic_params}
 use Rattle.swreq_derive.specs.Instances.{HasNumber}
 use Rattle.swreq_correspondence.specs.Shown.{ShowsValid}
 use Rattle.swreq_correspondence.specs.Symbols.{Symbols, word_of}
-use Rattle.swreq_derivation.specs.declared.derivation.Derivation.{Derivation}
-use Rattle.swreq_derivation.specs.UnderWay.{Assumptions, StaysDerived}
+use Rattle.swreq_derivation.specs.UnderWay.{Assumptions}
 use Rattle.swreq_readings.specs.declared.alphabet.Alphabet.{Alphabet}
 use Rattle.swreq_readings.specs.declared.alphabet.Named.{Named}
 use Rattle.swreq_readings.specs.Alphabets.{FitsAssumptions, IsInherited}
@@ -147,10 +146,6 @@ pub record FitsHistory (history : History) (b : Assumptions) : Type 0 where
   pub alphabet : FitsAssumptions history.alphabet b
   pub written : (r k : ℕ) (e : Equation) → r < length (systems_of history) → slice_get (system_at history r).given k ≡ Some e → IsWritten b
       e.reason
-
--- Whatever the old lines are a derivation from, the new ones are too, if the history fits it.
-abbrev pub IsStillDerivedBy : History → Derivation → Derivation → Type 0
-IsStillDerivedBy history old new = (b : Assumptions) → FitsHistory history b → StaysDerived b old new
 
 -- The first k rules reduce the two words to the sides of the rule, in one order or the other.
 pub record ReducesTo (rules : List Rule) (k : ℕ) (left right : List Symbol) (rule : Rule) : Type 0 where

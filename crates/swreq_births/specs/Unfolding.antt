@@ -7,7 +7,6 @@ use Rattle.swreq_rule.specs.declared.rules.Rule.{Rule}
 use Rattle.swreq_path.specs.declared.paths.Path.{Path}
 use Rattle.swreq_path.specs.Paths.{HasTarget}
 use Rattle.swreq_derivation.specs.declared.derivation.Derivation.{Derivation}
-use Rattle.swreq_derivation.specs.UnderWay.{IsUnderWay}
 use Rattle.swreq_readings.specs.Readable.{AreReadEqual}
 use Rattle.swreq_births.specs.declared.history.Equation.{Equation}
 use Rattle.swreq_births.specs.declared.history.History.{History}
@@ -19,21 +18,18 @@ use Rattle.swreq_births.specs.Systems.{HasEquation, HasRule, HasSystem, rules_at
 -- The rule stands at this place of the history, and the lines of a derivation under way state what it asks of the type parameter of the id.
 pub record AllowsRule (b : History) (s : Derivation) (at : RulePlace) (r : Rule) (t : TermId) : Type 0 where
   pub rule : HasRule b at r
-  pub derivation : IsUnderWay s
   pub subject : IsOf s.table t
   pub head : IsHeadStated b.alphabet s (term_at s.table t) r.left
 
 -- The system has the equation, and the lines of a derivation under way state what its left side asks of the type parameter of the id.
 pub record AllowsEquation (b : History) (s : Derivation) (system : ℕ) (e : Equation) (t : TermId) : Type 0 where
   pub equation : HasEquation b system e
-  pub derivation : IsUnderWay s
   pub subject : IsOf s.table t
   pub head : IsHeadStated b.alphabet s (term_at s.table t) e.left
 
 -- The history has the system, and a line of a derivation under way states that what stands for `Self` conforms to the owner, if any.
 pub record AllowsScope (b : History) (s : Derivation) (scope : ReadingPlace) : Type 0 where
   pub system : HasSystem b scope.system
-  pub derivation : IsUnderWay s
   pub for_self : IsOf s.table scope.for_self
   pub owner : ConformsIfAny s (term_at s.table scope.for_self) scope.owner
 

@@ -6,9 +6,9 @@ ghost use Rattle.swreq_derive.specs.Derivation.TermRequirement.{Conforms, Equals
 ghost use Rattle.swreq_derive.specs.Derivation.TermStatement.{Requires};
 ghost use Rattle.swreq_derive.specs.Instances.{HasNumber};
 ghost use Rattle.swreq_word.specs.declared.symbols.Symbol.TheVariants.{Layout, Member, Name, Proto};
-ghost use Rattle.swreq_derivation.specs.UnderWay.{AddsLines, AreStatedEqual, Assumptions, IsUnderWay, States, StaysDerived};
+ghost use Rattle.swreq_derivation.specs.UnderWay.{AreStatedEqual, ContinuesFrom, States};
 ghost use Rattle.swreq_readings.specs.declared.alphabet.Named.{Named};
-ghost use Rattle.swreq_readings.specs.Alphabets.{IsInherited, IsStillDerivedOver, member_at};
+ghost use Rattle.swreq_readings.specs.Alphabets.{FitsAssumptions, IsInherited, member_at};
 ghost use Rattle.swreq_readings.specs.Readable.{AreReadEqual};
 ghost use Rattle.swreq_births.specs.Readings.{IsOrigin, IsReadBy};
 ghost use Rattle.swreq_births.specs.Types.{placed, written_by};
@@ -39,7 +39,6 @@ pub(crate) fn give_member(
 ) -> Result<(), AllocError>
     requires inherited { IsInherited alphabet.now }
     requires named { (n : Named) × (slice_get alphabet.now.members rank ≡ Some n) }
-    requires derivation { IsUnderWay derivation.old }
     requires subject { IsOf derivation.old.table subject }
     requires conforms { States derivation.old
         (Requires (Conforms (term_at derivation.old.table subject)
@@ -49,8 +48,8 @@ pub(crate) fn give_member(
         (Proto (member_at alphabet.now rank).proto.rank ∷ Name
         (member_at alphabet.now rank).name.rank
         ∷ []) (Member rank ∷ [])) }
-    ensures grows { AddsLines derivation.old derivation.new }
-    ensures derives { OnOk result (IsStillDerivedOver alphabet.now derivation.old derivation.new) }
+    ensures continues { ContinuesFrom (FitsAssumptions alphabet.now) derivation.old
+        derivation.new }
 {
     let named = member_at(alphabet, rank);
     inherit(alphabet, derivation, subject, named.proto, named.name)
@@ -64,20 +63,17 @@ fn put_conf(
     subject: TermId,
     protocol: ProtoId,
 ) -> Result<(), AllocError>
-    requires derivation { IsUnderWay derivation.old }
     requires origin { IsOrigin derivation.old origin }
     requires subject { IsOf derivation.old.table subject }
     ensures table { derivation.new.table ≡ derivation.old.table }
     ensures conforms { OnOk result
         (States derivation.new (Requires
         (Conforms (term_at derivation.old.table subject) protocol))) }
-    ensures grows { AddsLines derivation.old derivation.new }
-    ensures derives { OnOk result
-        ((b : Assumptions) (v : Term) → HasNumber origin.number (written_by b origin.owner)
-        (Conforms v protocol)
-        → term_at derivation.old.table subject ≡ placed origin.owner
-        (term_at derivation.old.table origin.for_self) v
-        → StaysDerived b derivation.old derivation.new) }
+    ensures continues { ContinuesFrom (λ b. (v : Term)
+        × HasNumber origin.number (written_by b origin.owner) (Conforms v protocol)
+        × (term_at derivation.old.table subject
+        ≡ placed origin.owner (term_at derivation.old.table origin.for_self) v))
+        derivation.old derivation.new }
 {
     match origin.owner {
         Some(p) => add_assoc_conf(
@@ -98,18 +94,16 @@ fn put_layout(
     origin: Origin,
     subject: TermId,
 ) -> Result<(), AllocError>
-    requires derivation { IsUnderWay derivation.old }
     requires origin { IsOrigin derivation.old origin }
     requires subject { IsOf derivation.old.table subject }
     ensures table { derivation.new.table ≡ derivation.old.table }
     ensures object { OnOk result
         (States derivation.new (Requires (IsAnyObject (term_at derivation.old.table subject)))) }
-    ensures grows { AddsLines derivation.old derivation.new }
-    ensures derives { OnOk result ((b : Assumptions) (v : Term)
-        → HasNumber origin.number (written_by b origin.owner) (IsAnyObject v)
-        → term_at derivation.old.table subject ≡ placed origin.owner
-        (term_at derivation.old.table origin.for_self) v
-        → StaysDerived b derivation.old derivation.new) }
+    ensures continues { ContinuesFrom (λ b. (v : Term)
+        × HasNumber origin.number (written_by b origin.owner) (IsAnyObject v)
+        × (term_at derivation.old.table subject
+        ≡ placed origin.owner (term_at derivation.old.table origin.for_self) v))
+        derivation.old derivation.new }
 {
     match origin.owner {
         Some(p) => add_assoc_layout(derivation, origin.for_self, (p, origin.number), subject),
@@ -123,7 +117,6 @@ fn put_same(
     origin: Origin,
     sides: (TermId, TermId),
 ) -> Result<(), AllocError>
-    requires derivation { IsUnderWay derivation.old }
     requires origin { IsOrigin derivation.old origin }
     requires left { IsOf derivation.old.table sides.0 }
     requires right { IsOf derivation.old.table sides.1 }
@@ -131,15 +124,13 @@ fn put_same(
     ensures equal { OnOk result
         (AreStatedEqual derivation.new (term_at derivation.old.table sides.0)
         (term_at derivation.old.table sides.1)) }
-    ensures grows { AddsLines derivation.old derivation.new }
-    ensures derives { OnOk result
-        ((b : Assumptions) (u v : Term) → HasNumber origin.number
-        (written_by b origin.owner) (Equals u v)
-        → term_at derivation.old.table sides.0 ≡ placed origin.owner
-        (term_at derivation.old.table origin.for_self) u
-        → term_at derivation.old.table sides.1 ≡ placed origin.owner
-        (term_at derivation.old.table origin.for_self) v
-        → StaysDerived b derivation.old derivation.new) }
+    ensures continues { ContinuesFrom (λ b. (u : Term) × (v : Term)
+        × HasNumber origin.number (written_by b origin.owner) (Equals u v)
+        × (term_at derivation.old.table sides.0
+        ≡ placed origin.owner (term_at derivation.old.table origin.for_self) u)
+        × (term_at derivation.old.table sides.1
+        ≡ placed origin.owner (term_at derivation.old.table origin.for_self) v))
+        derivation.old derivation.new }
 {
     match origin.owner {
         Some(p) => add_assoc_same(derivation, origin.for_self, (p, origin.number), sides),
@@ -158,19 +149,16 @@ pub(crate) fn give_conf(
     protocol: ProtoId,
     word: &[Symbol],
 ) -> Result<(), AllocError>
-    requires derivation { IsUnderWay derivation.old }
     requires origin { IsOrigin derivation.old origin }
     requires side { IsReadBy alphabet.now derivation.old origin.for_self subject word.now }
     ensures both { OnOk result (AreReadEqual alphabet.now derivation.new
         (term_at derivation.old.table origin.for_self)
         (word.now ++ Proto protocol.rank ∷ []) word.now) }
-    ensures grows { AddsLines derivation.old derivation.new }
-    ensures derives { OnOk result
-        ((b : Assumptions) (v : Term) → HasNumber origin.number (written_by b origin.owner)
-        (Conforms v protocol)
-        → term_at derivation.old.table subject ≡ placed origin.owner
-        (term_at derivation.old.table origin.for_self) v
-        → StaysDerived b derivation.old derivation.new) }
+    ensures continues { ContinuesFrom (λ b. (v : Term)
+        × HasNumber origin.number (written_by b origin.owner) (Conforms v protocol)
+        × (term_at derivation.old.table subject
+        ≡ placed origin.owner (term_at derivation.old.table origin.for_self) v))
+        derivation.old derivation.new }
 {
     put_conf(derivation, origin, subject, protocol)?;
     let last = read_word(alphabet, derivation, origin.for_self, word)?;
@@ -186,18 +174,16 @@ pub(crate) fn give_layout(
     subject: TermId,
     word: &[Symbol],
 ) -> Result<(), AllocError>
-    requires derivation { IsUnderWay derivation.old }
     requires origin { IsOrigin derivation.old origin }
     requires side { IsReadBy alphabet.now derivation.old origin.for_self subject word.now }
     ensures both { OnOk result (AreReadEqual alphabet.now derivation.new
         (term_at derivation.old.table origin.for_self)
         (word.now ++ Layout ∷ []) word.now) }
-    ensures grows { AddsLines derivation.old derivation.new }
-    ensures derives { OnOk result ((b : Assumptions) (v : Term)
-        → HasNumber origin.number (written_by b origin.owner) (IsAnyObject v)
-        → term_at derivation.old.table subject ≡ placed origin.owner
-        (term_at derivation.old.table origin.for_self) v
-        → StaysDerived b derivation.old derivation.new) }
+    ensures continues { ContinuesFrom (λ b. (v : Term)
+        × HasNumber origin.number (written_by b origin.owner) (IsAnyObject v)
+        × (term_at derivation.old.table subject
+        ≡ placed origin.owner (term_at derivation.old.table origin.for_self) v))
+        derivation.old derivation.new }
 {
     put_layout(derivation, origin, subject)?;
     let last = read_word(alphabet, derivation, origin.for_self, word)?;
@@ -213,21 +199,18 @@ pub(crate) fn give_same(
     ids: (TermId, TermId),
     words: Sides,
 ) -> Result<(), AllocError>
-    requires derivation { IsUnderWay derivation.old }
     requires origin { IsOrigin derivation.old origin }
     requires left { IsReadBy alphabet.now derivation.old origin.for_self ids.0 words.from.now }
     requires right { IsReadBy alphabet.now derivation.old origin.for_self ids.1 words.to.now }
     ensures both { OnOk result (AreReadEqual alphabet.now derivation.new
         (term_at derivation.old.table origin.for_self) words.entry.from.now words.entry.to.now) }
-    ensures grows { AddsLines derivation.old derivation.new }
-    ensures derives { OnOk result
-        ((b : Assumptions) (u v : Term) → HasNumber origin.number
-        (written_by b origin.owner) (Equals u v)
-        → term_at derivation.old.table ids.0 ≡ placed origin.owner
-        (term_at derivation.old.table origin.for_self) u
-        → term_at derivation.old.table ids.1 ≡ placed origin.owner
-        (term_at derivation.old.table origin.for_self) v
-        → StaysDerived b derivation.old derivation.new) }
+    ensures continues { ContinuesFrom (λ b. (u : Term) × (v : Term)
+        × HasNumber origin.number (written_by b origin.owner) (Equals u v)
+        × (term_at derivation.old.table ids.0
+        ≡ placed origin.owner (term_at derivation.old.table origin.for_self) u)
+        × (term_at derivation.old.table ids.1
+        ≡ placed origin.owner (term_at derivation.old.table origin.for_self) v))
+        derivation.old derivation.new }
 {
     put_same(derivation, origin, ids)?;
     let first = read_word(alphabet, derivation, origin.for_self, words.from)?;

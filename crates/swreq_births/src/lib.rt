@@ -2,7 +2,7 @@
 //! read alike after a type parameter.
 //!
 //! A call fails only if memory runs out. Whatever it answers, what was stated is still stated, and the table begins with the old one.
-#![tactic(auto, using(crate::proofs::Alike::grown_by_none))]
+#![tactic(auto)]
 
 mod giving;
 mod history;

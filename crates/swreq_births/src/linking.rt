@@ -2,9 +2,9 @@
 ghost use Rattle.std.specs.Prelude.{OnOk};
 ghost use Rattle.swreq_param.specs.Tables.{IsOf, term_at};
 ghost use Rattle.swreq_complete.specs.Alike.{ReduceAlike};
-ghost use Rattle.swreq_derivation.specs.UnderWay.{AddsLines, IsUnderWay};
+ghost use Rattle.swreq_derivation.specs.UnderWay.{ContinuesFrom};
 ghost use Rattle.swreq_readings.specs.Readable.{AllowsWord, AreReadEqual};
-ghost use Rattle.swreq_births.specs.Systems.{HasSystem, IsStillDerivedBy, rules_at};
+ghost use Rattle.swreq_births.specs.Systems.{FitsHistory, HasSystem, rules_at};
 
 use crate::history::{History, all_of, all_rules};
 use crate::types::path_between;
@@ -25,7 +25,6 @@ pub fn link(
     to: &[Symbol],
 ) -> Result<(), AllocError>
     requires system { HasSystem history.now system }
-    requires derivation { IsUnderWay derivation.old }
     requires subject { IsOf derivation.old.table subject }
     requires word { AllowsWord history.now.alphabet derivation.old
         (term_at derivation.old.table subject) from.now }
@@ -33,11 +32,10 @@ pub fn link(
     ensures both { OnOk result
         (AreReadEqual history.now.alphabet derivation.new
         (term_at derivation.old.table subject) from.now to.now) }
-    ensures grows { AddsLines derivation.old derivation.new }
-    ensures derives { OnOk result (IsStillDerivedBy history.now derivation.old derivation.new) }
+    ensures continues { ContinuesFrom (FitsHistory history.now) derivation.old derivation.new }
 {
     let rules = all_rules(history, system);
-    match path_between(derivation.alloc, rules, from, to)? {
+    match path_between(derivation.alloc(), rules, from, to)? {
         None => unreachable!(),
         Some(path) => {
             walk_along(history, derivation, all_of(system, rules), subject, &path)?;

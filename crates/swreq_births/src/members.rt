@@ -1,14 +1,14 @@
 //! Conformances of members that one written requirement of a protocol gives, without rules.
-ghost use Rattle.std.specs.Prelude.{◌≡◌, ◌<◌, ℕ, false, IfOk, IfSome, IsTrue, None, OnOk, length};
+ghost use Rattle.std.specs.Prelude.{◌≡◌, ◌<◌, false, IfOk, IfSome, IsTrue, None, length};
 ghost use Rattle.swreq_param.specs.Tables.{IsOf, term_at};
 ghost use Rattle.swreq_param.specs.Terms.{self};
 ghost use Rattle.swreq_param.specs.Terms.Term.{Member};
 ghost use Rattle.swreq_derive.specs.Derivation.TermRequirement.{Conforms};
 ghost use Rattle.swreq_derive.specs.Derivation.TermStatement.{Requires};
-ghost use Rattle.swreq_derivation.specs.UnderWay.{AddsLines, IsUnderWay, States};
+ghost use Rattle.swreq_derivation.specs.UnderWay.{ContinuesFrom, States};
 ghost use Rattle.swreq_readings.specs.Readable.{IsGiven};
 ghost use Rattle.swreq_births.specs.Members.{AreWritten, IsMemberRequirement, IsWrittenOfMember};
-ghost use Rattle.swreq_births.specs.Systems.{IsStillDerivedBy, requirement_by};
+ghost use Rattle.swreq_births.specs.Systems.{FitsHistory, requirement_by};
 
 use crate::history::{Equation, History, OwnedRequirement, Reason, system_at};
 use std::alloc::AllocError;
@@ -80,7 +80,6 @@ fn requirement_of_member(
     member: Step,
     protocol: ProtoId,
 ) -> Option<Written>
-    requires derivation { IsUnderWay derivation.now }
     requires base { IsOf derivation.now.table base }
     ensures says { IfSome result
         (λ w. States derivation.now
@@ -106,15 +105,13 @@ pub fn conform_by_member(
     t: TermId,
     protocol: ProtoId,
 ) -> Result<bool, AllocError>
-    requires derivation { IsUnderWay derivation.old }
     requires t { IsOf derivation.old.table t }
     ensures says { IfOk result (λ done. IsTrue done
         → States derivation.new (Requires (Conforms (term_at derivation.old.table t) protocol))) }
     ensures unchanged { IfOk result (λ done. done ≡ false → derivation.new ≡ derivation.old) }
-    ensures grows { AddsLines derivation.old derivation.new }
-    ensures derives { OnOk result (IsStillDerivedBy history.now derivation.old derivation.new) }
+    ensures continues { ContinuesFrom (FitsHistory history.now) derivation.old derivation.new }
 {
-    let Some((base, member)) = derivation.table.split(t) else {
+    let Some((base, member)) = derivation.table().split(t) else {
         return Ok(false);
     };
     match requirement_of_member(history, derivation, base, member, protocol) {
@@ -141,14 +138,12 @@ fn written_step(
     step: Step,
     k: usize,
 ) -> Result<Option<Named>, AllocError>
-    requires derivation { IsUnderWay derivation.old }
     requires t { IsOf derivation.old.table t }
     requires k { k < length history.now.alphabet.associated }
     ensures given { IfOk result (λ o. IfSome o
         (IsGiven history.now.alphabet derivation.new (term_at derivation.old.table t) step)) }
     ensures unchanged { IfOk result (λ o. o ≡ None → derivation.new ≡ derivation.old) }
-    ensures grows { AddsLines derivation.old derivation.new }
-    ensures derives { OnOk result (IsStillDerivedBy history.now derivation.old derivation.new) }
+    ensures continues { ContinuesFrom (FitsHistory history.now) derivation.old derivation.new }
 {
     let named = declared_at(&history.alphabet, k);
     if is_of_step(step, k, named) && conform_by_member(history, derivation, t, named.proto)? {
@@ -166,12 +161,10 @@ pub(crate) fn known_step(
     t: TermId,
     step: Step,
 ) -> Result<Option<Named>, AllocError>
-    requires derivation { IsUnderWay derivation.old }
     requires t { IsOf derivation.old.table t }
     ensures given { IfOk result (λ o. IfSome o
         (IsGiven history.now.alphabet derivation.new (term_at derivation.old.table t) step)) }
-    ensures grows { AddsLines derivation.old derivation.new }
-    ensures derives { OnOk result (IsStillDerivedBy history.now derivation.old derivation.new) }
+    ensures continues { ContinuesFrom (FitsHistory history.now) derivation.old derivation.new }
 {
     if let Some(named) = given_step(&history.alphabet, derivation, t, step) {
         return Ok(Some(named));

@@ -3,8 +3,8 @@ ghost use Rattle.std.specs.Prelude.{◌≡◌, ◌++◌, IfOk, OnOk};
 ghost use Rattle.swreq_param.specs.Tables.{IsOf, term_at};
 ghost use Rattle.swreq_rule.specs.Oriented.{IsOriented};
 ghost use Rattle.swreq_pair.specs.Pairs.{HasPair, IsPair};
-ghost use Rattle.swreq_derivation.specs.UnderWay.{AddsLines, IsStillDerived, IsUnderWay};
-ghost use Rattle.swreq_readings.specs.Alphabets.{IsStillDerivedOver};
+ghost use Rattle.swreq_derivation.specs.UnderWay.{Continues, ContinuesFrom};
+ghost use Rattle.swreq_readings.specs.Alphabets.{FitsAssumptions};
 ghost use Rattle.swreq_readings.specs.Readable.{AreReadEqual, read_word};
 ghost use Rattle.swreq_births.specs.Readings.{AreReadEqualAfter, AreReadEqualToEnds};
 
@@ -41,7 +41,6 @@ fn join_at(
     from: &[Symbol],
     to: &[Symbol],
 ) -> Result<(), AllocError>
-    requires derivation { IsUnderWay derivation.old }
     requires subject { IsOf derivation.old.table subject }
     requires first { AreReadEqual alphabet.now derivation.old
         (term_at derivation.old.table subject) via.now from.now }
@@ -50,8 +49,7 @@ fn join_at(
     ensures both { OnOk result
         (AreReadEqual alphabet.now derivation.new
         (term_at derivation.old.table subject) from.now to.now) }
-    ensures grows { AddsLines derivation.old derivation.new }
-    ensures derives { OnOk result (IsStillDerived derivation.old derivation.new) }
+    ensures continues { Continues derivation.old derivation.new }
 {
     turn(alphabet, derivation, subject, via, from)?;
     join(alphabet, derivation, subject, from, via, to)?;
@@ -68,7 +66,6 @@ pub(crate) fn read_inside(
     around: Around,
     sides: Sides,
 ) -> Result<(), AllocError>
-    requires derivation { IsUnderWay derivation.old }
     requires subject { IsOf derivation.old.table subject }
     requires first { AreReadEqual alphabet.now derivation.old (term_at derivation.old.table subject)
         (around.before.now ++ (sides.from.now ++ around.after.now)) reduct.now }
@@ -79,8 +76,8 @@ pub(crate) fn read_inside(
         (term_at derivation.old.table subject)
         reduct.now
         (around.entry.before.now ++ (sides.entry.to.now ++ around.entry.after.now))) }
-    ensures grows { AddsLines derivation.old derivation.new }
-    ensures derives { OnOk result (IsStillDerivedOver alphabet.now derivation.old derivation.new) }
+    ensures continues { ContinuesFrom (FitsAssumptions alphabet.now) derivation.old
+        derivation.new }
 {
     replace(
         alphabet,
@@ -90,10 +87,10 @@ pub(crate) fn read_inside(
         sides,
         around.after,
     )?;
-    let from = joined(derivation.alloc, sides.from, around.after)?;
-    let to = joined(derivation.alloc, sides.to, around.after)?;
-    let w = joined(derivation.alloc, around.before, &from)?;
-    let v = joined(derivation.alloc, around.before, &to)?;
+    let from = joined(derivation.alloc(), sides.from, around.after)?;
+    let to = joined(derivation.alloc(), sides.to, around.after)?;
+    let w = joined(derivation.alloc(), around.before, &from)?;
+    let v = joined(derivation.alloc(), around.before, &to)?;
     join_at(alphabet, derivation, subject, &w, reduct, &v)?;
     Ok(())
 }
@@ -108,7 +105,6 @@ pub(crate) fn close(
     ends: Sides,
     rule: &Rule,
 ) -> Result<(), AllocError>
-    requires derivation { IsUnderWay derivation.old }
     requires subject { IsOf derivation.old.table subject }
     requires words { AreReadEqual alphabet.now derivation.old
         (term_at derivation.old.table subject) words.from.now words.to.now }
@@ -118,8 +114,7 @@ pub(crate) fn close(
     ensures both { OnOk result
         (AreReadEqual alphabet.now derivation.new
         (term_at derivation.old.table subject) rule.now.left rule.now.right) }
-    ensures grows { AddsLines derivation.old derivation.new }
-    ensures derives { OnOk result (IsStillDerived derivation.old derivation.new) }
+    ensures continues { Continues derivation.old derivation.new }
 {
     join_at(
         alphabet, derivation, subject, words.from, ends.from, words.to,
@@ -139,7 +134,6 @@ pub(crate) fn read_across(
     second: Sides,
     around: Around,
 ) -> Result<(), AllocError>
-    requires derivation { IsUnderWay derivation.old }
     requires subject { IsOf derivation.old.table subject }
     requires first { AreReadEqual alphabet.now derivation.old
         (term_at derivation.old.table subject) first.from.now first.to.now }
@@ -150,8 +144,8 @@ pub(crate) fn read_across(
         (term_at derivation.old.table subject)
         (first.entry.to.now ++ around.entry.after.now)
         (around.entry.before.now ++ second.entry.to.now)) }
-    ensures grows { AddsLines derivation.old derivation.new }
-    ensures derives { OnOk result (IsStillDerivedOver alphabet.now derivation.old derivation.new) }
+    ensures continues { ContinuesFrom (FitsAssumptions alphabet.now) derivation.old
+        derivation.new }
 {
     put_side(
         alphabet,
@@ -161,9 +155,9 @@ pub(crate) fn read_across(
         first.to,
         around.after,
     )?;
-    let w = joined(derivation.alloc, first.from, around.after)?;
-    let u = joined(derivation.alloc, first.to, around.after)?;
-    let v = joined(derivation.alloc, around.before, second.to)?;
+    let w = joined(derivation.alloc(), first.from, around.after)?;
+    let u = joined(derivation.alloc(), first.to, around.after)?;
+    let v = joined(derivation.alloc(), around.before, second.to)?;
     replace(alphabet, derivation, subject, around.before, second, &[])?;
     join_at(alphabet, derivation, subject, &w, &u, &v)?;
     Ok(())

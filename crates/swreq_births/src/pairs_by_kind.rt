@@ -3,8 +3,8 @@ ghost use Rattle.std.specs.Prelude.{◌≡◌, ◌⊎◌, ◌≤◌, OnOk, List,
 ghost use Rattle.swreq_param.specs.Tables.{IsOf, term_at};
 ghost use Rattle.swreq_word.specs.declared.symbols.Symbol.{Symbol as SymbolView};
 ghost use Rattle.swreq_pair.specs.Pairs.{ContainmentPair, OverlapPair};
-ghost use Rattle.swreq_derivation.specs.UnderWay.{AddsLines, IsUnderWay};
-ghost use Rattle.swreq_readings.specs.Alphabets.{IsStillDerivedOver};
+ghost use Rattle.swreq_derivation.specs.UnderWay.{ContinuesFrom};
+ghost use Rattle.swreq_readings.specs.Alphabets.{FitsAssumptions};
 ghost use Rattle.swreq_readings.specs.Readable.{AreReadEqual, read_word};
 
 use crate::pairs::{Around, read_across, read_inside};
@@ -40,7 +40,6 @@ pub(crate) fn read_overlap(
     second: &Rule,
     at: usize,
 ) -> Result<(), AllocError>
-    requires derivation { IsUnderWay derivation.old }
     requires subject { IsOf derivation.old.table subject }
     requires pair { (left : List SymbolView) × (right : List SymbolView)
         × OverlapPair first.now second.now at left right }
@@ -53,8 +52,8 @@ pub(crate) fn read_overlap(
         ((left right : List SymbolView) → OverlapPair first.now second.now at left right
         → AreReadEqual alphabet.now derivation.new
         (term_at derivation.old.table subject) left right) }
-    ensures grows { AddsLines derivation.old derivation.new }
-    ensures derives { OnOk result (IsStillDerivedOver alphabet.now derivation.old derivation.new) }
+    ensures continues { ContinuesFrom (FitsAssumptions alphabet.now) derivation.old
+        derivation.new }
 {
     let left = first.left.symbols();
     let common = left.len() - at;
@@ -87,7 +86,6 @@ pub(crate) fn read_containment(
     second: &Rule,
     at: usize,
 ) -> Result<(), AllocError>
-    requires derivation { IsUnderWay derivation.old }
     requires subject { IsOf derivation.old.table subject }
     requires pair { (left : List SymbolView) × (right : List SymbolView)
         × ContainmentPair first.now second.now at left right }
@@ -100,8 +98,8 @@ pub(crate) fn read_containment(
         ((left right : List SymbolView) → ContainmentPair first.now second.now at left right
         → AreReadEqual alphabet.now derivation.new
         (term_at derivation.old.table subject) left right) }
-    ensures grows { AddsLines derivation.old derivation.new }
-    ensures derives { OnOk result (IsStillDerivedOver alphabet.now derivation.old derivation.new) }
+    ensures continues { ContinuesFrom (FitsAssumptions alphabet.now) derivation.old
+        derivation.new }
 {
     let left = first.left.symbols();
     let end = at + second.left.symbols().len();
@@ -131,7 +129,6 @@ pub(crate) fn read_pair(
     second: &Rule,
     at: usize,
 ) -> Result<(), AllocError>
-    requires derivation { IsUnderWay derivation.old }
     requires subject { IsOf derivation.old.table subject }
     requires pair { ((left : List SymbolView) × (right : List SymbolView)
         × OverlapPair first.now second.now at left right)
@@ -150,8 +147,8 @@ pub(crate) fn read_pair(
         ((left right : List SymbolView) → ContainmentPair first.now second.now at left right
         → AreReadEqual alphabet.now derivation.new
         (term_at derivation.old.table subject) left right) }
-    ensures grows { AddsLines derivation.old derivation.new }
-    ensures derives { OnOk result (IsStillDerivedOver alphabet.now derivation.old derivation.new) }
+    ensures continues { ContinuesFrom (FitsAssumptions alphabet.now) derivation.old
+        derivation.new }
 {
     let rest = first.left.symbols().len() - at;
     if second.left.symbols().len() <= rest {

@@ -1,11 +1,10 @@
 //! Steps by a rule whose two sides are read alike.
-ghost use Rattle.std.specs.Prelude.{◌≡◌, ◌-◌, ◌<◌, ◌≤◌, OnOk, List, ◌++◌, Some, length, slice_get};
+ghost use Rattle.std.specs.Prelude.{◌≡◌, ◌-◌, ◌<◌, ◌≤◌, OnOk, ◌++◌, Some, length, slice_get};
 ghost use Rattle.swreq_param.specs.Tables.{IsOf, term_at};
-ghost use Rattle.swreq_word.specs.declared.symbols.Symbol.{Symbol as SymbolView};
 ghost use Rattle.swreq_rule.specs.Steps.{RuleAt};
-ghost use Rattle.swreq_path.specs.Paths.{put_side, replaced_side, StepLeads};
-ghost use Rattle.swreq_derivation.specs.UnderWay.{AddsLines, IsUnderWay};
-ghost use Rattle.swreq_readings.specs.Alphabets.{IsStillDerivedOver};
+ghost use Rattle.swreq_path.specs.Paths.{put_side, replaced_side};
+ghost use Rattle.swreq_derivation.specs.UnderWay.{ContinuesFrom};
+ghost use Rattle.swreq_readings.specs.Alphabets.{FitsAssumptions};
 ghost use Rattle.swreq_readings.specs.Readable.{AllowsWord, AreReadEqual, read_word};
 
 use crate::history::RulePlace;
@@ -53,7 +52,6 @@ pub(crate) fn take_step(
     rule: &Rule,
     step: &RewriteStep,
 ) -> Result<(), AllocError>
-    requires derivation { IsUnderWay derivation.old }
     requires subject { IsOf derivation.old.table subject }
     requires both { AreReadEqual alphabet.now derivation.old
         (read_word alphabet.now (term_at derivation.old.table subject) step.now.before)
@@ -64,8 +62,8 @@ pub(crate) fn take_step(
         (term_at derivation.old.table subject)
         (step.now.before ++ (replaced_side step.now.forward rule.now ++ step.now.after))
         (step.now.before ++ (put_side step.now.forward rule.now ++ step.now.after))) }
-    ensures grows { AddsLines derivation.old derivation.new }
-    ensures derives { OnOk result (IsStillDerivedOver alphabet.now derivation.old derivation.new) }
+    ensures continues { ContinuesFrom (FitsAssumptions alphabet.now) derivation.old
+        derivation.new }
 {
     let left = rule.left.symbols();
     let right = rule.right.symbols();

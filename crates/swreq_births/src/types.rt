@@ -1,16 +1,16 @@
 //! The steps of type parameters, if rules show them.
-ghost use Rattle.std.specs.Prelude.{◌≡◌, ◌++◌, ◌<◌, ◌-◌, ◌^◌, [], ◌∷◌, IfOk, IfSome, MatchOption, OnOk, Some, length, slice_get};
+ghost use Rattle.std.specs.Prelude.{◌≡◌, ◌++◌, ◌<◌, ◌-◌, ◌^◌, [], ◌∷◌, IfOk, IfSome, MatchOption, Some, length, slice_get};
 ghost use Rattle.swreq_param.specs.Tables.{IsOf, term_at};
 ghost use Rattle.swreq_param.specs.Terms.Term.{Generic};
 ghost use Rattle.swreq_word.specs.declared.symbols.Symbol.TheVariants.{Proto};
 ghost use Rattle.swreq_path.specs.Paths.{HasTarget};
 ghost use Rattle.swreq_complete.specs.Alike.{ReduceAlike};
-ghost use Rattle.swreq_derivation.specs.UnderWay.{AddsLines, IsStillDerived, IsUnderWay};
+ghost use Rattle.swreq_derivation.specs.UnderWay.{Continues};
 ghost use Rattle.swreq_readings.specs.declared.alphabet.Named.{Named as NamedView};
 ghost use Rattle.swreq_births.specs.Types.{HasPath, IsShownAt, IsStepShown, placed};
 
 use std::alloc::{AllocError, Global};
-use swreq_derivation::{Derivation, param};
+use swreq_derivation::Derivation;
 use swreq_param::{ParamId, ProtoId, Step, TermId, TypeParam};
 use swreq_path::{Path, compose, invert, path_of};
 use swreq_readings::{Alphabet, Named, declared_at, is_of_step};
@@ -48,18 +48,16 @@ pub(crate) fn start(
     scope: ReadingPlace,
     head: ParamId,
 ) -> Result<TermId, AllocError>
-    requires derivation { IsUnderWay derivation.old }
     requires for_self { IsOf derivation.old.table scope.for_self }
     ensures is_of { IfOk result (IsOf derivation.new.table) }
     ensures stands { IfOk result (λ u. term_at derivation.new.table u
         ≡ placed scope.owner (term_at derivation.old.table scope.for_self) (Generic head)) }
-    ensures grows { AddsLines derivation.old derivation.new }
-    ensures derives { OnOk result (IsStillDerived derivation.old derivation.new) }
+    ensures continues { Continues derivation.old derivation.new }
 {
     match scope.owner {
         Some(_) => Ok(scope.for_self),
         None => {
-            let id = param(derivation, head)?;
+            let id = derivation.param(head)?;
             Ok(id)
         }
     }

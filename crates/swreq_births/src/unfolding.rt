@@ -5,10 +5,10 @@ ghost use Rattle.swreq_param.specs.Tables.{IsOf, term_at};
 ghost use Rattle.swreq_derive.specs.Instances.{HasNumber};
 ghost use Rattle.swreq_word.specs.declared.symbols.Symbol.{Symbol as SymbolView};
 ghost use Rattle.swreq_rule.specs.declared.rules.Birth.TheVariants as births;
-ghost use Rattle.swreq_derivation.specs.UnderWay.{AddsLines, AreStatedEqual, Assumptions, IsUnderWay, StaysDerived};
+ghost use Rattle.swreq_derivation.specs.UnderWay.{AreStatedEqual, ContinuesFrom};
 ghost use Rattle.swreq_readings.specs.Readable.{AllowsWord, AreReadEqual, IsGiven, read_word};
 ghost use Rattle.swreq_births.specs.Heads.{ConformsIfAny};
-ghost use Rattle.swreq_births.specs.Systems.{FitsHistory, HasRule, HasRules, HasShownSides, HasSystem, IsBornAt, IsShown, IsStillDerivedBy, ReducesTo, requirement_by, rules_at};
+ghost use Rattle.swreq_births.specs.Systems.{FitsHistory, HasRule, HasRules, HasShownSides, HasSystem, IsBornAt, IsShown, ReducesTo, requirement_by, rules_at};
 ghost use Rattle.swreq_births.specs.Types.{IsStepShown, placed, written_by};
 ghost use Rattle.swreq_births.specs.Unfolding.{AllowsEquation, AllowsRule, AllowsScope, IsSaid, LeadsTo};
 
@@ -41,7 +41,6 @@ pub(crate) fn walk_along(
     path: &Path,
 ) -> Result<Word, AllocError>
     requires rules { HasRules history.now at }
-    requires derivation { IsUnderWay derivation.old }
     requires subject { IsOf derivation.old.table subject }
     requires path { (b : List SymbolView) × LeadsTo history.now at path.now b }
     requires word { AllowsWord history.now.alphabet derivation.old
@@ -49,8 +48,7 @@ pub(crate) fn walk_along(
     ensures target { IfOk result (λ w. LeadsTo history.now at path.now w) }
     ensures both { IfOk result (λ w. AreReadEqual history.now.alphabet derivation.new
         (term_at derivation.old.table subject) path.now.start w) }
-    ensures grows { AddsLines derivation.old derivation.new }
-    ensures derives { OnOk result (IsStillDerivedBy history.now derivation.old derivation.new) }
+    ensures continues { ContinuesFrom (FitsHistory history.now) derivation.old derivation.new }
 {
     let alphabet = &history.alphabet;
     let rules = rules_before(history, at);
@@ -61,7 +59,7 @@ pub(crate) fn walk_along(
         let v = read_word(alphabet, derivation, subject, step.before.symbols())?;
         lines_of_rule(history, derivation, before(at, step.rule), rule, v)?;
         take_step(alphabet, derivation, subject, rule, step)?;
-        let next = step.target(derivation.alloc, rules)?;
+        let next = step.target(derivation.alloc(), rules)?;
         join(
             alphabet,
             derivation,
@@ -86,20 +84,18 @@ fn settle(
     words: Sides,
 ) -> Result<(), AllocError>
     requires rule { HasRule history.now at rule.now }
-    requires derivation { IsUnderWay derivation.old }
     requires subject { IsOf derivation.old.table subject }
     requires both { AreReadEqual history.now.alphabet derivation.old
         (term_at derivation.old.table subject) words.from.now words.to.now }
     requires reduces { ReducesTo (rules_at history.now at.system) at.rule
         words.from.now words.to.now rule.now }
     ensures both { OnOk result (IsSaid history.now derivation.old derivation.new subject rule.now) }
-    ensures grows { AddsLines derivation.old derivation.new }
-    ensures derives { OnOk result (IsStillDerivedBy history.now derivation.old derivation.new) }
+    ensures continues { ContinuesFrom (FitsHistory history.now) derivation.old derivation.new }
 {
     let rules = rules_before(history, at);
-    let forth = path_of(derivation.alloc, rules, words.from)?;
+    let forth = path_of(derivation.alloc(), rules, words.from)?;
     let first = walk_along(history, derivation, at, subject, &forth)?;
-    let back = path_of(derivation.alloc, rules, words.to)?;
+    let back = path_of(derivation.alloc(), rules, words.to)?;
     let last = walk_along(history, derivation, at, subject, &back)?;
     let ends = Sides {
         from: first.symbols(),
@@ -121,8 +117,7 @@ pub fn lines_of_rule(
 ) -> Result<(), AllocError>
     requires { AllowsRule history.now derivation.old at rule.now subject }
     ensures both { OnOk result (IsSaid history.now derivation.old derivation.new subject rule.now) }
-    ensures grows { AddsLines derivation.old derivation.new }
-    ensures derives { OnOk result (IsStillDerivedBy history.now derivation.old derivation.new) }
+    ensures continues { ContinuesFrom (FitsHistory history.now) derivation.old derivation.new }
 {
     let system = system_at(history, at.system);
     if at.rule < system.base {
@@ -167,8 +162,7 @@ fn from_pair(
     requires asked { AllowsRule history.now derivation.old at rule.now subject }
     requires born { IsBornAt history.now at rule.now (births.Pair place.i place.j place.at) }
     ensures both { OnOk result (IsSaid history.now derivation.old derivation.new subject rule.now) }
-    ensures grows { AddsLines derivation.old derivation.new }
-    ensures derives { OnOk result (IsStillDerivedBy history.now derivation.old derivation.new) }
+    ensures continues { ContinuesFrom (FitsHistory history.now) derivation.old derivation.new }
 {
     let alphabet = &history.alphabet;
     let rules = all_rules(history, at.system);
@@ -179,7 +173,7 @@ fn from_pair(
     let v = read_word(alphabet, derivation, subject, part)?;
     lines_of_rule(history, derivation, before(at, place.j), second, v)?;
     read_pair(alphabet, derivation, subject, first, second, place.at)?;
-    let (left, right) = pair_sides(derivation.alloc, rules, place)?;
+    let (left, right) = pair_sides(derivation.alloc(), rules, place)?;
     let words = Sides {
         from: &left,
         to: &right,
@@ -200,8 +194,7 @@ fn give_equation(
     requires { AllowsEquation history.now derivation.old system equation.now subject }
     ensures both { OnOk result (AreReadEqual history.now.alphabet derivation.new
         (term_at derivation.old.table subject) equation.now.left equation.now.right) }
-    ensures grows { AddsLines derivation.old derivation.new }
-    ensures derives { OnOk result (IsStillDerivedBy history.now derivation.old derivation.new) }
+    ensures continues { ContinuesFrom (FitsHistory history.now) derivation.old derivation.new }
 {
     match &equation.reason {
         Reason::Doubled { .. } => Ok(()),
@@ -221,8 +214,7 @@ fn give_equation(
                 for_self: subject,
             };
             let words = sides_of(equation);
-            give_required(history, derivation, scope, *number, requirement, words)?;
-            Ok(())
+            give_required(history, derivation, scope, *number, requirement, words)
         }
     }
 }
@@ -242,10 +234,9 @@ fn give_required(
         (rules_at history.now scope.system) requirement.now words.from.now words.to.now }
     ensures both { OnOk result (AreReadEqual history.now.alphabet derivation.new
         (term_at derivation.old.table scope.for_self) words.entry.from.now words.entry.to.now) }
-    ensures grows { AddsLines derivation.old derivation.new }
-    ensures derives { OnOk result ((b : Assumptions) → FitsHistory history.now b
-        → HasNumber number (written_by b scope.owner) (requirement_by requirement.now)
-        → StaysDerived b derivation.old derivation.new) }
+    ensures continues { ContinuesFrom (λ b. FitsHistory history.now b
+        × HasNumber number (written_by b scope.owner) (requirement_by requirement.now))
+        derivation.old derivation.new }
 {
     let origin = Origin {
         owner: scope.owner,
@@ -255,19 +246,16 @@ fn give_required(
     match requirement {
         OwnedRequirement::Conf { subject, proto } => {
             let u = read_type(history, derivation, scope, subject, words.to)?;
-            give_conf(&history.alphabet, derivation, origin, u, *proto, words.to)?;
-            Ok(())
+            give_conf(&history.alphabet, derivation, origin, u, *proto, words.to)
         }
         OwnedRequirement::Layout { subject } => {
             let u = read_type(history, derivation, scope, subject, words.to)?;
-            give_layout(&history.alphabet, derivation, origin, u, words.to)?;
-            Ok(())
+            give_layout(&history.alphabet, derivation, origin, u, words.to)
         }
         OwnedRequirement::Same { left, right } => {
             let u = read_type(history, derivation, scope, left, words.from)?;
             let v = read_type(history, derivation, scope, right, words.to)?;
-            give_same(&history.alphabet, derivation, origin, (u, v), words)?;
-            Ok(())
+            give_same(&history.alphabet, derivation, origin, (u, v), words)
         }
     }
 }
@@ -284,7 +272,6 @@ pub fn read_type(
     word: &[Symbol],
 ) -> Result<TermId, AllocError>
     requires system { HasSystem history.now scope.system }
-    requires derivation { IsUnderWay derivation.old }
     requires for_self { IsOf derivation.old.table scope.for_self }
     requires owner { ConformsIfAny derivation.old
         (term_at derivation.old.table scope.for_self) scope.owner }
@@ -298,8 +285,7 @@ pub fn read_type(
     ensures equal { OnOk result (AreStatedEqual derivation.new
         (placed scope.owner (term_at derivation.old.table scope.for_self) (as_term param.now))
         (read_word history.now.alphabet (term_at derivation.old.table scope.for_self) word.now)) }
-    ensures grows { AddsLines derivation.old derivation.new }
-    ensures derives { OnOk result (IsStillDerivedBy history.now derivation.old derivation.new) }
+    ensures continues { ContinuesFrom (FitsHistory history.now) derivation.old derivation.new }
 {
     let mut at = start(derivation, scope, param.head)?;
     for k in 0..param.steps.items().len() {
@@ -323,7 +309,6 @@ pub fn declare(
     step: Step,
 ) -> Result<Named, AllocError>
     requires system { HasSystem history.now scope.system }
-    requires derivation { IsUnderWay derivation.old }
     requires for_self { IsOf derivation.old.table scope.for_self }
     requires word { AllowsWord history.now.alphabet derivation.old
         (term_at derivation.old.table scope.for_self) word.now }
@@ -332,15 +317,14 @@ pub fn declare(
     ensures given { IfOk result (IsGiven history.now.alphabet derivation.new
         (read_word history.now.alphabet
         (term_at derivation.old.table scope.for_self) word.now) step) }
-    ensures grows { AddsLines derivation.old derivation.new }
-    ensures derives { OnOk result (IsStillDerivedBy history.now derivation.old derivation.new) }
+    ensures continues { ContinuesFrom (FitsHistory history.now) derivation.old derivation.new }
 {
     let last = read_word(&history.alphabet, derivation, scope.for_self, word)?;
     match known_step(history, derivation, last, step)? {
         Some(named) => Ok(named),
         None => {
             let rules = all_rules(history, scope.system);
-            let shown = shown_step(derivation.alloc, &history.alphabet, rules, word, step)?;
+            let shown = shown_step(derivation.alloc(), &history.alphabet, rules, word, step)?;
             let at = all_of(scope.system, rules);
             walk_along(history, derivation, at, scope.for_self, &shown.path)?;
             Ok(shown.named)

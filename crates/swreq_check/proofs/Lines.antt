@@ -1,10 +1,9 @@
 -- Lines, and the lines of queries.
-use Rattle.std.proofs.Common.{◌≡◌, ◌∙◌, refl, sym, ap, subst, ℕ, ◌+◌, ◌<◌, ◌≤◌, true, List, [], ◌∷◌, ◌++◌, take, get_or, length, append-nil, Contains}
+use Rattle.std.proofs.Common.{◌≡◌, ◌∙◌, refl, sym, ap, subst, ℕ, ◌+◌, ◌<◌, ◌≤◌, true, List, [], ◌∷◌, ◌++◌, take, get_or, length, append-nil, Contains, Option, Some}
 use Rattle.std.specs.List.{concat}
 use Rattle.std.proofs.lemmas.List.{take_all, take_more}
 use Rattle.std.proofs.lemmas.List.Folds.{concat-append}
-use Rattle.std.proofs.lemmas.Option.{none-some}
-use Rattle.swreq_derive.specs.Derivation.{Derivable}
+use Rattle.swreq_derive.specs.Derivation.{Derivable, Source}
 use Rattle.swreq_derive.specs.Derivation.Source.{Written}
 use Rattle.swreq_derive.specs.Facts.{generic_params}
 use Rattle.swreq_derive.specs.declared.known.Params.{Params}
@@ -13,20 +12,23 @@ use Rattle.swreq_print.specs.Names.{Text}
 use Rattle.swreq_param.specs.Terms.{Term}
 use Rattle.swreq_lowering.specs.declared.ids.FuncId.{FuncId}
 use Rattle.swreq_lowering.specs.Queries.{TermQuery}
-use Rattle.swreq_lowering.specs.Queries.TermQuery.{AsksSignature, AsksReduced}
+use Rattle.swreq_lowering.specs.Queries.TermQuery.{AsksSignature}
 use Rattle.swreq_world.specs.Closed.{IsQueryOf}
 use Rattle.swreq_world.specs.Worlds.{TextWorld, signature_at}
 use Rattle.swreq_symbols.specs.Meaning.{facts_of}
-use Rattle.swreq_machine.specs.Asked.{IsDerivable}
 use Rattle.swreq_machine.specs.Machines.{MachineView}
-use Rattle.swreq_query.specs.Answers.{Answer, IsAnswer, asked}
+use Rattle.swreq_query.specs.Answers.{Answer}
 use Rattle.swreq_query.specs.Answers.Answer.{Yes}
+use Rattle.swreq_query.specs.Asked.{IsOfTypes}
+use Rattle.swreq_query.specs.declared.verdict.Verdict.{Verdict}
+use Rattle.swreq_query.specs.declared.verdict.Verdict.TheVariants as verdicts
+use Rattle.swreq_query.proofs.OneAnswer.{one_answer}
 use Rattle.swreq_world.specs.FactsAt.{source_of, written_list}
 use Rattle.swreq_check.specs.Lines.{AreLines, AreLinesIn}
 use Rattle.swreq_check.specs.Lines.AreLines.{none, more}
 use Rattle.swreq_check.specs.declared.content.Backing.{Backing}
 use Rattle.swreq_check.specs.declared.setting.Setting.{Setting}
-use Rattle.swreq_check.specs.QueryLines.{Backs, HasAnswer, signature_of}
+use Rattle.swreq_check.specs.QueryLines.{AnswersByTypes, Backs, BacksYes, HasAnswer, HasVerdict, IsLineOf, signature_of}
 use Rattle.swreq_check.specs.Settings.{IsMachineFor, world_in}
 
 -- ---- lines after lines
@@ -60,22 +62,35 @@ lines_by P Q by (more {x} {xs} {line} is rest) =
 
 -- ---- one piece
 
--- a query has the answer that the machine of its signature gives
-pub answered_by : (terms : List Term) (s : Setting) (f : FuncId) (m : MachineView) → IsMachineFor terms s f m → (q : TermQuery) (a : Answer)
-    → signature_of q ≡ f → IsAnswer (IsDerivable (world_in terms s) m (written_list (signature_at (world_in terms s) f))) q a
-    → HasAnswer (world_in terms s) true a q
-answered_by terms s f m is q a asks has =
+-- what holds from the list of a signature with the generic parameters of its machine holds from what a query of that signature asks
+pub by_machine : (terms : List Term) (s : Setting) (f : FuncId) (m : MachineView) → IsMachineFor terms s f m → (q : TermQuery)
+    → signature_of q ≡ f → (P : Source → Type 0)
+    → P (Written (generic_params m.params) (written_list (signature_at (world_in terms s) f)))
+    → P (source_of (signature_at (world_in terms s) (signature_of q)))
+by_machine terms s f m is q asks P holds =
     let w = world_in terms s in
-    subst (λ (g : FuncId). IsAnswer (Derivable (facts_of w) (source_of (signature_at w g))) q a) (sym asks)
-    (subst (λ (p : Params). IsAnswer (Derivable (facts_of w) (Written (generic_params p) (written_list (signature_at w f)))) q a) is.params
-    has)
+    subst (λ (g : FuncId). P (source_of (signature_at w g))) (sym asks)
+    (subst (λ (p : Params). P (Written (generic_params p) (written_list (signature_at w f)))) is.params holds)
 
--- nothing follows the answer to a query of a type
-pub none_behind : (w : TextWorld) (b : Backing) (q : TermQuery) (f : FuncId) (t : Term) (a : Answer)
-    → q ≡ AsksReduced f t → HasAnswer w true a q
-    → Backs w b q a []
-none_behind w b q f t Yes asks h = absurd (none-some h.1.0 (sym (ap asked asks) ∙ h.1.1))
-none_behind w b q f t _ asks h = refl
+-- a text that answers a query of types is its line
+pub line_by_types : (w : TextWorld) (b : Backing) (q : TermQuery) (text : Text) → IsOfTypes q → AnswersByTypes w true b q text
+    → IsLineOf w true b q text
+line_by_types w b (AsksSignature f) text types h = absurd (types f refl)
+line_by_types w b q text types h = h
+
+module _ (w : TextWorld) (b : Backing) (q : TermQuery) where
+  -- what backs a `yes` follows each answer that the query has, where it has that one
+  pub behind_yes : (text : Text) → HasAnswer w true Yes q → BacksYes w b q text
+      → (a : Answer) → HasAnswer w true a q → Backs w b q a text
+  behind_yes text is backs a has =
+      subst (λ (o : Answer). Backs w b q o text)
+      (one_answer (Derivable (facts_of w) (source_of (signature_at w (signature_of q)))) q Yes a is has) backs
+
+  -- and nothing follows it where the verdict is another, or none
+  pub behind_others : (verdict : Option Verdict) → HasVerdict w true verdict q → (verdict ≡ Some verdicts.Yes → ⊥)
+      → (a : Answer) → HasAnswer w true a q → Backs w b q a []
+  behind_others verdict is other Yes has = absurd (other ((is verdicts.Yes).0 has))
+  behind_others verdict is other _ has = refl
 
 -- ---- what a query asks
 

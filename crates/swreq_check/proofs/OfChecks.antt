@@ -90,13 +90,9 @@ module _ (limits : Limits) (plan : Plan) where
         part = inr (rules, last.due, last.ends.0, within, last.told_is);
       }
 
-  pub stops_come : (which : Which) (trace : List Rule) (told : List Event) → IsStoppedRound limits plan which trace told
-      → ComesTo limits plan told
-  stops_come which trace told h = stopped_comes which trace told h
-
   refused_comes : (f : TermFacts) (every : List Side) (refused : Refused) (told : List Event) → refused ≢ Memory
       → IsBuilt limits plan f every (Err refused) told → ComesTo limits plan told
-  refused_comes f every (Limit which trace) told real h = stops_come which trace told h
+  refused_comes f every (Limit which trace) told real h = stopped_comes which trace told h
   refused_comes f every (NotATypeParameter at) told real (rules, h, fails) = ends_come rules told h
   refused_comes f every Memory told real h = absurd (real refl)
 

@@ -2,7 +2,7 @@
 use Rattle.std.proofs.Common.{◌≡◌, ◌∙◌, sym, ap, subst, ℕ, ◌<◌, arith, List, Vec, Option, None, Some, Contains, get_or, length, slice_get, true}
 use Rattle.std.specs.declared.alloc.Global.{Global}
 use Rattle.std.proofs.lemmas.List.{get_or_default}
-use Rattle.std.proofs.lemmas.Option.{slice_get-get_or}
+use Rattle.std.proofs.lemmas.Option.{none-some, slice_get-get_or}
 use Rattle.swreq_param.specs.Tables.{Extends}
 use Rattle.swreq_param.specs.Terms.{Term}
 use Rattle.swreq_derive.specs.WellFormed.{AreProtocolsWellFormed}
@@ -11,7 +11,7 @@ use Rattle.swreq_lowering.specs.declared.ids.FuncId.{FuncId}
 use Rattle.swreq_lowering.specs.declared.ids.Query.{Query}
 use Rattle.swreq_lowering.specs.declared.ids.Query.TheVariants as queries
 use Rattle.swreq_lemmas.proofs.Elements.{get_map}
-use Rattle.swreq_print.specs.Names.{Text}
+use Rattle.swreq_query.specs.Asked.{IsOfTypes}
 use Rattle.swreq_symbols.specs.Meaning.{facts_of}
 use Rattle.swreq_symbols.proofs.Growing.{text_stays, world_stays}
 use Rattle.swreq_valid.specs.Protocols.{AreRulesOf, protocols_of}
@@ -27,9 +27,10 @@ use Rattle.swreq_explain.specs.Histories.{IsHistoryFor}
 use Rattle.swreq_explain.specs.declared.text_history.TextHistory.{TextHistory}
 use Rattle.swreq_explain.proofs.Standing.{text_history_stays}
 use Rattle.swreq_check.specs.declared.content.Made.{Made}
+use Rattle.swreq_check.specs.declared.piece.Piece.{Piece}
 use Rattle.swreq_check.specs.Made.{AreMade, IsMadeAt, IsPiece}
 use Rattle.swreq_check.specs.Contents.{AreAnswers, backing_of}
-use Rattle.swreq_check.specs.QueryLines.{IsLineOf, signature_of}
+use Rattle.swreq_check.specs.QueryLines.{IsPieceOf, signature_of}
 use Rattle.swreq_check.specs.Settings.{AreMadeIn, AreMeansFor, HasBase, IsMachineFor, IsPlaceFor, IsReady, world_in}
 use Rattle.swreq_check.specs.Wanted.{count_of, machine_asked, machine_asked_at, made_by, maker, places_of}
 
@@ -77,7 +78,7 @@ module _ (old new : List Term) (s : Setting) (more : Extends old new) (ready : I
   }
 
   -- the pieces are made in the one as in the other
-  pub made_alike : (signatures : ℕ) (pieces : List (Option Text)) → AreMadeIn new s signatures pieces ≡ AreMadeIn old s signatures pieces
+  pub made_alike : (signatures : ℕ) (pieces : List (Option Piece)) → AreMadeIn new s signatures pieces ≡ AreMadeIn old s signatures pieces
   made_alike signatures pieces =
       ap (λ (w : TextWorld). AreMade (IsPiece w s.content) (maker s.world.now s.content) (count_of s.world.now s.content) signatures pieces)
       world_on
@@ -88,6 +89,11 @@ module _ (old new : List Term) (s : Setting) (more : Extends old new) (ready : I
 pub asks_own : (terms : List Term) (q : Query) (f : FuncId) → machine_asked q ≡ Some f → signature_of (query_by terms q) ≡ f
 asks_own terms (queries.Signature g) f e = cc
 asks_own terms q f e = cc
+
+-- and it asks of types
+pub asks_types : (terms : List Term) (q : Query) (f : FuncId) → machine_asked q ≡ Some f → IsOfTypes (query_by terms q)
+asks_types terms (queries.Signature g) f e h asks = absurd (none-some f e)
+asks_types terms q f e h asks = cc
 
 -- one of the places of a signature is that of a query which asks it
 pub place_for : (terms : List Term) (s : Setting) (f : FuncId) → AreAnswers s.content → IsReady terms s
@@ -125,12 +131,12 @@ all_placed terms s f d ready l k g below by e =
 
 -- the answer to the query at a place is the piece there
 pub piece_right : (terms : List Term) (s : Setting) → AreAnswers s.content → (place : ℕ) (q : Query) → place < length s.world.now.queries
-    → q ≡ get_or s.world.now.queries place q → (piece : Text)
-    → IsLineOf (world_in terms s) true (backing_of s.content) (query_by terms q) piece
+    → q ≡ get_or s.world.now.queries place q → (piece : Piece)
+    → IsPieceOf (world_in terms s) true (backing_of s.content) (query_by terms q) piece
     → IsPiece (world_in terms s) s.content place piece
 piece_right terms s content place q below at piece is =
     let there =
     get_map (query_by terms) s.world.now.queries place q (slice_get-get_or s.world.now.queries place q below ∙ ap Some (sym at)) in
     subst (λ (a : Made). IsMadeAt (world_in terms s) a (backing_of s.content) place piece) (sym content)
     (λ t e. let same : query_by terms q ≡ t = cc (e, there) in
-    subst (λ z. IsLineOf (world_in terms s) true (backing_of s.content) z piece) same is)
+    subst (λ z. IsPieceOf (world_in terms s) true (backing_of s.content) z piece) same is)

@@ -8,6 +8,7 @@ use Rattle.swreq_param.specs.Terms.{Term}
 use Rattle.swreq_subst.specs.declared.calls.Call.{Call}
 use Rattle.swreq_subst.specs.Calls.{TermCall, call_by}
 use Rattle.swreq_subst.specs.Lines.{IsLineOf}
+use Rattle.swreq_check.specs.declared.piece.Piece.{Piece}
 use Rattle.swreq_check.specs.Lines.{AreLinesIn}
 use Rattle.swreq_check.specs.Made.{AreMade}
 
@@ -25,11 +26,11 @@ caller_at calls k = option_map (λ (c : Call). c.f) (slice_get calls k)
 abbrev pub ArePlacesOf : List Call → FuncId → List ℕ → Type 0
 ArePlacesOf calls f places = (k : ℕ) → Contains places k ↔ ((k < length calls) × (caller_at calls k ≡ Some f))
 
--- It is the line of the call at this place.
-abbrev pub IsLineThere : TextWorld → List TermCall → ℕ → Text → Type 0
-IsLineThere w calls k line = (c : TermCall) → slice_get calls k ≡ Some c → IsLineOf w c line
+-- Its text is the line of the call at this place.
+abbrev pub IsLineThere : TextWorld → List TermCall → ℕ → Piece → Type 0
+IsLineThere w calls k piece = (c : TermCall) → slice_get calls k ≡ Some c → IsLineOf w c piece.text
 
 -- What stands at its place is the line of the call there, and the lines of the calls of the first `signatures` signatures are there.
-abbrev pub AreCallLines : TextWorld → List Term → List Call → ℕ → List (Option Text) → Type 0
+abbrev pub AreCallLines : TextWorld → List Term → List Call → ℕ → List (Option Piece) → Type 0
 AreCallLines w terms calls signatures lines =
     AreMade (IsLineThere w (map (call_by terms) calls)) (caller_at calls) (length calls) signatures lines

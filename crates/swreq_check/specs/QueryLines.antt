@@ -1,5 +1,5 @@
 -- The line that answers a query, and what follows a `yes`.
-use Rattle.std.specs.Prelude.{◌≡◌, ℕ, Bool, List, [], ◌++◌, Some, codes}
+use Rattle.std.specs.Prelude.{◌≡◌, ℕ, Bool, List, [], ◌++◌, Option, Some, codes}
 use Rattle.swreq_param.specs.declared.ids.ProtoId.{ProtoId}
 use Rattle.swreq_param.specs.Terms.{Term}
 use Rattle.swreq_derive.specs.Derivation.{Derives}
@@ -16,12 +16,15 @@ use Rattle.swreq_symbols.specs.Meaning.{facts_of}
 use Rattle.swreq_world.specs.FactsAt.{source_of, written_list}
 use Rattle.swreq_query.specs.Answers.{Answer, IsAnswer, answer_line}
 use Rattle.swreq_query.specs.Answers.Answer.{Invalid, Yes, No, Reduced}
+use Rattle.swreq_query.specs.Asked.{IsVerdictOf}
+use Rattle.swreq_query.specs.declared.verdict.Verdict.{Verdict}
 use Rattle.swreq_confpath.specs.Numbers.{path_text}
 use Rattle.swreq_lines.specs.LineTexts.{lines_text}
 use Rattle.swreq_verify.specs.Judgements.{Asked, EndsIn, IsDerivationFrom, asked}
 use Rattle.swreq_query.specs.Signatures.{IsMinimisedLine}
 use Rattle.swreq_check.specs.declared.content.Backing.{Backing}
 use Rattle.swreq_check.specs.declared.content.Backing.TheVariants.{Nothing, Derivation, Path}
+use Rattle.swreq_check.specs.declared.piece.Piece.{Piece}
 
 -- the signature that a query asks
 abbrev pub signature_of : TermQuery → FuncId
@@ -66,6 +69,10 @@ module _ (w : TextWorld) where
     abbrev pub HasAnswer : Answer → TermQuery → Type 0
     HasAnswer a q = IsAnswer (Derives (facts_of w) guarded (source_of (signature_at w (signature_of q)))) q a
 
+    -- By the same, the query has a verdict if and only if it is this one.
+    abbrev pub HasVerdict : Option Verdict → TermQuery → Type 0
+    HasVerdict verdict q = IsVerdictOf (Derives (facts_of w) guarded (source_of (signature_at w (signature_of q)))) q verdict
+
     -- The piece is the line of the answer that the query has, and what backs it.
     abbrev pub AnswersByTypes : Backing → TermQuery → Text → Type 0
     AnswersByTypes b q piece =
@@ -78,3 +85,7 @@ module _ (w : TextWorld) where
     IsLineOf b (AsksConforms f t p) piece = AnswersByTypes b (AsksConforms f t p) piece
     IsLineOf b (AsksAnyObject f t) piece = AnswersByTypes b (AsksAnyObject f t) piece
     IsLineOf b (AsksEquals f t u) piece = AnswersByTypes b (AsksEquals f t u) piece
+
+    -- The text of the piece answers the query, and the query has the verdict of the piece.
+    abbrev pub IsPieceOf : Backing → TermQuery → Piece → Type 0
+    IsPieceOf b q piece = IsLineOf b q piece.text × HasVerdict piece.verdict q

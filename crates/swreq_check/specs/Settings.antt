@@ -19,14 +19,12 @@ use Rattle.swreq_valid.specs.Sides.{HoldsOfEach, IsValidSide}
 use Rattle.swreq_check.specs.declared.checking.Asked.{Asked}
 use Rattle.swreq_check.specs.declared.content.Backing.TheVariants.{Derivation}
 use Rattle.swreq_check.specs.declared.content.Content.{Content}
+use Rattle.swreq_check.specs.declared.piece.Piece.{Piece}
 use Rattle.swreq_check.specs.declared.setting.Kept.{Kept}
 use Rattle.swreq_check.specs.declared.setting.Means.{Means}
 use Rattle.swreq_check.specs.declared.setting.Setting.{Setting}
 use Rattle.swreq_lowering.specs.declared.ids.Query.{Query}
-use Rattle.swreq_lowering.specs.Queries.{TermQuery}
-use Rattle.swreq_lowering.specs.Queries.TermQuery.{AsksReduced}
 use Rattle.swreq_map.specs.Follows.{AreEndingsOf, EndingsView, IsMapOf, MapView}
-use Rattle.swreq_print.specs.Names.{Text}
 use Rattle.swreq_explain.specs.Histories.{IsHistoryFor, IsTextHistory}
 use Rattle.swreq_explain.specs.declared.text_history.TextHistory.{TextHistory}
 use Rattle.swreq_births.specs.declared.history.History.{History}
@@ -95,10 +93,6 @@ pub record IsPlaceFor (terms : List Term) (s : Setting) (f : FuncId) (place : �
   pub below : place < length s.world.now.queries
   pub query : (q : Query) → q ≡ get_or s.world.now.queries place q → IsQueryFor terms s f q
 
--- The query asks for a reduced type.
-abbrev pub AsksType : TermQuery → Type 0
-AsksType q = (f : FuncId) × (t : Term) × (q ≡ AsksReduced f t)
-
 -- The map is that of the rules of the machine.
 pub record IsMapFor (s : Setting) (m : MachineView) (map : MapView) : Type 0 where
   pub rules : IsMapOf (last_rules m.rounds) map
@@ -115,6 +109,6 @@ pub record AreMeansFor (terms : List Term) (s : Setting) (m : Means) : Type 0 wh
   pub history : HasHistory terms s m.own.f (option_copied m.history)
 
 -- The pieces that the machines of the first `signatures` signatures make stand at their places.
-abbrev pub AreMadeIn : List Term → Setting → ℕ → List (Option Text) → Type 0
+abbrev pub AreMadeIn : List Term → Setting → ℕ → List (Option Piece) → Type 0
 AreMadeIn terms s signatures pieces =
     AreMade (IsPiece (world_in terms s) s.content) (maker s.world.now s.content) (count_of s.world.now s.content) signatures pieces

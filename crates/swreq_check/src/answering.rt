@@ -6,19 +6,22 @@ ghost use Rattle.swreq_derive.specs.Derivation.TermRequirement.{Conforms};
 ghost use Rattle.swreq_derive.specs.Derivation.TermStatement.{Requires};
 ghost use Rattle.swreq_derive.specs.declared.requirements.Requirement.TheVariants.{Conf};
 ghost use Rattle.swreq_explain.specs.Histories.{IsHistoryFor};
+ghost use Rattle.swreq_query.specs.Answers.{Answer};
 ghost use Rattle.swreq_query.specs.Answers.Answer.{Yes};
-ghost use Rattle.swreq_query.specs.Asked.{AsksRequirement, IsRoomFor, answer_of};
+ghost use Rattle.swreq_query.specs.Asked.{IsRoomFor};
 ghost use Rattle.swreq_symbols.specs.Known.{IsRequirementIn};
 ghost use Rattle.swreq_symbols.specs.Meaning.{facts_of};
 ghost use Rattle.swreq_world.specs.FactsAt.{source_of};
 ghost use Rattle.swreq_world.specs.Worlds.{signature_at};
 ghost use Rattle.swreq_lowering.specs.ByTable.{HasQueryIdsOf, query_by};
+ghost use Rattle.swreq_check.specs.declared.piece.Piece.{Piece as PieceView};
 ghost use Rattle.swreq_check.specs.Contents.{AreAnswers, backing_of};
 ghost use Rattle.swreq_check.specs.Made.{IsPiece};
-ghost use Rattle.swreq_check.specs.QueryLines.{AnswersByTypes, Backs, BacksYes, HasAnswer, IsDerivationText, IsLineOf, IsPathLine, signature_of};
-ghost use Rattle.swreq_check.specs.Settings.{AreMadeIn, AreMeansFor, AsksType, HasHistory, IsMachineFor, IsMapFor, IsPlaceFor, IsQueryFor, IsReady, world_in};
+ghost use Rattle.swreq_check.specs.QueryLines.{Backs, BacksYes, HasAnswer, HasVerdict, IsDerivationText, IsPathLine, IsPieceOf, signature_of};
+ghost use Rattle.swreq_check.specs.Settings.{AreMadeIn, AreMeansFor, HasHistory, IsMachineFor, IsMapFor, IsPlaceFor, IsQueryFor, IsReady, world_in};
 
 use crate::content::{Backing, backing_of};
+use crate::piece::Piece;
 use crate::setting::{Means, Own, Setting};
 use std::alloc::{AllocError, Global};
 use swreq_births::History;
@@ -30,7 +33,7 @@ use swreq_lowering::Query;
 use swreq_machine::Scratch;
 use swreq_map::PropertyMap;
 use swreq_param::{ParamTable, ProtoId, TermId};
-use swreq_query::{Verdict, answer, judge};
+use swreq_query::{Verdict, answer};
 use swreq_symbols::Text;
 use swreq_text::{Seq, append_bytes};
 
@@ -128,80 +131,52 @@ fn put_backing(
     }
 }
 
-/// Appends what follows this answer to a query.
+/// Appends what follows the answer to a query that has this verdict.
 fn put_behind(
     s: &Setting<'_>,
     table: &mut ParamTable,
     means: &Means<'_>,
     query: &Query,
-    verdict: Verdict,
+    verdict: Option<Verdict>,
     out: &mut Vec<u8>,
 ) -> Result<(), AllocError>
     requires ready { IsReady table.old s.now }
     requires means { AreMeansFor table.old s.now means.now }
     requires query { Contains s.now.world.now.queries query.now }
     requires asks { signature_of (query_by table.old query.now) ≡ means.now.own.f }
-    requires answer { HasAnswer (world_in table.old s.now) true (answer_of verdict)
+    requires verdict { HasVerdict (world_in table.old s.now) true verdict
         (query_by table.old query.now) }
     ensures backing { OnOk result ((text : List ℕ)
-        × Backs (world_in table.old s.now) (backing_of s.now.content) (query_by table.old query.now)
-        (answer_of verdict) text
+        × ((a : Answer) → HasAnswer (world_in table.old s.now) true a (query_by table.old query.now)
+        → Backs (world_in table.old s.now) (backing_of s.now.content) (query_by table.old query.now)
+        a text)
         × (out.new.items ≡ out.old.items ++ text)) }
     ensures extends { OnOk result (Extends table.old table.new) }
 {
-    match verdict {
-        Verdict::Yes => put_backing(s, table, means, query, out),
-        Verdict::Invalid | Verdict::No => Ok(()),
+    if verdict == Some(Verdict::Yes) {
+        put_backing(s, table, means, query, out)
+    } else {
+        Ok(())
     }
 }
 
-/// The piece that answers a query of a requirement.
-fn requirement_piece(
+/// The piece that answers a query of a requirement or a type, by the machine of the signature that it asks.
+fn piece_for(
     s: &Setting<'_>,
     table: &mut ParamTable,
     means: &Means<'_>,
     query: &Query,
-) -> Result<Seq<u8>, AllocError>
+) -> Result<Piece, AllocError>
     requires ready { IsReady table.old s.now }
     requires means { AreMeansFor table.old s.now means.now }
     requires query { IsQueryFor table.old s.now means.now.own.f query.now }
-    requires asks { AsksRequirement (query_by table.old query.now) }
-    ensures piece { IfOk result (AnswersByTypes (world_in table.old s.now) true
+    ensures piece { IfOk result (IsPieceOf (world_in table.old s.now) true
         (backing_of s.now.content) (query_by table.old query.now)) }
     ensures extends { OnOk result (Extends table.old table.new) }
 {
     let mut scratch = scratch(s.alloc, table, query)?;
-    let verdict = judge(
-        s.world,
-        table,
-        means.own.machine,
-        means.map,
-        query,
-        &mut scratch,
-    );
-    let mut piece = Vec::new(s.alloc);
-    append_bytes(&mut piece, verdict.line())?;
-    put_behind(s, table, means, query, verdict, &mut piece)?;
-    Ok(Seq::new(piece))
-}
-
-/// The piece that answers a query of a type.
-fn type_piece(
-    s: &Setting<'_>,
-    table: &ParamTable,
-    means: &Means<'_>,
-    query: &Query,
-) -> Result<Seq<u8>, AllocError>
-    requires ready { IsReady table.now s.now }
-    requires means { AreMeansFor table.now s.now means.now }
-    requires query { IsQueryFor table.now s.now means.now.own.f query.now }
-    requires asks { AsksType (query_by table.now query.now) }
-    ensures { IfOk result (AnswersByTypes (world_in table.now s.now) true (backing_of s.now.content)
-        (query_by table.now query.now)) }
-{
-    let mut scratch = scratch(s.alloc, table, query)?;
-    let mut piece = Vec::new(s.alloc);
-    answer(
+    let mut text = Vec::new(s.alloc);
+    let verdict = answer(
         s.alloc,
         s.world,
         table,
@@ -209,32 +184,13 @@ fn type_piece(
         means.map,
         query,
         &mut scratch,
-        &mut piece,
+        &mut text,
     )?;
-    Ok(Seq::new(piece))
-}
-
-/// The piece that answers a query by the machine of the signature that it asks.
-fn piece(
-    s: &Setting<'_>,
-    table: &mut ParamTable,
-    means: &Means<'_>,
-    query: &Query,
-) -> Result<Seq<u8>, AllocError>
-    requires ready { IsReady table.old s.now }
-    requires means { AreMeansFor table.old s.now means.now }
-    requires query { IsQueryFor table.old s.now means.now.own.f query.now }
-    ensures piece { IfOk result (IsLineOf (world_in table.old s.now) true (backing_of s.now.content)
-        (query_by table.old query.now)) }
-    ensures extends { OnOk result (Extends table.old table.new) }
-{
-    match *query {
-        Query::Signature { .. } => unreachable!(),
-        Query::Reduced { .. } => type_piece(s, table, means, query),
-        Query::Conf { .. } | Query::Layout { .. } | Query::Same { .. } => {
-            requirement_piece(s, table, means, query)
-        }
-    }
+    put_behind(s, table, means, query, verdict, &mut text)?;
+    Ok(Piece {
+        text: Seq::new(text),
+        verdict,
+    })
 }
 
 /// The history of the machine of a signature, where derivations are printed. The text has queries.
@@ -288,7 +244,7 @@ fn answer_at(
     table: &mut ParamTable,
     means: &Means<'_>,
     place: usize,
-    pieces: &mut Vec<Option<Seq<u8>>>,
+    pieces: &mut Vec<Option<Piece>>,
 ) -> Result<(), AllocError>
     requires ready { IsReady table.old s.now }
     requires answers { AreAnswers s.now.content }
@@ -296,12 +252,12 @@ fn answer_at(
     requires place { IsPlaceFor table.old s.now means.now.own.f place }
     requires pieces { length pieces.old.items ≡ length s.now.world.now.queries }
     ensures piece { OnOk result
-        ((piece : List ℕ) × IsPiece (world_in table.old s.now) s.now.content place piece
+        ((piece : PieceView) × IsPiece (world_in table.old s.now) s.now.content place piece
         × (pieces.new.items ≡ set pieces.old.items place (Some piece))) }
     ensures extends { OnOk result (Extends table.old table.new) }
 {
     let query = &s.world.queries()[place];
-    let made = piece(s, table, means, query)?;
+    let made = piece_for(s, table, means, query)?;
     pieces[place] = Some(made);
     Ok(())
 }
@@ -311,7 +267,7 @@ pub(crate) fn answer_queries(
     s: &Setting<'_>,
     table: &mut ParamTable,
     own: &Own<'_>,
-    pieces: &mut Vec<Option<Seq<u8>>>,
+    pieces: &mut Vec<Option<Piece>>,
 ) -> Result<(), AllocError>
     requires ready { IsReady table.old s.now }
     requires answers { AreAnswers s.now.content }

@@ -1,20 +1,21 @@
 //! The lines that answer calls, each by the machine of its caller, which is built once.
 ghost use Rattle.std.specs.Prelude.{◌≡◌, ◌+◌, ◌<◌, ℕ, All, IfOk, List, OnOk, Some, length, map, set, slice_get};
 ghost use Rattle.swreq_param.specs.Tables.{Extends};
-ghost use Rattle.swreq_print.specs.Names.{Text as PrintedText};
 ghost use Rattle.swreq_symbols.specs.Known.{IsTextOver};
 ghost use Rattle.swreq_world.specs.Short.{IsShort};
 ghost use Rattle.swreq_world.specs.Worlds.{TextWorld};
 ghost use Rattle.swreq_subst.specs.declared.calls.Call.{Call as CallView};
 ghost use Rattle.swreq_subst.specs.Calls.{IsCallIn, IsMachineOn, TermCall, call_by};
+ghost use Rattle.swreq_subst.specs.Lines.{IsLineOf};
+ghost use Rattle.swreq_check.specs.declared.piece.Piece.{Piece as PieceView};
 ghost use Rattle.swreq_check.specs.CallLines.{AnswersCalls, AreCallLines, ArePlacesOf, IsLineThere, caller_at};
 ghost use Rattle.swreq_check.specs.Passed.{HasPassed, world_of};
 ghost use Rattle.swreq_check.specs.Made.{text_at};
 ghost use Rattle.swreq_check.specs.Wanted.{ArePlaces};
 
 use crate::checking::no_pieces;
-use crate::making::text_at;
 use crate::passed::{Passed, machine_of};
+use crate::piece::{Piece, text_at};
 use crate::placing::{add_place, no_places};
 use std::alloc::{AllocError, Global};
 use swreq_lowering::FuncId;
@@ -42,7 +43,7 @@ fn put_line(
     machine: &Machine<'_>,
     calls: &[Call],
     place: usize,
-    lines: &mut Vec<Option<Seq<u8>>>,
+    lines: &mut Vec<Option<Piece>>,
 ) -> Result<(), AllocError>
     requires text { IsTextOver table.old p.now.world.now }
     requires short { IsShort p.now.world.now }
@@ -51,14 +52,17 @@ fn put_line(
     requires lines { length lines.old.items ≡ length calls.now }
     requires machine { (c : CallView) → slice_get calls.now place ≡ Some c
         → IsMachineOn (world_of table.old p.now) c.f machine.now }
-    ensures line { OnOk result ((line : PrintedText)
+    ensures line { OnOk result ((line : PieceView)
         × IsLineThere (world_of table.old p.now) (map (call_by table.old) calls.now) place line
         × (lines.new.items ≡ set lines.old.items place (Some line))) }
     ensures extends { Extends table.old table.new }
 {
     let mut line = Vec::new(p.alloc);
     call_text(p.alloc, p.world, table, machine, &calls[place], &mut line)?;
-    lines[place] = Some(Seq::new(line));
+    lines[place] = Some(Piece {
+        text: Seq::new(line),
+        verdict: None,
+    });
     Ok(())
 }
 
@@ -76,7 +80,7 @@ fn put_all(
     table: &mut ParamTable,
     machine: &Machine<'_>,
     of: CallsOf<'_>,
-    lines: &mut Vec<Option<Seq<u8>>>,
+    lines: &mut Vec<Option<Piece>>,
 ) -> Result<(), AllocError>
     requires text { IsTextOver table.old p.now.world.now }
     requires short { IsShort p.now.world.now }
@@ -100,7 +104,7 @@ fn put_lines(
     p: &Passed<'_>,
     table: &mut ParamTable,
     of: CallsOf<'_>,
-    lines: &mut Vec<Option<Seq<u8>>>,
+    lines: &mut Vec<Option<Piece>>,
 ) -> Result<(), AllocError>
     requires text { IsTextOver table.old p.now.world.now }
     requires short { IsShort p.now.world.now }
@@ -128,7 +132,7 @@ fn all_lines(
     table: &mut ParamTable,
     calls: &[Call],
     places: &[Vec<usize>],
-) -> Result<Vec<Option<Seq<u8>>>, AllocError>
+) -> Result<Vec<Option<Piece>>, AllocError>
     requires text { IsTextOver table.old p.now.world.now }
     requires short { IsShort p.now.world.now }
     requires passed { HasPassed table.old p.now }
@@ -150,11 +154,12 @@ fn all_lines(
     Ok(lines)
 }
 
-/// These texts, one after the other.
-fn joined(alloc: Global, lines: &[Option<Seq<u8>>]) -> Result<Vec<u8>, AllocError>
+/// The texts of these pieces, one after the other.
+fn joined(alloc: Global, lines: &[Option<Piece>]) -> Result<Vec<u8>, AllocError>
     ensures { IfOk result (λ v. (w : TextWorld) (calls : List TermCall)
         → length lines.now ≡ length calls
-        → ((k : ℕ) → IsLineThere w calls k (text_at lines.now k)) → AnswersCalls w calls v.items) }
+        → ((k : ℕ) (c : TermCall) → slice_get calls k ≡ Some c
+        → IsLineOf w c (text_at lines.now k)) → AnswersCalls w calls v.items) }
 {
     let mut out = Vec::new(alloc);
     for k in 0..lines.len() {

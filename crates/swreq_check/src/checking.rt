@@ -14,6 +14,7 @@ ghost use Rattle.swreq_check.specs.Settings.{AreMadeIn, HasBase, HaveEndings, Is
 
 use crate::content::{Backing, Content, Made, backing_of};
 use crate::making::make_pieces;
+use crate::piece::Piece;
 use crate::placing::count_of;
 use crate::setting::{Kept, Own, Setting};
 use std::alloc::{AllocError, Global};
@@ -24,7 +25,6 @@ use swreq_machine::Machine;
 use swreq_map::Endings;
 use swreq_param::ParamTable;
 use swreq_symbols::Text;
-use swreq_text::Seq;
 use swreq_valid::{Protocols, Refused};
 use swreq_watch::Watch;
 use swreq_world::World;
@@ -34,7 +34,7 @@ use swreq_world::World;
 #[derive(Drop)]
 pub struct Checked {
     pub protocols: Protocols,
-    pub pieces: Vec<Option<Seq<u8>>>,
+    pub pieces: Vec<Option<Piece>>,
 }
 
 /// What is asked of the machines of a text.
@@ -53,7 +53,7 @@ fn check_anew<'a, W: Watch>(
     table: &mut ParamTable,
     f: FuncId,
     watch: &mut W,
-    pieces: &mut Vec<Option<Seq<u8>>>,
+    pieces: &mut Vec<Option<Piece>>,
 ) -> Result<Kept<'a>, Refused>
     requires ready { IsReady table.old s.now }
     requires f { f.place < length s.now.world.now.signatures }
@@ -73,10 +73,8 @@ fn check_anew<'a, W: Watch>(
         f,
         machine: &machine,
     };
-    match make_pieces(s, table, &own, pieces) {
-        Ok(()) => Ok(Kept { f, machine }),
-        Err(_) => Err(Refused::Memory),
-    }
+    make_pieces(s, table, &own, pieces)?;
+    Ok(Kept { f, machine })
 }
 
 /// Checks one signature by a machine that it has already, and makes of it what is asked.
@@ -85,7 +83,7 @@ fn check_again<W: Watch>(
     table: &mut ParamTable,
     own: &Own<'_>,
     watch: &mut W,
-    pieces: &mut Vec<Option<Seq<u8>>>,
+    pieces: &mut Vec<Option<Piece>>,
 ) -> Result<(), Refused>
     requires ready { IsReady table.old s.now }
     requires machine { IsMachineFor table.old s.now own.now.f own.now.machine.now }
@@ -107,7 +105,7 @@ fn check_inside<'a, W: Watch>(
     f: FuncId,
     kept: Kept<'a>,
     watch: &mut W,
-    pieces: &mut Vec<Option<Seq<u8>>>,
+    pieces: &mut Vec<Option<Piece>>,
 ) -> Result<Kept<'a>, Refused>
     requires ready { IsReady table.old s.now }
     requires f { f.place < length s.now.world.now.signatures }
@@ -135,7 +133,7 @@ fn check_beside<'a, W: Watch>(
     f: FuncId,
     kept: Kept<'a>,
     watch: &mut W,
-    pieces: &mut Vec<Option<Seq<u8>>>,
+    pieces: &mut Vec<Option<Piece>>,
 ) -> Result<Kept<'a>, Refused>
     requires ready { IsReady table.old s.now }
     requires f { f.place < length s.now.world.now.signatures }
@@ -162,7 +160,7 @@ fn check_after<'a, W: Watch>(
     f: FuncId,
     kept: Kept<'a>,
     watch: &mut W,
-    pieces: &mut Vec<Option<Seq<u8>>>,
+    pieces: &mut Vec<Option<Piece>>,
 ) -> Result<Kept<'a>, Refused>
     requires ready { IsReady table.old s.now }
     requires f { f.place < length s.now.world.now.signatures }
@@ -188,7 +186,7 @@ fn check_one<'a, W: Watch>(
     f: FuncId,
     last: Option<Kept<'a>>,
     watch: &mut W,
-    pieces: &mut Vec<Option<Seq<u8>>>,
+    pieces: &mut Vec<Option<Piece>>,
 ) -> Result<Kept<'a>, Refused>
     requires ready { IsReady table.old s.now }
     requires f { f.place < length s.now.world.now.signatures }
@@ -211,7 +209,7 @@ fn check_all<W: Watch>(
     s: &Setting<'_>,
     table: &mut ParamTable,
     watch: &mut W,
-    pieces: &mut Vec<Option<Seq<u8>>>,
+    pieces: &mut Vec<Option<Piece>>,
 ) -> Result<(), Refused>
     requires ready { IsReady table.old s.now }
     requires pieces { AreMadeIn table.old s.now 0 pieces.old.items }
@@ -230,7 +228,7 @@ fn check_all<W: Watch>(
 }
 
 /// `count` places, none of them filled.
-pub(crate) fn no_pieces(alloc: Global, count: usize) -> Result<Vec<Option<Seq<u8>>>, AllocError>
+pub(crate) fn no_pieces(alloc: Global, count: usize) -> Result<Vec<Option<Piece>>, AllocError>
     ensures { IfOk result (AreNone count) }
 {
     let mut pieces = Vec::new(alloc);

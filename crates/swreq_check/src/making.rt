@@ -1,12 +1,12 @@
 //! What is made of each machine while it stands.
-ghost use Rattle.std.specs.Prelude.{◌+◌, OnOk, ◌≡◌, ◌<◌, length};
+ghost use Rattle.std.specs.Prelude.{◌+◌, OnOk};
 ghost use Rattle.swreq_param.specs.Tables.{Extends};
 ghost use Rattle.swreq_check.specs.Contents.{AreSystems};
 ghost use Rattle.swreq_check.specs.Settings.{AreMadeIn, IsMachineFor, IsReady};
-ghost use Rattle.swreq_check.specs.Made.{text_at};
 
 use crate::answering::answer_queries;
 use crate::content::Made;
+use crate::piece::Piece;
 use crate::setting::{Own, Setting};
 use std::alloc::AllocError;
 use swreq_param::ParamTable;
@@ -18,7 +18,7 @@ fn put_system(
     s: &Setting<'_>,
     table: &ParamTable,
     own: &Own<'_>,
-    pieces: &mut Vec<Option<Seq<u8>>>,
+    pieces: &mut Vec<Option<Piece>>,
 ) -> Result<(), AllocError>
     requires ready { IsReady table.now s.now }
     requires systems { AreSystems s.now.content }
@@ -26,9 +26,12 @@ fn put_system(
     requires pieces { AreMadeIn table.now s.now own.now.f.place pieces.old.items }
     ensures { OnOk result (AreMadeIn table.now s.now (own.now.f.place + 1) pieces.new.items) }
 {
-    let mut piece = Vec::new(s.alloc);
-    system_text(s.alloc, s.world, table, own.machine, own.f, &mut piece)?;
-    pieces[own.f.place as usize] = Some(Seq::new(piece));
+    let mut text = Vec::new(s.alloc);
+    system_text(s.alloc, s.world, table, own.machine, own.f, &mut text)?;
+    pieces[own.f.place as usize] = Some(Piece {
+        text: Seq::new(text),
+        verdict: None,
+    });
     Ok(())
 }
 
@@ -37,7 +40,7 @@ pub(crate) fn make_pieces(
     s: &Setting<'_>,
     table: &mut ParamTable,
     own: &Own<'_>,
-    pieces: &mut Vec<Option<Seq<u8>>>,
+    pieces: &mut Vec<Option<Piece>>,
 ) -> Result<(), AllocError>
     requires ready { IsReady table.old s.now }
     requires machine { IsMachineFor table.old s.now own.now.f own.now.machine.now }
@@ -50,16 +53,5 @@ pub(crate) fn make_pieces(
         Made::Lines => answer_queries(s, table, own, pieces),
         Made::Systems => put_system(s, table, own, pieces),
         Made::Lists | Made::Nothing => Ok(()),
-    }
-}
-
-/// The bytes of the piece at this place, or no bytes where there is no piece.
-pub fn text_at<'a>(pieces: &'a [Option<Seq<u8>>], k: usize) -> &'a [u8]
-    requires { k < length pieces.now }
-    ensures { result.now ≡ text_at pieces.now k }
-{
-    match &pieces[k] {
-        Some(piece) => piece.items(),
-        None => &[],
     }
 }

@@ -8,7 +8,7 @@ ghost use Rattle.swreq_watch.specs.declared.events.Event.{Event};
 ghost use Rattle.swreq_watch.specs.Told.{GrewBy};
 ghost use Rattle.swreq_world.specs.Worlds.{signature_at};
 ghost use Rattle.swreq_check.specs.Listing.{AreReady, rules_of, wants, world_of};
-ghost use Rattle.swreq_check.specs.Made.{AreLinesKept, IsLineKept};
+ghost use Rattle.swreq_check.specs.Made.{AreLinesKept, IsLineKept, line_at};
 ghost use Rattle.swreq_check.specs.Told.{FailsAt, MinimisingAllTells, MinimisingEndsIn, TellsOne};
 
 use crate::content::Content;
@@ -35,6 +35,17 @@ pub struct Minimising<'a> {
     /// Of each signature, whether its minimised list is wanted.
     pub wanted: &'a [bool],
     pub limits: Limits,
+}
+
+/// The line that is kept at this place, or no bytes where none is.
+pub fn line_at<'a>(lines: &'a [Option<Seq<u8>>], k: usize) -> &'a [u8]
+    requires { k < length lines.now }
+    ensures { result.now ≡ line_at lines.now k }
+{
+    match &lines[k] {
+        Some(line) => line.items(),
+        None => &[],
+    }
 }
 
 /// The line of the minimised list of a signature.

@@ -10,7 +10,6 @@ use Rattle.swreq_rule.specs.declared.rules.Rule.{Rule}
 use Rattle.swreq_rule.specs.declared.rules.Place.{Place}
 use Rattle.swreq_rule.specs.declared.rules.Birth.{Birth}
 use Rattle.swreq_rule.specs.declared.rules.Birth.TheVariants.{Given, Pair}
-use Rattle.swreq_rule.specs.Steps.{RuleAt}
 use Rattle.swreq_pair.specs.Pairs.{HasPair, IsPair}
 use Rattle.swreq_watch.specs.declared.events.Event.{Event}
 use Rattle.swreq_complete.specs.declared.limit.Limits.{Limits}
@@ -24,32 +23,19 @@ use Rattle.swreq_complete.proofs.Moments.{greater_before, not_itself, not_both}
 use Rattle.swreq_complete.proofs.Progress.{settle_one}
 use Rattle.swreq_lemmas.proofs.Elements.{get_left, get_front}
 use Rattle.swreq_complete.proofs.PairOrder.{widen}
+use Rattle.swreq_complete.proofs.Sides.{pair_among}
 use Rattle.swreq_complete.proofs.Telling.{Adds, place_adds, goes_on, stops, grown_none}
 use Rattle.swreq_complete.proofs.Closed.{reached}
-
-rule_back : (first more : List Rule) (n : ℕ) (r : Rule) → n ≤ length first → RuleAt (first ++ more) n r → RuleAt first n r
-rule_back first more n r l a = (a.0, a.1, get_front first more a.0 r (let e = a.1 in omega (arith, e, l)) a.2)
 
 -- a pair of the first rules is one of them alone
 pair_back : (first more : List Rule) (p : Place) (l r : List Symbol) → max p.i p.j ≤ length first
     → IsPair (first ++ more) p l r → IsPair first p l r
-pair_back first more p l r le q = record {
-  first = q.first;
-  second = q.second;
-  first_at = rule_back first more p.i q.first (omega (arith, le)) q.first_at;
-  second_at = rule_back first more p.j q.second (omega (arith, le)) q.second_at;
-  kind = q.kind;
-}
+pair_back first more p l r le =
+    pair_among (first ++ more) first p l r (λ k rule b. get_front first more k rule (omega (arith, b, le)))
 
 -- and stays one among more
 pair_on : (first more : List Rule) (p : Place) (l r : List Symbol) → IsPair first p l r → IsPair (first ++ more) p l r
-pair_on first more p l r q = record {
-  first = q.first;
-  second = q.second;
-  first_at = (q.first_at.0, q.first_at.1, get_left first more q.first_at.0 q.first q.first_at.2);
-  second_at = (q.second_at.0, q.second_at.1, get_left first more q.second_at.0 q.second q.second_at.2);
-  kind = q.kind;
-}
+pair_on first more p l r = pair_among first (first ++ more) p l r (λ k rule b. get_left first more k rule)
 
 no_greater_than : (i j at u v w : ℕ) → Before (Pair i j at) (Pair u v w) → max i j ≤ max u v
 no_greater_than i j at u v w b =

@@ -1,11 +1,10 @@
 -- What is told of a completion, read back.
-use Rattle.std.proofs.Common.{◌≡◌, ◌<◌, ℕ, refl, sym, ◌∙◌, ap, arith, List, [], ◌∷◌, ◌++◌, length, map, drop, take-append-drop}
+use Rattle.std.proofs.Common.{◌≡◌, ℕ, refl, sym, ◌∙◌, ap, arith, List, [], ◌∷◌, ◌++◌, length, map, drop, take-append-drop}
 use Rattle.swreq_word.specs.declared.symbols.Symbol.{Symbol}
 use Rattle.swreq_rule.specs.declared.rules.Rule.{Rule}
 use Rattle.swreq_watch.specs.declared.events.Event.{Event}
 use Rattle.swreq_watch.specs.declared.events.Event.TheVariants.{Born, Start}
 use Rattle.swreq_complete.specs.declared.limit.Limits.{Limits}
-use Rattle.swreq_complete.specs.declared.limit.Which.{Which}
 use Rattle.swreq_complete.specs.declared.limit.Which.TheVariants.{Length, Rules}
 use Rattle.swreq_complete.specs.Laws.{EventsTellTraces, RulesComeFirst}
 use Rattle.swreq_complete.specs.Reached.{BeginsWith}

@@ -24,7 +24,7 @@ use Rattle.swreq_confpath.specs.declared.sought.Sought.{Sought}
 use Rattle.swreq_confpath.specs.Routes.{TermPlace, AreAlike, GoesTo, gone_on, requirements_at}
 use Rattle.swreq_confpath.specs.Searches.{AreSpotsOf, HasParted, IsGiven, IsKnown, IsPlaceIn, IsSearch, IsSearchAt, StandsFor, facts_in, list_in, params_in, required_at, sought_in, source_in}
 use Rattle.swreq_confpath.specs.Spots.{IsKept, IsReached, Spot}
-use Rattle.swreq_confpath.specs.Tried.{IsDeadEnd, TermSpot, start}
+use Rattle.swreq_confpath.specs.Tried.{AreTriedUpTo, IsDeadEnd, IsSettled, TermSpot, start}
 use Rattle.swreq_confpath.proofs.Alike.{stays_derivable}
 use Rattle.swreq_confpath.proofs.Covering.{is_given, not_ended, one_there}
 use Rattle.swreq_confpath.proofs.DeadEnds.{dead_end}
@@ -150,20 +150,19 @@ module _ (s : Sought) (known : IsKnown s) where
         subst (λ z. HasNumber (suc count) z (requirement_of s.table.now r)) (sym (same_requirements s from h.at.place h.stands_at))
         (map_number (requirement_of s.table.now) (suc count) (required_at s.world.now s.list.now from) r n)
 
+    -- the spots stay, where what goes on by the requirement is settled with them
+    same_spots : AreTriedUpTo F G L (sought_in s) h.tried next h.at (suc count) → IsSearchAt s spots next from (suc count)
+    same_spots up_to = record { tried = h.tried; stand = h.stand; at = h.at; stands_at = h.stands_at; up_to = up_to }
+
     -- one by which one does not go on
     passed : (r : Requirement) → HasNumber (suc count) (required_at s.world.now s.list.now from) r
         → ((t : TermId) (p : ProtoId) → r ≡ Conf t p → ⊥)
         → IsSearchAt s spots next from (suc count)
-    passed r n none = record {
-      tried = h.tried;
-      stand = h.stand;
-      at = h.at;
-      stands_at = h.stands_at;
-      up_to = passes F G L known.protocols known.well_formed (sought_in s) h.tried next h.at count h.up_to
-          (λ d goes. no_conforms s.table.now r none goes.0 goes.1
-          (one_number (suc count) (requirements_at F L h.at.place) (requirement_of s.table.now r) (Conforms goes.0 goes.1)
-          (numbered r n) goes.2));
-    }
+    passed r n none =
+        same_spots (passes F G L known.protocols known.well_formed (sought_in s) h.tried next h.at count h.up_to
+        (λ d goes. no_conforms s.table.now r none goes.0 goes.1
+        (one_number (suc count) (requirements_at F L h.at.place) (requirement_of s.table.now r) (Conforms goes.0 goes.1)
+        (numbered r n) goes.2)))
 
     module _ (t : TermId) (p : ProtoId)
         (n : HasNumber (suc count) (required_at s.world.now s.list.now from) (Conf t p)) (target place : Place)
@@ -191,18 +190,17 @@ module _ (s : Sought) (known : IsKnown s) where
       other : (place ≡ target → ⊥) → AreAlike F S d (sought_in s) → ⊥
       other differs like = differs (place_by_alike s known place target d (sought_in s) stands sought like)
 
+      -- one that is settled
+      settled : IsSettled F G L (sought_in s) h.tried (h.at.numbers ++ suc count ∷ []) d → (AreAlike F S d (sought_in s) → ⊥)
+          → IsSearchAt s spots next from (suc count)
+      settled is differs =
+          same_spots (knows F G L known.protocols known.well_formed (sought_in s) h.tried next h.at count d h.up_to goes is differs)
+
       -- one from which the place that is sought cannot be reached
       set_aside : HasParted s target place → IsSearchAt s spots next from (suc count)
       set_aside parted =
           let dead : IsDeadEnd F G L (sought_in s) d = dead_end s known target place d sought stands parted in
-          record {
-            tried = h.tried;
-            stand = h.stand;
-            at = h.at;
-            stands_at = h.stands_at;
-            up_to = knows F G L known.protocols known.well_formed (sought_in s) h.tried next h.at count d h.up_to goes
-                (inr dead) (dead [] d refl);
-          }
+          settled (inr dead) (dead [] d refl)
 
       -- one that was reached before
       left_out : (place ≡ target → ⊥) → IsReached spots place → IsSearchAt s spots next from (suc count)
@@ -213,15 +211,8 @@ module _ (s : Sought) (known : IsKnown s) where
           let like : AreAlike F S e.at.place d
           = alike_by_place s known place e.at.place d (subst (λ z. StandsFor s z e.at.place) reached.2 e.stands) stands
           (h.up_to.so_far.leads e.at of).1 itself in
-          record {
-            tried = h.tried;
-            stand = h.stand;
-            at = h.at;
-            stands_at = h.stands_at;
-            up_to = knows F G L known.protocols known.well_formed (sought_in s) h.tried next h.at count d h.up_to goes
-                (is_known F G L known.protocols known.well_formed (sought_in s) h.tried next h.at count d e.at h.up_to of like)
-                (other differs);
-          }
+          settled (is_known F G L known.protocols known.well_formed (sought_in s) h.tried next h.at count d e.at h.up_to of like)
+          (other differs)
 
       -- and one that is new
       kept : (place ≡ target → ⊥) → (numbers : List ℕ) → numbers ≡ h.at.numbers ++ suc count ∷ []

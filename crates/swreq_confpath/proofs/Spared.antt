@@ -25,6 +25,7 @@ use Rattle.swreq_complete.specs.Complete.{IsComplete}
 use Rattle.swreq_complete.proofs.ReducedSystem.{least_irreducible}
 use Rattle.swreq_correspondence.specs.Symbols.{Word}
 use Rattle.swreq_symbols.specs.Vanishing.{IsLeastBy, Links}
+use Rattle.swreq_machine.proofs.Typed.{at_front}
 use Rattle.swreq_confpath.specs.Parting.{AllSpare, AllSpareOthers, AreBeforeProtocol, AreInCommon, FirstSpareOthers, HasNoProtocol, PartsForGood, Spares, SparesOthers}
 use Rattle.swreq_confpath.proofs.Covering.{one_there}
 
@@ -43,10 +44,6 @@ last_part (a ∷ front) (c ∷ before) x y q e =
     let r = last_part front before x y q (same_tails e) in
     let h : a ≡ c = same_heads e in
     (r.0, r.1, ap₂ ◌∷◌ h r.2)
-
-there : (before : Word) (x : Symbol) (after : Word) → slice_get (before ++ (x ∷ after)) (length before) ≡ Some x
-there [] x after = refl
-there (b ∷ before) x after = there before x after
 
 get_dropped : (n : ℕ) (xs : Word) (i : ℕ) (x : Symbol) → slice_get xs (n + i) ≡ Some x → slice_get (drop n xs) i ≡ Some x
 get_dropped zero xs i x e = let z : 0 + i ≡ i = omega arith in subst (λ k. slice_get xs k ≡ Some x) z e
@@ -201,7 +198,7 @@ others_spared rule from clear to changed common protocol bound stands x none bef
     let size : length rule.left ≡ length before + suc (suc (length after)) =
     let l = simp length-append at (ap length e) in omega (arith, l) in
     let here : slice_get rule.left (length before) ≡ Some x =
-    subst (λ w. slice_get w (length before) ≡ Some x) (sym e) (there before x (y ∷ after)) in
+    subst (λ w. slice_get w (length before) ≡ Some x) (sym e) (at_front before x (y ∷ after)) in
     elim (cases_lt (length before) from) [
       | inl less ↦ in_front_of_both rule.left rule.right before (y ∷ after) x (from - suc (length before)) from (omega arith) common.same e
       | inr far ↦ elim (cases_lt (length before) clear) [

@@ -15,8 +15,14 @@ use Rattle.swreq_derive.specs.Paths.{IsConformancePath, LeadsOn}
 use Rattle.swreq_print.specs.Names.{Text}
 use Rattle.swreq_print.specs.Signatures.{requirement_text, self_text}
 use Rattle.swreq_lexicon.specs.Views.{LexiconView, IsProtocol}
-use Rattle.swreq_symbols.specs.Known.{IsRequirementIn}
 use Rattle.swreq_world.specs.Closed.{IsRequirementOf}
+use Rattle.swreq_lowering.specs.declared.ids.FuncId.{FuncId}
+use Rattle.swreq_world.specs.ByTable.{world_by}
+use Rattle.swreq_world.specs.FactsAt.{facts_of, written_list}
+use Rattle.swreq_world.specs.Worlds.{IdWorld, signature_at}
+use Rattle.swreq_symbols.specs.Known.{IsRequirementIn, IsTextOver}
+use Rattle.swreq_valid.specs.Plans.{bare}
+use Rattle.swreq_confpath.proofs.Requirements.{signature_known, signature_listed}
 use Rattle.swreq_confpath.specs.Numbers.{AreNumbers, AreNumbersBehind, first_protocol, in_brackets, path_text, protocol_named, requirement_at, steps_text}
 
 -- the numbers of a path are those of conformances
@@ -94,3 +100,48 @@ first_written x f rs n ns steps v r q begun mid new written is e named s b m k =
     k
     ∙ ap₂ ◌++◌ (m ∙ (ap (λ z. z ++ in_brackets (requirement_text x written)) b ∙ ap (λ z. in_brackets (requirement_text x z)) (e ∙ sym is)))
     (ap₂ (steps_text x f) (named ∙ sym (ap protocol_named is)) s)
+
+-- ---- a path of a signature, by the requirement of its first number
+
+module _ (terms : List Term) (w : IdWorld) (f : FuncId) (list : List Requirement) (listed : list ≡ bare (signature_at w f).requirements)
+    (n : ℕ) (steps : List ℕ)
+    (h : AreNumbers (facts_of (world_by terms w)) (written_list (signature_at (world_by terms w) f)) n steps)
+    (r : Requirement) (at : r ≡ get_or list (n - 1) r) where
+  abbrev facts : TermFacts
+  facts = facts_of (world_by terms w)
+
+  abbrev required : List TermRequirement
+  required = written_list (signature_at (world_by terms w) f)
+
+  same : required ≡ map (requirement_of terms) list
+  same = sym (signature_listed terms w f list listed)
+
+  at_number : IsTextOver terms w → f.place < length w.signatures → IsRequirementIn terms w.lexicon (get_or list (n - 1) r)
+  at_number text of =
+      signature_known terms w text f of list listed (get_or list (n - 1) r) (is_member terms required list same n h.0 h.1 h.2 r)
+
+  pub first_known : IsTextOver terms w → f.place < length w.signatures → IsRequirementIn terms w.lexicon r
+  first_known text of = subst (IsRequirementIn terms w.lexicon) (sym at) (at_number text of)
+
+  -- the protocol that it names
+  module _ (q : ProtoId) (is : q ≡ protocol_named (requirement_of terms r)) where
+    named : q ≡ protocol_named (requirement_of terms (get_or list (n - 1) r))
+    named = is ∙ ap (λ (z : Requirement). protocol_named (requirement_of terms z)) at
+
+    as_numbered : q ≡ h.1
+    as_numbered = names terms required list same n h.0 h.1 h.2 r q named
+
+    pub first_names_protocol : IsTextOver terms w → f.place < length w.signatures → IsProtocol w.lexicon q
+    first_names_protocol text of = names_protocol terms required list same n h.0 h.1 h.2 w.lexicon r q (at_number text of) named
+
+    pub numbers_after_first : (ns : List ℕ) → ns ≡ steps → AreNumbersBehind facts q ns
+    numbers_after_first ns e =
+        subst (λ p. AreNumbersBehind facts p ns) (sym as_numbered) (subst (AreNumbersBehind facts h.1) (sym e) h.3)
+
+    pub path_written : (ns : List ℕ) (begun mid new : Text) → ns ≡ steps → begun ≡ []
+        → mid ≡ begun ++ in_brackets (requirement_text w.lexicon (requirement_of terms r))
+        → new ≡ mid ++ steps_text w.lexicon facts q ns → new ≡ path_text w.lexicon facts required n steps
+    path_written ns begun mid new e none first others =
+        first_written w.lexicon facts required n steps ns h.0 h.1 q begun mid new (requirement_of terms r)
+        (requirement_is terms required list same n h.0 h.1 h.2)
+        (ap (requirement_of terms) at ∙ number_is terms required list same n h.0 h.1 h.2 r) as_numbered e none first others

@@ -20,7 +20,9 @@ use Rattle.swreq_derive.specs.Lines.{line_of, stated_by}
 use Rattle.swreq_lemmas.proofs.Elements.{get_map, get_of_map}
 use Rattle.swreq_derive.proofs.LineLists.{number_left, number_last}
 use Rattle.swreq_derivation.specs.declared.derivation.Derivation.{Derivation}
-use Rattle.swreq_derivation.specs.UnderWay.{AddsLines, AreIdsIn, Assumptions, IsUnderWay, States, StaysDerived, statements_in}
+use Rattle.swreq_derivation.specs.declared.derivation.Derivation.TheInside.{Inside}
+use Rattle.swreq_derivation.specs.Inside.{IsUnderWay, view_of}
+use Rattle.swreq_derivation.specs.UnderWay.{AddsLines, AllIn, AreIdsIn, Assumptions, Continues, ContinuesFrom, States, statements_in}
 
 -- ---- ids and type parameters
 
@@ -41,34 +43,34 @@ same_ids terms d (Holds (Same x w)) (Holds (Layout y)) h k e = absurd cc
 same_ids terms d (Holds (Same x w))
     (Holds (Same y z)) h k e = let i : x ≡ y = d x y h.0 k.0 (cc) in let j : w ≡ z = d w z h.1 k.1 (cc) in cc
 
--- a line states what is found among the statements
-pub found : (s : Derivation) (st : Statement) (n : ℕ) → IsUnderWay s → HasNumber n s.stated st → HasNumber n (statements_in s)
-    (statement_of s.table st)
-found s st n h w =
-    (w.0, get_map (statement_of s.table) (stated_by s.lines.items) (n - 1) st (subst (λ z. slice_get z (n - 1) ≡ Some st) h.stated w.1))
+module _ (d : Inside) (h : IsUnderWay d) where
+  -- a line states what is found among the statements
+  found : (st : Statement) (n : ℕ) → HasNumber n d.stated st → HasNumber n (statements_in (view_of d)) (statement_of d.table st)
+  found st n w =
+      (w.0, get_map (statement_of d.table) (stated_by d.lines.items) (n - 1) st (subst (λ z. slice_get z (n - 1) ≡ Some st) h.stated w.1))
 
--- no line states what is not found among the statements
-pub not_found : (s : Derivation) (st : Statement) → IsUnderWay s → AreDistinct s.table → AreIdsIn s.table st
-    → ((k : ℕ) → slice_get s.stated k ≡ Some st → ⊥) → States s (statement_of s.table st) → ⊥
-not_found s st h d i none w =
-    let x = get_of_map (statement_of s.table) (stated_by s.lines.items) (w.0 - 1) (statement_of s.table st) w.1.1 in
-    let l = get_of_map (λ (z : Line). z.statement) s.lines.items (w.0 - 1) x.0 x.1 in
-    let o : AreIdsIn s.table x.0 = subst (AreIdsIn s.table) l.2 (h.ids (w.0 - 1) l.0 l.1) in
-    let e : x.0 ≡ st = same_ids s.table d x.0 st o i x.2 in
-    none (w.0 - 1) (subst (λ z. slice_get z (w.0 - 1) ≡ Some st) (sym h.stated) (x.1 ∙ ap Some e))
+  -- no line states what is not found among the statements
+  not_found : (st : Statement) → AreDistinct d.table → AreIdsIn d.table st → ((k : ℕ) → slice_get d.stated k ≡ Some st → ⊥)
+      → States (view_of d) (statement_of d.table st) → ⊥
+  not_found st e i none w =
+      let x = get_of_map (statement_of d.table) (stated_by d.lines.items) (w.0 - 1) (statement_of d.table st) w.1.1 in
+      let l = get_of_map (λ (z : Line). z.statement) d.lines.items (w.0 - 1) x.0 x.1 in
+      let o : AreIdsIn d.table x.0 = subst (AreIdsIn d.table) l.2 (h.ids (w.0 - 1) l.0 l.1) in
+      let same : x.0 ≡ st = same_ids d.table e x.0 st o i x.2 in
+      none (w.0 - 1) (subst (λ z. slice_get z (w.0 - 1) ≡ Some st) (sym h.stated) (x.1 ∙ ap Some same))
 
--- a search among the statements tells whether a line states it
-pub number_told : (s : Derivation) (st : Statement) (o : Option ℕ) → IsUnderWay s → AreDistinct s.table → AreIdsIn s.table st
-    → MatchOption o ((k : ℕ) → slice_get s.stated k ≡ Some st → ⊥) (λ n. HasNumber n s.stated st)
-    → MatchOption o (States s (statement_of s.table st) → ⊥) (λ n. HasNumber n (statements_in s) (statement_of s.table st))
-number_told s st (Some n) h d i w = found s st n h w
-number_told s st None h d i w = not_found s st h d i w
+  -- a search among the statements tells whether a line states it
+  pub number_told : (st : Statement) (o : Option ℕ) → AreDistinct d.table → AreIdsIn d.table st
+      → MatchOption o ((k : ℕ) → slice_get d.stated k ≡ Some st → ⊥) (λ n. HasNumber n d.stated st)
+      → MatchOption o (States (view_of d) (statement_of d.table st) → ⊥)
+      (λ n. HasNumber n (statements_in (view_of d)) (statement_of d.table st))
+  number_told st (Some n) e i w = found st n w
+  number_told st None e i w = not_found st e i w
 
--- what no line states is not found among the statements
-pub unsaid : (s : Derivation) (st : Statement) → IsUnderWay s → (States s (statement_of s.table st) → ⊥) → (k : ℕ)
-    → slice_get s.stated k ≡ Some st → ⊥
-unsaid s st h none k w =
-    none (k + 1, found s st (k + 1) h (omega arith, subst (λ z. slice_get s.stated z ≡ Some st) (omega arith) w))
+  -- what no line states is not found among the statements
+  pub unsaid : (st : Statement) → (States (view_of d) (statement_of d.table st) → ⊥) → (k : ℕ) → slice_get d.stated k ≡ Some st → ⊥
+  unsaid st none k w =
+      none (k + 1, found st (k + 1) (omega arith, subst (λ z. slice_get d.stated z ≡ Some st) (omega arith) w))
 
 -- ---- a line more
 
@@ -137,56 +139,76 @@ module _ (terms : List Term) (ls : List Line) (l : Line) where
         (number_last (say ls) (statement_of terms l.statement)),
   )
 
-  pub ids_more : ((k : ℕ) (x : Line) → slice_get ls k ≡ Some x → AreIdsIn terms x.statement) → AreIdsIn terms l.statement
-      → (k : ℕ) (x : Line) → slice_get (ls ++ l ∷ []) k ≡ Some x → AreIdsIn terms x.statement
+  pub ids_more : AllIn terms ls → AreIdsIn terms l.statement → AllIn terms (ls ++ l ∷ [])
   ids_more h i k x e = elim (last_or_before ls l k x e) [
     | inl w ↦ h k x w.1
     | inr w ↦ subst (λ (z : Line). AreIdsIn terms z.statement) (sym w.1) i
   ]
 
--- A derivation grows by a line.
-pub grown_by_line : (old new : Derivation) (l : Line) → IsUnderWay old → AreIdsIn old.table l.statement → new.table ≡ old.table
-    → new.stated ≡ old.stated ++ l.statement ∷ [] → new.lines.items ≡ old.lines.items ++ l ∷ [] → AddsLines old new
-grown_by_line old new l h i e k f =
-    let g : List Term → List Line → Type 0 = λ terms ls. (Extends old.table terms
-    × ((k : ℕ) (x : Line) → slice_get ls k ≡ Some x → AreIdsIn terms x.statement)
-    × ((z : TermStatement) → States old z → (n : ℕ) × HasNumber n (map (statement_of terms) (stated_by ls)) z)) in
-    let r : g new.table new.lines.items = subst (λ z. g z new.lines.items) (sym e) (subst (g old.table) (sym f) (
-      unchanged old.table,
-      ids_more old.table old.lines.items l h.ids i,
-      λ z y. (y.0, says_before old.table old.lines.items l y.0 z y.1),
-    )) in record { extends = r.0; derivation = record { ids = r.1; stated = stated }; stays = r.2 }
-  where
-    stated : new.stated ≡ stated_by new.lines.items
-    stated = k ∙ ap (λ z. z ++ l.statement ∷ []) h.stated ∙ sym
-        (ap stated_by f ∙ map-append (λ (z : Line). z.statement) old.lines.items (l ∷ []))
+-- The ids of one more line are of the table, and what it states comes last.
+pub under_way_more : (d : Inside) (ls : List Line) (sts : List Statement) (l : Line) → IsUnderWay d → AreIdsIn d.table l.statement
+    → ls ≡ d.lines.items ++ l ∷ [] → sts ≡ d.stated ++ l.statement ∷ [] → AllIn d.table ls × (sts ≡ stated_by ls)
+under_way_more d ls sts l h i e f = (
+  subst (AllIn d.table) (sym e) (ids_more d.table d.lines.items l h.ids i),
+  f ∙ ap (λ z. z ++ l.statement ∷ []) h.stated ∙ sym (ap stated_by e ∙ map-append (λ (z : Line). z.statement) d.lines.items (l ∷ [])),
+)
 
--- The lines stay a derivation if the rule of the new line gives what it states from what earlier lines state.
-pub kept_by_line : (b : Assumptions) (old new : Derivation) (rule : DerivRule) (ns : List ℕ) (from : List TermStatement) (st : Statement)
-    → new.table ≡ old.table → new.lines.items ≡ old.lines.items ++ record { rule = rule; premises = ns; statement = st } ∷ []
-    → AreStated (statements_in old) ns from → IsInstance b.facts b.params b.written rule from (statement_of old.table st) → StaysDerived b
-    old new
-kept_by_line b old new rule ns from st e f a w d =
-    subst (λ z. IsDerivation b.facts b.params b.written (map (line_of z) new.lines.items)) (sym e)
-    (subst (λ z. IsDerivation b.facts b.params b.written (map (line_of old.table) z)) (sym f)
-    (line_more b old.table old.lines.items rule ns from st a w d))
+abbrev pub view : List Term → List Line → Derivation
+view terms ls = record { table = terms; lines = ls }
 
-pub says_line : (old new : Derivation) (l : Line) → new.table ≡ old.table → new.lines.items ≡ old.lines.items ++ l ∷ []
-    → States new (statement_of old.table l.statement)
-says_line old new l e f =
-    subst (λ z. (n : ℕ) × HasNumber n (map (statement_of z) (stated_by new.lines.items)) (statement_of old.table l.statement)) (sym e)
-    (subst (λ z. (n : ℕ) × HasNumber n (map (statement_of old.table) (stated_by z)) (statement_of old.table l.statement)) (sym f)
-    (says_last old.table old.lines.items l))
+module _ (s : Derivation) (rule : DerivRule) (ns : List ℕ) (st : Statement) where
+  -- the derivation with one more line
+  abbrev pub with_line : Derivation
+  with_line = record { table = s.table; lines = s.lines ++ record { rule = rule; premises = ns; statement = st } ∷ [] }
 
-pub grown_by_none : (s : Derivation) → IsUnderWay s → AddsLines s s
-grown_by_none s h = record { extends = unchanged s.table; derivation = h; stays = λ st w. w }
+  pub line_put : (d : Inside) (ms : List ℕ) (ls : List Line) → view_of d ≡ s
+      → ls ≡ d.lines.items ++ record { rule = rule; premises = ms; statement = st } ∷ [] → ms ≡ ns
+      → view d.table ls ≡ with_line
+  line_put d ms ls e f g =
+      ap (view d.table) (f ∙ ap (λ z. d.lines.items ++ record { rule = rule; premises = z; statement = st } ∷ []) g)
+      ∙ ap (λ (v : Derivation). view v.table (v.lines ++ record { rule = rule; premises = ns; statement = st } ∷ [])) e
 
-pub grows_then : (s t u : Derivation) → AddsLines s t → AddsLines t u → AddsLines s u
-grows_then s t u g h = record {
+  pub says_by_line : (new : Derivation) → new ≡ with_line → States new (statement_of s.table st)
+  says_by_line new e =
+      subst (λ (z : Derivation). States z (statement_of s.table st)) (sym e)
+      (says_last s.table s.lines (record { rule = rule; premises = ns; statement = st }))
+
+  -- A derivation goes on with a line whose rule gives what it states from what earlier lines state.
+  pub continues_by_line : (new : Derivation) → new ≡ with_line → (from : List TermStatement) → AreStated (statements_in s) ns from
+      → ContinuesFrom (λ b. IsInstance b.facts b.params b.written rule from (statement_of s.table st)) s new
+  continues_by_line new e from a =
+      subst (ContinuesFrom (λ b. IsInstance b.facts b.params b.written rule from (statement_of s.table st)) s) (sym e) (record {
+        grows = record {
+          extends = unchanged s.table;
+          stays = λ z y. (y.0, says_before s.table s.lines (record { rule = rule; premises = ns; statement = st }) y.0 z y.1);
+        };
+        derives = λ b i d. line_more b s.table s.lines rule ns from st a i d;
+      })
+
+-- ---- one after the other
+
+pub grown_by_none : (s : Derivation) → AddsLines s s
+grown_by_none s = record { extends = unchanged s.table; stays = λ st w. w }
+
+pub continues_by_none : (Of : Assumptions → Type 0) (s : Derivation) → ContinuesFrom Of s s
+continues_by_none Of s = record { grows = grown_by_none s; derives = λ b i d. d }
+
+pub grows_then : {s t u : Derivation} → AddsLines s t → AddsLines t u → AddsLines s u
+grows_then {s} {t} {u} g h = record {
   extends = onward s.table t.table u.table g.extends h.extends;
-  derivation = h.derivation;
   stays = λ st w. h.stays st (g.stays st w);
 }
+
+pub continues_then : {Of : Assumptions → Type 0} {s t u : Derivation} → ContinuesFrom Of s t → ContinuesFrom Of t u → ContinuesFrom Of s u
+continues_then g h = record { grows = grows_then g.grows h.grows; derives = λ b i d. h.derives b i (g.derives b i d) }
+
+pub continues_anyway : {Of : Assumptions → Type 0} {s t : Derivation} → Continues s t → ContinuesFrom Of s t
+continues_anyway g = record { grows = g.grows; derives = λ b i. g.derives b tt }
+
+-- What goes on from more assumptions goes on from fewer.
+pub continues_if : {Of Under : Assumptions → Type 0} {s t : Derivation} → ((b : Assumptions) → Under b → Of b) → ContinuesFrom Of s t
+    → ContinuesFrom Under s t
+continues_if fewer g = record { grows = g.grows; derives = λ b i. g.derives b (fewer b i) }
 
 -- ---- more type parameters
 
@@ -202,10 +224,6 @@ more_ids old new e (Holds (Conf t p)) h = omega (arith, e.longer, h)
 more_ids old new e (Holds (Layout t)) h = omega (arith, e.longer, h)
 more_ids old new e (Holds (Same t u)) h = (omega (arith, e.longer, h.0), omega (arith, e.longer, h.1))
 
--- the ids in what these lines state are of the table
-abbrev AllIn : List Term → List Line → Type 0
-AllIn terms ls = (k : ℕ) (l : Line) → slice_get ls k ≡ Some l → AreIdsIn terms l.statement
-
 same_lines : (old new : List Term) → Extends old new → (ls : List Line) → AllIn old ls → map (line_of new) ls ≡ map (line_of old) ls
 same_lines old new e [] h = refl
 same_lines old new e (l ∷ ls) h =
@@ -216,29 +234,20 @@ same_said : (old new : List Term) → Extends old new → (ls : List Line) → A
     → map (statement_of new) (stated_by ls) ≡ map (statement_of old) (stated_by ls)
 same_said old new e ls h = sym (statements_are new ls) ∙ ap statements_of (same_lines old new e ls h) ∙ statements_are old ls
 
--- the derivation with another table
-abbrev pub with_table : Derivation → List Term → Derivation
-with_table s terms = record { alloc = s.alloc; table = terms; lines = s.lines; stated = s.stated }
+module _ (s : Derivation) (terms : List Term) (h : AllIn s.table s.lines) (e : Extends s.table terms) where
+  abbrev with_table : Derivation
+  with_table = record { table = terms; lines = s.lines }
 
-pub grown_by_terms : (old new : Derivation) → IsUnderWay old → Extends old.table new.table → new.stated ≡ old.stated
-    → new.lines.items ≡ old.lines.items
-    → AddsLines old new
-grown_by_terms old new h e k f =
-    let g : List Line → Type 0 = λ ls. (AllIn new.table ls
-    × ((z : TermStatement) → States old z → (n : ℕ) × HasNumber n (map (statement_of new.table) (stated_by ls)) z)) in
-    let r : g new.lines.items = subst g (sym f) (
-      (λ k l i. more_ids old.table new.table e l.statement (h.ids k l i)),
-      λ z y. (y.0, subst (λ a. HasNumber y.0 a z) (sym (same_said old.table new.table e old.lines.items h.ids)) y.1),
-    ) in record { extends = e; derivation = record { ids = r.0; stated = k ∙ h.stated ∙ ap stated_by (sym f) }; stays = r.1 }
+  -- The ids in what the lines state are of a table that begins with the old one.
+  pub ids_still : AllIn terms s.lines
+  ids_still k l i = more_ids s.table terms e l.statement (h k l i)
 
-pub kept_by_terms : (b : Assumptions) (old new : Derivation) → IsUnderWay old → Extends old.table new.table → new.lines.items
-    ≡ old.lines.items
-    → StaysDerived b old new
-kept_by_terms b old new h e f d =
-    subst (λ z. IsDerivation b.facts b.params b.written (map (line_of new.table) z)) (sym f)
-    (subst (IsDerivation b.facts b.params b.written) (sym (same_lines old.table new.table e old.lines.items h.ids)) d)
+  -- Type parameters that are added to the table state nothing.
+  pub said_by_terms : statements_in with_table ≡ statements_in s
+  said_by_terms = same_said s.table terms e s.lines h
 
--- type parameters that are added to the table state nothing
-pub said_by_terms : (old new : Derivation) → IsUnderWay old → Extends old.table new.table → new.lines.items ≡ old.lines.items
-    → statements_in new ≡ statements_in old
-said_by_terms old new h e f = ap (λ z. map (statement_of new.table) (stated_by z)) f ∙ same_said old.table new.table e old.lines.items h.ids
+  pub continues_by_terms : Continues s with_table
+  continues_by_terms = record {
+    grows = record { extends = e; stays = λ z y. (y.0, subst (λ a. HasNumber y.0 a z) (sym said_by_terms) y.1) };
+    derives = λ b i d. subst (IsDerivation b.facts b.params b.written) (sym (same_lines s.table terms e s.lines h)) d;
+  }

@@ -1,4 +1,6 @@
+pub mod Inside
 pub mod Keys
 pub mod Marks
 pub mod Needed
 pub mod UnderWay
+pub mod Views

@@ -16,7 +16,7 @@ use Rattle.swreq_derive.specs.Derivation.TermStatement.{Requires}
 use Rattle.swreq_derive.specs.Facts.{statement_of}
 use Rattle.swreq_derive.specs.Instances.{HasNumber, IsDerivation}
 use Rattle.swreq_derive.specs.Lines.{line_of, stated_by}
-use Rattle.swreq_derivation.specs.declared.derivation.Derivation.{Derivation}
+use Rattle.swreq_derivation.specs.Views.{DerivationView as Derivation}
 
 -- What lines are derived from: the facts of a text, and a list of requirements with its generic parameters.
 pub record Assumptions : Type 0 where
@@ -31,14 +31,13 @@ AreIdsIn terms (Holds (Conf t p)) = IsOf terms t
 AreIdsIn terms (Holds (Layout t)) = IsOf terms t
 AreIdsIn terms (Holds (Same t u)) = IsOf terms t × IsOf terms u
 
--- The ids in what the lines state are of the table, and `stated` has what the lines state, in order.
-pub record IsUnderWay (s : Derivation) : Type 0 where
-  pub ids : (k : ℕ) (l : Line) → slice_get s.lines.items k ≡ Some l → AreIdsIn s.table l.statement
-  pub stated : s.stated ≡ stated_by s.lines.items
+-- The ids in what these lines state are of the table.
+abbrev pub AllIn : List Term → List Line → Type 0
+AllIn terms ls = (k : ℕ) (l : Line) → slice_get ls k ≡ Some l → AreIdsIn terms l.statement
 
 -- what the lines state, in order
 abbrev pub statements_in : Derivation → List TermStatement
-statements_in s = map (statement_of s.table) (stated_by s.lines.items)
+statements_in s = map (statement_of s.table) (stated_by s.lines)
 
 -- A line states it.
 abbrev pub States : Derivation → TermStatement → Type 0
@@ -50,7 +49,7 @@ IsPremise s st = AreIdsIn s.table st × States s (statement_of s.table st)
 
 -- The lines are a derivation from the assumptions.
 abbrev pub IsDerivedFrom : Assumptions → Derivation → Type 0
-IsDerivedFrom b s = IsDerivation b.facts b.params b.written (map (line_of s.table) s.lines.items)
+IsDerivedFrom b s = IsDerivation b.facts b.params b.written (map (line_of s.table) s.lines)
 
 -- The two type parameters are identical, or a line states that they are equal.
 abbrev pub AreStatedEqual : Derivation → Term → Term → Type 0
@@ -67,13 +66,17 @@ IsIdOfMember s t x v = IsOf s.table v × (term_at s.table v ≡ Member (term_at 
 -- Lines and type parameters were added. What was stated is still stated, and each id stands for what it stood for.
 pub record AddsLines (old new : Derivation) : Type 0 where
   pub extends : Extends old.table new.table
-  pub derivation : IsUnderWay new
   pub stays : (st : TermStatement) → States old st → States new st
 
 -- If the old lines are a derivation from the assumptions, so are the new ones.
 abbrev pub StaysDerived : Assumptions → Derivation → Derivation → Type 0
 StaysDerived b old new = IsDerivedFrom b old → IsDerivedFrom b new
 
--- Whatever the old lines are a derivation from, the new ones are too.
-abbrev pub IsStillDerived : Derivation → Derivation → Type 0
-IsStillDerived old new = (b : Assumptions) → StaysDerived b old new
+-- Lines and type parameters were added. If the old lines are a derivation from assumptions for which this holds, so are the new ones.
+pub record ContinuesFrom (Holding : Assumptions → Type 0) (old new : Derivation) : Type 0 where
+  pub grows : AddsLines old new
+  pub derives : (b : Assumptions) → Holding b → StaysDerived b old new
+
+-- Lines and type parameters were added. Whatever the old lines are a derivation from, the new ones are too.
+abbrev pub Continues : Derivation → Derivation → Type 0
+Continues = ContinuesFrom (λ b. Unit {0})

@@ -1,53 +1,26 @@
 //! Lines that are added, each with a rule that gives what it states.
-ghost use Rattle.std.specs.Prelude.{◌≡◌, ◌++◌, [], ◌∷◌, OnOk};
+ghost use Rattle.std.specs.Prelude.{◌≡◌, [], ◌∷◌, OnOk};
 ghost use Rattle.std.specs.Bool.{Decides};
+ghost use Rattle.swreq_param.specs.Tables.{IsOf, term_at};
+ghost use Rattle.swreq_derive.specs.Derivation.TermRequirement.{Conforms};
+ghost use Rattle.swreq_derive.specs.Derivation.TermStatement.{Requires};
 ghost use Rattle.swreq_derive.specs.Facts.{statement_of};
 ghost use Rattle.swreq_derive.specs.Instances.{HasNumber, IsInstance};
-ghost use Rattle.swreq_derivation.specs.UnderWay.{AddsLines, AreIdsIn, Assumptions, IsPremise, IsUnderWay, States, StaysDerived, statements_in};
+ghost use Rattle.swreq_derivation.specs.UnderWay.{AreIdsIn, ContinuesFrom, IsPremise, States, statements_in};
 
-use crate::derivation::{Derivation, number_of};
+use crate::derivation::Derivation;
+use crate::statements::conf_statement;
 use std::alloc::AllocError;
-use swreq_derive::{DerivRule, Line, Statement};
-use swreq_text::Seq;
-
-/// Puts a line last. No line states what it states. If memory runs out, the lines stay as they were.
-fn add(
-    derivation: &mut Derivation,
-    rule: DerivRule,
-    premises: Vec<usize>,
-    statement: Statement,
-) -> Result<(), AllocError>
-    requires derivation { IsUnderWay derivation.old }
-    requires ids { AreIdsIn derivation.old.table statement }
-    requires unsaid { States derivation.old (statement_of derivation.old.table statement) → ⊥ }
-    ensures table { derivation.new.table ≡ derivation.old.table }
-    ensures lines { OnOk result (derivation.new.lines.items ≡ derivation.old.lines.items
-        ++ record { rule = rule; premises = premises.items; statement = statement } ∷ []) }
-    ensures grows { AddsLines derivation.old derivation.new }
-{
-    let premises = Seq::new(premises);
-    derivation.lines.push(Line {
-        rule,
-        premises,
-        statement,
-    })?;
-    match derivation.stated.push(statement) {
-        Ok(()) => Ok(()),
-        Err(_) => {
-            let _line = derivation.lines.pop();
-            Err(AllocError)
-        }
-    }
-}
+use swreq_derive::{DerivRule, Statement};
+use swreq_param::{ProtoId, TermId};
 
 /// The number of the line that states this.
 fn premise(derivation: &Derivation, statement: Statement) -> usize
-    requires derivation { IsUnderWay derivation.now }
-    requires said { IsPremise derivation.now statement }
+    requires { IsPremise derivation.now statement }
     ensures { HasNumber result (statements_in derivation.now)
         (statement_of derivation.now.table statement) }
 {
-    match number_of(derivation, statement) {
+    match derivation.number_of(statement) {
         Some(n) => n,
         None => unreachable!(),
     }
@@ -55,11 +28,10 @@ fn premise(derivation: &Derivation, statement: Statement) -> usize
 
 /// Whether a line states this.
 pub fn is_stated(derivation: &Derivation, statement: Statement) -> bool
-    requires derivation { IsUnderWay derivation.now }
-    requires ids { AreIdsIn derivation.now.table statement }
+    requires { AreIdsIn derivation.now.table statement }
     ensures { Decides result (States derivation.now (statement_of derivation.now.table statement)) }
 {
-    match number_of(derivation, statement) {
+    match derivation.number_of(statement) {
         Some(_) => true,
         None => false,
     }
@@ -71,21 +43,17 @@ pub(crate) fn from_none(
     rule: DerivRule,
     gives: Statement,
 ) -> Result<(), AllocError>
-    requires derivation { IsUnderWay derivation.old }
-    requires gives { AreIdsIn derivation.old.table gives }
+    requires { AreIdsIn derivation.old.table gives }
     ensures table { derivation.new.table ≡ derivation.old.table }
     ensures says { OnOk result (States derivation.new (statement_of derivation.old.table gives)) }
-    ensures grows { AddsLines derivation.old derivation.new }
-    ensures derives { OnOk result ((b : Assumptions)
-        → IsInstance b.facts b.params b.written rule [] (statement_of derivation.old.table gives)
-        → StaysDerived b derivation.old derivation.new) }
+    ensures continues { ContinuesFrom (λ b. IsInstance b.facts b.params b.written rule []
+        (statement_of derivation.old.table gives)) derivation.old derivation.new }
 {
     if is_stated(derivation, gives) {
         return Ok(());
     }
-    let premises = Vec::new(derivation.alloc);
-    add(derivation, rule, premises, gives)?;
-    Ok(())
+    let premises = Vec::new(derivation.alloc());
+    derivation.push(rule, premises, gives)
 }
 
 /// States what a rule gives from one premise, unless a line states it.
@@ -95,23 +63,41 @@ pub(crate) fn from_one(
     from: Statement,
     gives: Statement,
 ) -> Result<(), AllocError>
-    requires derivation { IsUnderWay derivation.old }
     requires from { IsPremise derivation.old from }
     requires gives { AreIdsIn derivation.old.table gives }
     ensures table { derivation.new.table ≡ derivation.old.table }
     ensures says { OnOk result (States derivation.new (statement_of derivation.old.table gives)) }
-    ensures grows { AddsLines derivation.old derivation.new }
-    ensures derives { OnOk result ((b : Assumptions) → IsInstance b.facts b.params b.written rule
-        (statement_of derivation.old.table from ∷ []) (statement_of derivation.old.table gives)
-        → StaysDerived b derivation.old derivation.new) }
+    ensures continues { ContinuesFrom (λ b. IsInstance b.facts b.params b.written rule
+        (statement_of derivation.old.table from ∷ []) (statement_of derivation.old.table gives))
+        derivation.old derivation.new }
 {
     if is_stated(derivation, gives) {
         return Ok(());
     }
     let first = premise(derivation, from);
-    let premises = vec![in derivation.alloc; first]?;
-    add(derivation, rule, premises, gives)?;
-    Ok(())
+    let premises = vec![in derivation.alloc(); first]?;
+    derivation.push(rule, premises, gives)
+}
+
+/// States what a rule gives from `[T : P]`, unless a line states it. `subject` is the id of T.
+pub(crate) fn from_conformance(
+    derivation: &mut Derivation,
+    rule: DerivRule,
+    subject: TermId,
+    protocol: ProtoId,
+    gives: Statement,
+) -> Result<(), AllocError>
+    requires subject { IsOf derivation.old.table subject }
+    requires conforms { States derivation.old
+        (Requires (Conforms (term_at derivation.old.table subject) protocol)) }
+    requires gives { AreIdsIn derivation.old.table gives }
+    ensures table { derivation.new.table ≡ derivation.old.table }
+    ensures says { OnOk result (States derivation.new (statement_of derivation.old.table gives)) }
+    ensures continues { ContinuesFrom (λ b. IsInstance b.facts b.params b.written rule
+        (Requires (Conforms (term_at derivation.old.table subject) protocol) ∷ [])
+        (statement_of derivation.old.table gives)) derivation.old derivation.new }
+{
+    from_one(derivation, rule, conf_statement(subject, protocol), gives)
 }
 
 /// States what a rule gives from two premises, unless a line states it.
@@ -121,23 +107,20 @@ pub(crate) fn from_two(
     from: (Statement, Statement),
     gives: Statement,
 ) -> Result<(), AllocError>
-    requires derivation { IsUnderWay derivation.old }
     requires first { IsPremise derivation.old from.0 }
     requires second { IsPremise derivation.old from.1 }
     requires gives { AreIdsIn derivation.old.table gives }
     ensures table { derivation.new.table ≡ derivation.old.table }
     ensures says { OnOk result (States derivation.new (statement_of derivation.old.table gives)) }
-    ensures grows { AddsLines derivation.old derivation.new }
-    ensures derives { OnOk result ((b : Assumptions) → IsInstance b.facts b.params b.written rule
+    ensures continues { ContinuesFrom (λ b. IsInstance b.facts b.params b.written rule
         (statement_of derivation.old.table from.0 ∷ statement_of derivation.old.table from.1 ∷ [])
-        (statement_of derivation.old.table gives) → StaysDerived b derivation.old derivation.new) }
+        (statement_of derivation.old.table gives)) derivation.old derivation.new }
 {
     if is_stated(derivation, gives) {
         return Ok(());
     }
     let first = premise(derivation, from.0);
     let second = premise(derivation, from.1);
-    let premises = vec![in derivation.alloc; first, second]?;
-    add(derivation, rule, premises, gives)?;
-    Ok(())
+    let premises = vec![in derivation.alloc(); first, second]?;
+    derivation.push(rule, premises, gives)
 }

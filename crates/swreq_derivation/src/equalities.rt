@@ -8,9 +8,9 @@ ghost use Rattle.swreq_param.specs.Terms.Term.{Member};
 ghost use Rattle.swreq_derive.specs.Derivation.{Declares};
 ghost use Rattle.swreq_derive.specs.Derivation.TermRequirement.{Conforms, IsAnyObject};
 ghost use Rattle.swreq_derive.specs.Derivation.TermStatement.{Requires};
-ghost use Rattle.swreq_derivation.specs.UnderWay.{AddsLines, AreEqualIds, AreStatedEqual, Assumptions, IsIdOfMember, IsStillDerived, IsUnderWay, States, StaysDerived};
+ghost use Rattle.swreq_derivation.specs.UnderWay.{AreEqualIds, AreStatedEqual, Continues, ContinuesFrom, IsIdOfMember, States};
 
-use crate::adding::{from_one, from_two};
+use crate::adding::{from_conformance, from_one, from_two};
 use crate::derivation::Derivation;
 use crate::statements::{conf_statement, layout_statement, same_statement};
 use std::alloc::AllocError;
@@ -25,13 +25,12 @@ pub fn are_one(derivation: &Derivation, left: TermId, right: TermId) -> bool
         ≡ term_at derivation.now.table right) }
 {
     // If two ids stand for the same type parameter, they are equal.
-    let _count = derivation.table.len();
+    let _count = derivation.table().len();
     left.place == right.place
 }
 
 /// From `[T == U]`: `[U == T]`.
 pub fn add_symm(derivation: &mut Derivation, left: TermId, right: TermId) -> Result<(), AllocError>
-    requires derivation { IsUnderWay derivation.old }
     requires left { IsOf derivation.old.table left }
     requires right { IsOf derivation.old.table right }
     requires equal { AreStatedEqual derivation.old (term_at derivation.old.table left)
@@ -40,8 +39,7 @@ pub fn add_symm(derivation: &mut Derivation, left: TermId, right: TermId) -> Res
     ensures equal { OnOk result
         (AreStatedEqual derivation.new (term_at derivation.old.table right)
         (term_at derivation.old.table left)) }
-    ensures grows { AddsLines derivation.old derivation.new }
-    ensures derives { OnOk result (IsStillDerived derivation.old derivation.new) }
+    ensures continues { Continues derivation.old derivation.new }
 {
     if are_one(derivation, left, right) {
         return Ok(());
@@ -51,8 +49,7 @@ pub fn add_symm(derivation: &mut Derivation, left: TermId, right: TermId) -> Res
         DerivRule::Symm,
         same_statement(left, right),
         same_statement(right, left),
-    )?;
-    Ok(())
+    )
 }
 
 /// From `[T == U]` and `[U == V]`: `[T == V]`.
@@ -62,15 +59,13 @@ pub fn add_trans(
     middle: TermId,
     last: TermId,
 ) -> Result<(), AllocError>
-    requires derivation { IsUnderWay derivation.old }
     requires first { AreEqualIds derivation.old first middle }
     requires second { AreEqualIds derivation.old middle last }
     ensures table { derivation.new.table ≡ derivation.old.table }
     ensures equal { OnOk result
         (AreStatedEqual derivation.new (term_at derivation.old.table first)
         (term_at derivation.old.table last)) }
-    ensures grows { AddsLines derivation.old derivation.new }
-    ensures derives { OnOk result (IsStillDerived derivation.old derivation.new) }
+    ensures continues { Continues derivation.old derivation.new }
 {
     if are_one(derivation, first, last) {
         return Ok(());
@@ -86,8 +81,7 @@ pub fn add_trans(
         DerivRule::Trans,
         (same_statement(first, middle), same_statement(middle, last)),
         same_statement(first, last),
-    )?;
-    Ok(())
+    )
 }
 
 /// From `[U : P]` and `[T == U]`: `[T : P]`. `subject` is the id of T, and `other` that of U.
@@ -97,7 +91,6 @@ pub fn add_same_conf(
     other: TermId,
     protocol: ProtoId,
 ) -> Result<(), AllocError>
-    requires derivation { IsUnderWay derivation.old }
     requires subject { IsOf derivation.old.table subject }
     requires other { IsOf derivation.old.table other }
     requires conforms { States derivation.old
@@ -108,8 +101,7 @@ pub fn add_same_conf(
     ensures conforms { OnOk result
         (States derivation.new (Requires
         (Conforms (term_at derivation.old.table subject) protocol))) }
-    ensures grows { AddsLines derivation.old derivation.new }
-    ensures derives { OnOk result (IsStillDerived derivation.old derivation.new) }
+    ensures continues { Continues derivation.old derivation.new }
 {
     if are_one(derivation, subject, other) {
         return Ok(());
@@ -122,8 +114,7 @@ pub fn add_same_conf(
             same_statement(subject, other),
         ),
         conf_statement(subject, protocol),
-    )?;
-    Ok(())
+    )
 }
 
 /// From `[U : AnyObject]` and `[T == U]`: `[T : AnyObject]`. `subject` is the id of T, and `other` that of U.
@@ -132,7 +123,6 @@ pub fn add_same_layout(
     subject: TermId,
     other: TermId,
 ) -> Result<(), AllocError>
-    requires derivation { IsUnderWay derivation.old }
     requires subject { IsOf derivation.old.table subject }
     requires other { IsOf derivation.old.table other }
     requires object { States derivation.old
@@ -142,8 +132,7 @@ pub fn add_same_layout(
     ensures table { derivation.new.table ≡ derivation.old.table }
     ensures object { OnOk result
         (States derivation.new (Requires (IsAnyObject (term_at derivation.old.table subject)))) }
-    ensures grows { AddsLines derivation.old derivation.new }
-    ensures derives { OnOk result (IsStillDerived derivation.old derivation.new) }
+    ensures continues { Continues derivation.old derivation.new }
 {
     if are_one(derivation, subject, other) {
         return Ok(());
@@ -153,8 +142,7 @@ pub fn add_same_layout(
         DerivRule::SameLayout,
         (layout_statement(other), same_statement(subject, other)),
         layout_statement(subject),
-    )?;
-    Ok(())
+    )
 }
 
 /// From `[U : P]` and `[T == U]`, where P declares A: `[T.A == U.A]`.
@@ -167,7 +155,6 @@ pub fn add_same_name(
     of: (ProtoId, NameId),
     members: (TermId, TermId),
 ) -> Result<(), AllocError>
-    requires derivation { IsUnderWay derivation.old }
     requires conforms { States derivation.old
         (Requires (Conforms (term_at derivation.old.table right) of.0)) }
     requires equal { AreEqualIds derivation.old left right }
@@ -177,10 +164,8 @@ pub fn add_same_name(
     ensures equal { OnOk result
         (AreStatedEqual derivation.new (term_at derivation.old.table members.0)
         (term_at derivation.old.table members.1)) }
-    ensures grows { AddsLines derivation.old derivation.new }
-    ensures derives { OnOk result
-        ((b : Assumptions) (d : AssocId) → Declares b.facts of.0 of.1 d
-        → StaysDerived b derivation.old derivation.new) }
+    ensures continues { ContinuesFrom (λ b. (d : AssocId) × Declares b.facts of.0 of.1 d)
+        derivation.old derivation.new }
 {
     if are_one(derivation, left, right) {
         return Ok(());
@@ -191,8 +176,7 @@ pub fn add_same_name(
         DerivRule::SameName { p, a },
         (conf_statement(right, p), same_statement(left, right)),
         same_statement(members.0, members.1),
-    )?;
-    Ok(())
+    )
 }
 
 /// From `[T : P]`, where P declares A: `[T.[P]A == T.A]`.
@@ -204,7 +188,6 @@ pub fn add_assoc_bind(
     of: (ProtoId, NameId),
     members: (TermId, TermId),
 ) -> Result<(), AllocError>
-    requires derivation { IsUnderWay derivation.old }
     requires subject { IsOf derivation.old.table subject }
     requires first { IsOf derivation.old.table members.0 }
     requires second { IsOf derivation.old.table members.1 }
@@ -214,20 +197,19 @@ pub fn add_assoc_bind(
     ensures equal { OnOk result
         (AreStatedEqual derivation.new (term_at derivation.old.table members.0)
         (term_at derivation.old.table members.1)) }
-    ensures grows { AddsLines derivation.old derivation.new }
-    ensures derives { OnOk result ((b : Assumptions) (d : AssocId) → Declares b.facts of.0 of.1 d
-        → term_at derivation.old.table members.0 ≡ Member
-        (term_at derivation.old.table subject) (Bound d)
-        → term_at derivation.old.table members.1 ≡ Member
-        (term_at derivation.old.table subject) (Name of.1)
-        → StaysDerived b derivation.old derivation.new) }
+    ensures continues { ContinuesFrom (λ b. (d : AssocId) × Declares b.facts of.0 of.1 d
+        × (term_at derivation.old.table members.0
+        ≡ Member (term_at derivation.old.table subject) (Bound d))
+        × (term_at derivation.old.table members.1
+        ≡ Member (term_at derivation.old.table subject) (Name of.1)))
+        derivation.old derivation.new }
 {
     let (p, a) = of;
-    from_one(
+    from_conformance(
         derivation,
         DerivRule::AssocBind { p, a },
-        conf_statement(subject, p),
+        subject,
+        p,
         same_statement(members.0, members.1),
-    )?;
-    Ok(())
+    )
 }

@@ -1,26 +1,24 @@
 //! Derivations under way: what the lines state, how lines are added by the rules of derivation, and which lines the last one needs.
 //!
 //! A call fails only if memory runs out. Whatever it answers, what was stated is still stated, and the table begins with the old one.
-#![tactic(auto, using(crate::proofs::DerivationLemmas::grown_by_none))]
+#![tactic(auto)]
 
 mod adding;
 mod derivation;
 mod equalities;
 mod keeping;
 mod marking;
-mod members;
 mod requirements;
 mod stated;
 mod statements;
 mod validity;
 
 pub use adding::is_stated;
-pub use derivation::{Derivation, number_of};
+pub use derivation::Derivation;
 pub use equalities::{
     add_assoc_bind, add_same_conf, add_same_layout, add_same_name, add_symm, add_trans, are_one,
 };
 pub use keeping::needed;
-pub use members::{member, param};
 pub use requirements::{
     add_assoc_conf, add_assoc_layout, add_assoc_same, add_written_conf, add_written_layout,
     add_written_same,

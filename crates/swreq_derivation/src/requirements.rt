@@ -6,9 +6,9 @@ ghost use Rattle.swreq_derive.specs.Derivation.{for_self};
 ghost use Rattle.swreq_derive.specs.Derivation.TermRequirement.{Conforms, Equals, IsAnyObject};
 ghost use Rattle.swreq_derive.specs.Derivation.TermStatement.{Requires};
 ghost use Rattle.swreq_derive.specs.Instances.{HasNumber};
-ghost use Rattle.swreq_derivation.specs.UnderWay.{AddsLines, AreStatedEqual, Assumptions, IsUnderWay, States, StaysDerived};
+ghost use Rattle.swreq_derivation.specs.UnderWay.{AreStatedEqual, ContinuesFrom, States};
 
-use crate::adding::{from_none, from_one};
+use crate::adding::{from_conformance, from_none};
 use crate::derivation::Derivation;
 use crate::statements::{conf_statement, layout_statement, same_statement};
 use std::alloc::AllocError;
@@ -24,7 +24,6 @@ pub fn add_assoc_conf(
     substituted: TermId,
     protocol: ProtoId,
 ) -> Result<(), AllocError>
-    requires derivation { IsUnderWay derivation.old }
     requires subject { IsOf derivation.old.table subject }
     requires substituted { IsOf derivation.old.table substituted }
     requires conforms { States derivation.old
@@ -33,22 +32,19 @@ pub fn add_assoc_conf(
     ensures conforms { OnOk result
         (States derivation.new (Requires
         (Conforms (term_at derivation.old.table substituted) protocol))) }
-    ensures grows { AddsLines derivation.old derivation.new }
-    ensures derives { OnOk result
-        ((b : Assumptions) (u : Term) → HasNumber of.1 (b.facts.of_protocol of.0)
-        (Conforms u protocol)
-        → term_at derivation.old.table substituted ≡ for_self
-        (term_at derivation.old.table subject) u
-        → StaysDerived b derivation.old derivation.new) }
+    ensures continues { ContinuesFrom (λ b. (u : Term)
+        × HasNumber of.1 (b.facts.of_protocol of.0) (Conforms u protocol)
+        × (term_at derivation.old.table substituted
+        ≡ for_self (term_at derivation.old.table subject) u)) derivation.old derivation.new }
 {
     let (p, n) = of;
-    from_one(
+    from_conformance(
         derivation,
         DerivRule::AssocConf { p, n },
-        conf_statement(subject, p),
+        subject,
+        p,
         conf_statement(substituted, protocol),
-    )?;
-    Ok(())
+    )
 }
 
 /// From `[T : P]` and the n-th requirement `[U : AnyObject]` of P: `[V : AnyObject]`, where V is U with T for `Self`. `subject` is
@@ -59,7 +55,6 @@ pub fn add_assoc_layout(
     of: (ProtoId, u32),
     substituted: TermId,
 ) -> Result<(), AllocError>
-    requires derivation { IsUnderWay derivation.old }
     requires subject { IsOf derivation.old.table subject }
     requires substituted { IsOf derivation.old.table substituted }
     requires conforms { States derivation.old
@@ -68,21 +63,19 @@ pub fn add_assoc_layout(
     ensures object { OnOk result
         (States derivation.new (Requires
         (IsAnyObject (term_at derivation.old.table substituted)))) }
-    ensures grows { AddsLines derivation.old derivation.new }
-    ensures derives { OnOk result
-        ((b : Assumptions) (u : Term) → HasNumber of.1 (b.facts.of_protocol of.0) (IsAnyObject u)
-        → term_at derivation.old.table substituted ≡ for_self
-        (term_at derivation.old.table subject) u
-        → StaysDerived b derivation.old derivation.new) }
+    ensures continues { ContinuesFrom (λ b. (u : Term)
+        × HasNumber of.1 (b.facts.of_protocol of.0) (IsAnyObject u)
+        × (term_at derivation.old.table substituted
+        ≡ for_self (term_at derivation.old.table subject) u)) derivation.old derivation.new }
 {
     let (p, n) = of;
-    from_one(
+    from_conformance(
         derivation,
         DerivRule::AssocLayout { p, n },
-        conf_statement(subject, p),
+        subject,
+        p,
         layout_statement(substituted),
-    )?;
-    Ok(())
+    )
 }
 
 /// From `[T : P]` and the n-th requirement `[U == V]` of P: this requirement with T for `Self`. `sides` are the ids of U and V with T for
@@ -93,7 +86,6 @@ pub fn add_assoc_same(
     of: (ProtoId, u32),
     sides: (TermId, TermId),
 ) -> Result<(), AllocError>
-    requires derivation { IsUnderWay derivation.old }
     requires subject { IsOf derivation.old.table subject }
     requires left { IsOf derivation.old.table sides.0 }
     requires right { IsOf derivation.old.table sides.1 }
@@ -103,21 +95,21 @@ pub fn add_assoc_same(
     ensures equal { OnOk result
         (AreStatedEqual derivation.new (term_at derivation.old.table sides.0)
         (term_at derivation.old.table sides.1)) }
-    ensures grows { AddsLines derivation.old derivation.new }
-    ensures derives { OnOk result
-        ((b : Assumptions) (u v : Term) → HasNumber of.1 (b.facts.of_protocol of.0) (Equals u v)
-        → term_at derivation.old.table sides.0 ≡ for_self (term_at derivation.old.table subject) u
-        → term_at derivation.old.table sides.1 ≡ for_self (term_at derivation.old.table subject) v
-        → StaysDerived b derivation.old derivation.new) }
+    ensures continues { ContinuesFrom (λ b. (u : Term) × (v : Term)
+        × HasNumber of.1 (b.facts.of_protocol of.0) (Equals u v)
+        × (term_at derivation.old.table sides.0
+        ≡ for_self (term_at derivation.old.table subject) u)
+        × (term_at derivation.old.table sides.1
+        ≡ for_self (term_at derivation.old.table subject) v)) derivation.old derivation.new }
 {
     let (p, n) = of;
-    from_one(
+    from_conformance(
         derivation,
         DerivRule::AssocSame { p, n },
-        conf_statement(subject, p),
+        subject,
+        p,
         same_statement(sides.0, sides.1),
-    )?;
-    Ok(())
+    )
 }
 
 /// The n-th written requirement, `[T : P]`.
@@ -127,24 +119,19 @@ pub fn add_written_conf(
     subject: TermId,
     protocol: ProtoId,
 ) -> Result<(), AllocError>
-    requires derivation { IsUnderWay derivation.old }
     requires subject { IsOf derivation.old.table subject }
     ensures table { derivation.new.table ≡ derivation.old.table }
     ensures conforms { OnOk result
         (States derivation.new (Requires
         (Conforms (term_at derivation.old.table subject) protocol))) }
-    ensures grows { AddsLines derivation.old derivation.new }
-    ensures derives { OnOk result
-        ((b : Assumptions) → HasNumber number b.written
-        (Conforms (term_at derivation.old.table subject) protocol)
-        → StaysDerived b derivation.old derivation.new) }
+    ensures continues { ContinuesFrom (λ b. HasNumber number b.written (Conforms
+        (term_at derivation.old.table subject) protocol)) derivation.old derivation.new }
 {
     from_none(
         derivation,
         DerivRule::Conf { n: number },
         conf_statement(subject, protocol),
-    )?;
-    Ok(())
+    )
 }
 
 /// The n-th written requirement, `[T : AnyObject]`.
@@ -153,23 +140,18 @@ pub fn add_written_layout(
     number: u32,
     subject: TermId,
 ) -> Result<(), AllocError>
-    requires derivation { IsUnderWay derivation.old }
     requires subject { IsOf derivation.old.table subject }
     ensures table { derivation.new.table ≡ derivation.old.table }
     ensures object { OnOk result
         (States derivation.new (Requires (IsAnyObject (term_at derivation.old.table subject)))) }
-    ensures grows { AddsLines derivation.old derivation.new }
-    ensures derives { OnOk result
-        ((b : Assumptions) → HasNumber number b.written
-        (IsAnyObject (term_at derivation.old.table subject))
-        → StaysDerived b derivation.old derivation.new) }
+    ensures continues { ContinuesFrom (λ b. HasNumber number b.written (IsAnyObject
+        (term_at derivation.old.table subject))) derivation.old derivation.new }
 {
     from_none(
         derivation,
         DerivRule::Layout { n: number },
         layout_statement(subject),
-    )?;
-    Ok(())
+    )
 }
 
 /// The n-th written requirement, `[T == U]`.
@@ -179,23 +161,19 @@ pub fn add_written_same(
     left: TermId,
     right: TermId,
 ) -> Result<(), AllocError>
-    requires derivation { IsUnderWay derivation.old }
     requires left { IsOf derivation.old.table left }
     requires right { IsOf derivation.old.table right }
     ensures table { derivation.new.table ≡ derivation.old.table }
     ensures equal { OnOk result
         (AreStatedEqual derivation.new (term_at derivation.old.table left)
         (term_at derivation.old.table right)) }
-    ensures grows { AddsLines derivation.old derivation.new }
-    ensures derives { OnOk result ((b : Assumptions)
-        → HasNumber number b.written
-        (Equals (term_at derivation.old.table left) (term_at derivation.old.table right))
-        → StaysDerived b derivation.old derivation.new) }
+    ensures continues { ContinuesFrom (λ b. HasNumber number b.written (Equals
+        (term_at derivation.old.table left) (term_at derivation.old.table right)))
+        derivation.old derivation.new }
 {
     from_none(
         derivation,
         DerivRule::Same { n: number },
         same_statement(left, right),
-    )?;
-    Ok(())
+    )
 }

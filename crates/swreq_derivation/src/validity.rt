@@ -8,9 +8,9 @@ ghost use Rattle.swreq_param.specs.Terms.Term.{Generic, Member};
 ghost use Rattle.swreq_derive.specs.Derivation.{Declares};
 ghost use Rattle.swreq_derive.specs.Derivation.TermRequirement.{Conforms, Equals};
 ghost use Rattle.swreq_derive.specs.Derivation.TermStatement.{IsValid, Requires};
-ghost use Rattle.swreq_derivation.specs.UnderWay.{AddsLines, Assumptions, IsStillDerived, IsUnderWay, States, StaysDerived};
+ghost use Rattle.swreq_derivation.specs.UnderWay.{Continues, ContinuesFrom, States};
 
-use crate::adding::{from_none, from_one};
+use crate::adding::{from_conformance, from_none, from_one};
 use crate::derivation::Derivation;
 use crate::statements::{conf_statement, same_statement, valid_statement};
 use std::alloc::AllocError;
@@ -19,20 +19,15 @@ use swreq_param::{NameId, ProtoId, TermId};
 
 /// A generic parameter of the list is valid.
 pub fn add_generic(derivation: &mut Derivation, subject: TermId) -> Result<(), AllocError>
-    requires derivation { IsUnderWay derivation.old }
     requires subject { IsOf derivation.old.table subject }
     ensures table { derivation.new.table ≡ derivation.old.table }
     ensures valid { OnOk result
         (States derivation.new (IsValid (term_at derivation.old.table subject))) }
-    ensures grows { AddsLines derivation.old derivation.new }
-    ensures derives { OnOk result
-        ((b : Assumptions) (g : ParamId) → term_at derivation.old.table subject ≡ Generic g
-        → Contains b.params
-        g
-        → StaysDerived b derivation.old derivation.new) }
+    ensures continues { ContinuesFrom (λ b. (g : ParamId)
+        × (term_at derivation.old.table subject ≡ Generic g) × Contains b.params g)
+        derivation.old derivation.new }
 {
-    from_none(derivation, DerivRule::Generic, valid_statement(subject))?;
-    Ok(())
+    from_none(derivation, DerivRule::Generic, valid_statement(subject))
 }
 
 /// From `[T : P]`, where P declares A: T.A is valid. `member` is the id of T.A.
@@ -42,7 +37,6 @@ pub fn add_assoc_name(
     of: (ProtoId, NameId),
     member: TermId,
 ) -> Result<(), AllocError>
-    requires derivation { IsUnderWay derivation.old }
     requires subject { IsOf derivation.old.table subject }
     requires member { IsOf derivation.old.table member }
     requires conforms { States derivation.old
@@ -50,20 +44,19 @@ pub fn add_assoc_name(
     ensures table { derivation.new.table ≡ derivation.old.table }
     ensures valid { OnOk result
         (States derivation.new (IsValid (term_at derivation.old.table member))) }
-    ensures grows { AddsLines derivation.old derivation.new }
-    ensures derives { OnOk result ((b : Assumptions) (d : AssocId) → Declares b.facts of.0 of.1 d
-        → term_at derivation.old.table member ≡ Member
-        (term_at derivation.old.table subject) (Name of.1)
-        → StaysDerived b derivation.old derivation.new) }
+    ensures continues { ContinuesFrom (λ b. (d : AssocId) × Declares b.facts of.0 of.1 d
+        × (term_at derivation.old.table member
+        ≡ Member (term_at derivation.old.table subject) (Name of.1)))
+        derivation.old derivation.new }
 {
     let (p, a) = of;
-    from_one(
+    from_conformance(
         derivation,
         DerivRule::AssocName { p, a },
-        conf_statement(subject, p),
+        subject,
+        p,
         valid_statement(member),
-    )?;
-    Ok(())
+    )
 }
 
 /// From `[T : P]`, where P declares A: `T.[P]A` is valid. `member` is the id of `T.[P]A`.
@@ -73,7 +66,6 @@ pub fn add_assoc_decl(
     of: (ProtoId, NameId),
     member: TermId,
 ) -> Result<(), AllocError>
-    requires derivation { IsUnderWay derivation.old }
     requires subject { IsOf derivation.old.table subject }
     requires member { IsOf derivation.old.table member }
     requires conforms { States derivation.old
@@ -81,39 +73,34 @@ pub fn add_assoc_decl(
     ensures table { derivation.new.table ≡ derivation.old.table }
     ensures valid { OnOk result
         (States derivation.new (IsValid (term_at derivation.old.table member))) }
-    ensures grows { AddsLines derivation.old derivation.new }
-    ensures derives { OnOk result ((b : Assumptions) (d : AssocId) → Declares b.facts of.0 of.1 d
-        → term_at derivation.old.table member ≡ Member
-        (term_at derivation.old.table subject) (Bound d)
-        → StaysDerived b derivation.old derivation.new) }
+    ensures continues { ContinuesFrom (λ b. (d : AssocId) × Declares b.facts of.0 of.1 d
+        × (term_at derivation.old.table member
+        ≡ Member (term_at derivation.old.table subject) (Bound d))) derivation.old derivation.new }
 {
     let (p, a) = of;
-    from_one(
+    from_conformance(
         derivation,
         DerivRule::AssocDecl { p, a },
-        conf_statement(subject, p),
+        subject,
+        p,
         valid_statement(member),
-    )?;
-    Ok(())
+    )
 }
 
 /// From a valid T: `[T == T]`.
 pub fn add_reflex(derivation: &mut Derivation, subject: TermId) -> Result<(), AllocError>
-    requires derivation { IsUnderWay derivation.old }
     requires subject { IsOf derivation.old.table subject }
     requires valid { States derivation.old (IsValid (term_at derivation.old.table subject)) }
     ensures table { derivation.new.table ≡ derivation.old.table }
     ensures equal { OnOk result (States derivation.new
         (Requires (Equals (term_at derivation.old.table subject)
         (term_at derivation.old.table subject)))) }
-    ensures grows { AddsLines derivation.old derivation.new }
-    ensures derives { OnOk result (IsStillDerived derivation.old derivation.new) }
+    ensures continues { Continues derivation.old derivation.new }
 {
     from_one(
         derivation,
         DerivRule::Reflex,
         valid_statement(subject),
         same_statement(subject, subject),
-    )?;
-    Ok(())
+    )
 }

@@ -1,5 +1,5 @@
 -- The table of rules, over the ids of a table of type parameters: what each rule says of the statements of lines.
-use Rattle.std.proofs.Common.{◌≡◌, ℕ, zero, suc, nat_eq, true, ◌-◌, List, [], ◌∷◌, Some, Contains, map, slice_get, refl, sym, ap, subst, ◌∙◌, ◌↔◌}
+use Rattle.std.proofs.Common.{◌≡◌, ℕ, nat_eq, true, ◌-◌, List, [], ◌∷◌, Some, Contains, map, refl, sym, ap, subst, ◌∙◌, ◌↔◌}
 use Rattle.std.proofs.lemmas.Bool.{eqb-true, eq-eqb}
 use Rattle.std.proofs.lemmas.Option.{slice_get_within, get_or_from_slice_get}
 use Rattle.swreq_param.specs.declared.ids.ParamId.{ParamId}

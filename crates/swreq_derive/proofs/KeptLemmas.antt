@@ -1,5 +1,5 @@
 -- What is left of a family derives the same, and none of it can be left out.
-use Rattle.std.proofs.Common.{◌≡◌, Bool, true, false, List, [], ◌∷◌, ◌++◌, Contains, refl, sym, subst, ◌⊎◌, inl, inr, append_assoc, nat_eq, if◌then◌else◌}
+use Rattle.std.proofs.Common.{◌≡◌, Bool, true, List, [], ◌∷◌, ◌++◌, Contains, sym, subst, inl, inr, append_assoc, nat_eq}
 use Rattle.std.proofs.lemmas.List.Elements.{Contains-append_left, Contains-append_right, Contains-append_cases}
 use Rattle.swreq_param.specs.declared.ids.ProtoId.{ProtoId}
 use Rattle.swreq_derive.specs.Derivation.{TermRequirement, TermStatement, AssociatedType, Source, Derives, Derivable}

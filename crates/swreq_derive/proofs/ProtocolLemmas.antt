@@ -1,5 +1,5 @@
 -- The rules that take something from a protocol, over the ids of a table of type parameters.
-use Rattle.std.proofs.Common.{◌≡◌, ℕ, ◌<◌, List, [], ◌∷◌, Contains, map, refl, ap, subst, ◌∙◌, ◌↔◌}
+use Rattle.std.proofs.Common.{◌≡◌, ℕ, ◌<◌, List, [], ◌∷◌, Contains, map, refl, sym, ap, subst, ◌∙◌, ◌↔◌}
 use Rattle.swreq_param.specs.declared.ids.AssocId.{AssocId}
 use Rattle.swreq_param.specs.declared.ids.NameId.{NameId}
 use Rattle.swreq_param.specs.declared.ids.ProtoId.{ProtoId}
@@ -136,6 +136,13 @@ assoc_same_given terms m p q n f c t u v x y e g k =
           ((cc), (cc), cc)),
     )
 
+-- a premise that says that something conforms to P is of P
+pub same_protocol : (terms : List Term) (p q : ProtoId) (t : TermId) (f : Statement) (u : Term) → f ≡ Holds (Conf t q)
+    → map (statement_of terms) (f ∷ []) ≡ Requires (Conforms u p) ∷ [] → q ≡ p
+same_protocol terms p q t f u e g =
+    let s : statement_of terms f ≡ Requires (Conforms (term_at terms t) q) = ap (statement_of terms) e in
+    let i : statement_of terms f ∷ [] ≡ Requires (Conforms u p) ∷ [] = g in cc
+
 -- From [U : P] and [T == U] the members T.X and U.X are equal, where X is what P makes of a declared name.
 same_member_given : (terms : List Term) (m : IdFacts) (member : AssocId → Step) (p : ProtoId) (a : NameId) (x : AssocId)
     (f s c : Statement) (t u l r : TermId)
@@ -188,18 +195,25 @@ same_decl_given terms m p a x f s c t u l r d one h o e g k =
 pub requirement_same : {r x : Requirement} → Holds r ≡ Holds x → r ≡ x
 requirement_same e = cc
 
-pub used_is_of : (terms : List Term) (m : IdFacts) (p : ProtoId) (n : ℕ) (r x : Requirement) → AreFactsOf terms m → p.rank < m.protocols
-    → HasNumber n (m.of_protocol p) r → Holds r ≡ Holds x → IsRequirementOver terms m x
-used_is_of terms m p n r x f h k e =
-    subst (λ z. IsRequirementOver terms m z) (requirement_same e) (f.protocols p r h (contains_number n (m.of_protocol p) r k))
+-- what is read as a requirement of a protocol by its number is one
+pub number_read : (m : IdFacts) (p : ProtoId) (n : ℕ) (r : Requirement) {list : List Requirement} → list ≡ m.of_protocol p
+    → HasNumber n list r → HasNumber n (m.of_protocol p) r
+number_read m p n r e h = subst (λ z. HasNumber n z r) e h
 
-pub number_used : (m : IdFacts) (p : ProtoId) (n : ℕ) (r x : Requirement) → HasNumber n (m.of_protocol p) r → Holds r ≡ Holds x
-    → HasNumber n (m.of_protocol p) x
-number_used m p n r x h e = subst (λ z. HasNumber n (m.of_protocol p) z) (requirement_same e) h
+pub number_used : (m : IdFacts) (p : ProtoId) (n : ℕ) (r x : Requirement) {list : List Requirement} → list ≡ m.of_protocol p
+    → HasNumber n list r → Holds r ≡ Holds x → HasNumber n (m.of_protocol p) x
+number_used m p n r x e h same =
+    subst (λ z. HasNumber n (m.of_protocol p) z) (requirement_same same) (number_read m p n r e h)
 
-pub no_requirement : (terms : List Term) (m : IdFacts) (p : ProtoId) (n : ℕ) → ((r : Requirement) → HasNumber n (m.of_protocol p) r → ⊥)
+pub used_is_of : (terms : List Term) (m : IdFacts) (p : ProtoId) (n : ℕ) (x : Requirement) → AreFactsOf terms m → p.rank < m.protocols
+    → HasNumber n (m.of_protocol p) x → IsRequirementOver terms m x
+used_is_of terms m p n x f h k = f.protocols p x h (contains_number n (m.of_protocol p) x k)
+
+pub no_requirement : (terms : List Term) (m : IdFacts) (p : ProtoId) (n : ℕ) {list : List Requirement} → list ≡ m.of_protocol p
+    → ((r : Requirement) → HasNumber n list r → ⊥)
     → (x : TermRequirement) → HasNumber n (map (requirement_of terms) (m.of_protocol p)) x → ⊥
-no_requirement terms m p n none x h = let k = number_map (requirement_of terms) n (m.of_protocol p) x h in none k.0 k.1
+no_requirement terms m p n e none x h =
+    let k = number_map (requirement_of terms) n (m.of_protocol p) x h in none k.0 (subst (λ z. HasNumber n z k.0) (sym e) k.1)
 
 used : (terms : List Term) (m : IdFacts) (p : ProtoId) (n : ℕ) (r : Requirement) (x : TermRequirement) → HasNumber n (m.of_protocol p) r
     → HasNumber n (map (requirement_of terms) (m.of_protocol p)) x → statement_of terms (Holds r) ≡ Requires x

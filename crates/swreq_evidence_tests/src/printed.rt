@@ -85,7 +85,8 @@ fn put_line(
         &query,
         &mut scratch,
         out,
-    )
+    )?;
+    Ok(())
 }
 
 /// Appends the line that answers a query of a requirement or a type.

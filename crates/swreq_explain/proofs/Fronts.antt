@@ -10,7 +10,7 @@ use Rattle.swreq_derive.specs.Instances.{Follows, HasNumber, TermLine, statement
 use Rattle.swreq_derive.specs.Lines.{AreDerived, line_of, stated_by}
 use Rattle.swreq_derive.proofs.LineLemmas.{get_take}
 use Rattle.swreq_derivation.specs.declared.derivation.Derivation.{Derivation}
-use Rattle.swreq_derivation.specs.UnderWay.{AreIdsIn, IsUnderWay, statements_in}
+use Rattle.swreq_derivation.specs.UnderWay.{AllIn, AreIdsIn, statements_in}
 use Rattle.swreq_derivation.proofs.DerivationLemmas.{same_ids}
 use Rattle.swreq_derivation.specs.Needed.{AreSomeOf, EndIn}
 
@@ -43,14 +43,16 @@ front_ends ls n l (above, at) =
     let e : suc (n - 1) ≡ n = omega (arith, above) in
     (take (n - 1) ls, l, ap (λ k. take k ls) (sym e) ∙ take_one ls (n - 1) l at, refl)
 
-pub some_of_front : (some ls : List Line) (n : ℕ) → AreSomeOf some (take n ls) → AreSomeOf some ls
-some_of_front some ls n h k l e = let (j, a, at, rule, statement) = h k l e in (j, a, in_whole ls n j a at, rule, statement)
+-- The ids in what some of the first lines state are of the table if those of all lines are.
+pub front_ids : (terms : List Term) (some ls : List Line) (n : ℕ) → AllIn terms ls → AreSomeOf some (take n ls) → AllIn terms some
+front_ids terms some ls n ids h k l e =
+    let (j, a, at, rule, statement) = h k l e in subst (AreIdsIn terms) (sym statement) (ids j a (in_whole ls n j a at))
 
 -- the line whose statement has this number
-pub line_said : (s : Derivation) (st : Statement) (n : ℕ) → IsUnderWay s → AreDistinct s.table → AreIdsIn s.table st
-    → HasNumber n (statements_in s) (statement_of s.table st) → (l : Line) × HasNumber n s.lines.items l × (l.statement ≡ st)
-line_said s st n derivation distinct ids (above, at) =
-    let (x, at_x, same_x) = get_of_map (statement_of s.table) (stated_by s.lines.items) (n - 1) (statement_of s.table st) at in
-    let (l, at_l, same_l) = get_of_map (λ (z : Line). z.statement) s.lines.items (n - 1) x at_x in
-    let of_l = derivation.ids (n - 1) l at_l in
+pub line_said : (s : Derivation) (st : Statement) (n : ℕ) → AllIn s.table s.lines → AreDistinct s.table → AreIdsIn s.table st
+    → HasNumber n (statements_in s) (statement_of s.table st) → (l : Line) × HasNumber n s.lines l × (l.statement ≡ st)
+line_said s st n all distinct ids (above, at) =
+    let (x, at_x, same_x) = get_of_map (statement_of s.table) (stated_by s.lines) (n - 1) (statement_of s.table st) at in
+    let (l, at_l, same_l) = get_of_map (λ (z : Line). z.statement) s.lines (n - 1) x at_x in
+    let of_l = all (n - 1) l at_l in
     (l, (above, at_l), same_ids s.table distinct l.statement st of_l ids (ap (statement_of s.table) same_l ∙ same_x))

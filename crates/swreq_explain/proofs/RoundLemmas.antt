@@ -19,12 +19,6 @@ use Rattle.swreq_explain.specs.Uses.{HaveFlags}
 
 -- ---- flags
 
--- flags that are all false have none set
-pub none_set : (n k : ℕ) → slice_get (replicate n false) k ≡ Some true → ⊥
-none_set zero k e = cc
-none_set (suc n) zero e = cc
-none_set (suc n) (suc k) e = none_set n k e
-
 module _ {A : Type 0} where
   -- what the flags choose from a list stands in the list
   pub chosen_of : (xs : List A) (bs : List Bool) (k : ℕ) (x : A) → slice_get (chosen xs bs) k ≡ Some x → (j : ℕ) × (slice_get xs j ≡ Some x)

@@ -18,11 +18,12 @@ use Rattle.swreq_births.specs.Systems.{IsShown, source_of}
 use Rattle.swreq_births.specs.Types.{IsStepShown}
 use Rattle.swreq_births.proofs.Ends.{alike_back}
 use Rattle.swreq_explain.proofs.NumberingLemmas.{spell_append}
-use Rattle.swreq_param.specs.Tables.{term_at}
+use Rattle.swreq_param.specs.Tables.{IsOf, term_at}
 use Rattle.swreq_param.specs.Terms.{Term}
 use Rattle.swreq_word.specs.declared.symbols.Symbol.{Symbol}
 use Rattle.swreq_derivation.specs.declared.derivation.Derivation.{Derivation}
 use Rattle.swreq_derivation.specs.UnderWay.{AddsLines, AreEqualIds, AreStatedEqual}
+use Rattle.swreq_derivation.proofs.DerivationLemmas.{grows_then}
 use Rattle.swreq_readings.specs.Readable.{AllowsSymbol, AllowsWord}
 use Rattle.swreq_readings.proofs.ReadingLemmas.{equal_as, equal_still, is_still, term_still, word_right, word_still}
 use Rattle.swreq_explain.specs.declared.sides.RoundReader.{RoundReader}
@@ -31,7 +32,7 @@ use Rattle.swreq_explain.specs.declared.sides.WordOfType.{WordOfType}
 use Rattle.swreq_explain.specs.Stating.{IsReadAt, IsReady, alphabet_at}
 
 pub ready_still : (d : RoundReader) (s u : Derivation) → AddsLines s u → IsReady d s → IsReady d u
-ready_still d s u g h = record { system = h.system; derivation = g.derivation; t = is_still s u g d.t h.t }
+ready_still d s u g h = record { system = h.system; t = is_still s u g d.t h.t }
 
 module _ (d : RoundReader) (x : WordOfType) (t : Term) where
   pub read_still : (s u : Derivation) → AddsLines s u → (r : ReadAs) → IsReadAt d x t s r → IsReadAt d x t u r
@@ -56,6 +57,20 @@ module _ (d : RoundReader) (x : WordOfType) (t : Term) where
   vanished s r y longer h e w =
       let split = subst (AllowsWord (alphabet_at d) s t) e w in
       subst (λ z. AllowsSymbol (alphabet_at d) s z y) (sym h.word) (word_right (alphabet_at d) s t x.word.now (y ∷ []) split).0
+
+-- If lines allow the word of a side with one symbol more, the side is still read, and they allow the symbol after what its word is read as.
+pub record IsLinked (d : RoundReader) (x : WordOfType) (t : Term) (s : Derivation) (r : ReadAs) (y : Symbol) : Type 0 where
+  pub read : IsReadAt d x t s r
+  pub allows : AllowsSymbol (alphabet_at d) s (term_at s.table r.word) y
+
+pub linked : (d : RoundReader) (x : WordOfType) (s n u v : Derivation) → AddsLines s n → AddsLines n u → AddsLines u v → IsOf s.table d.t
+    → (r : ReadAs) (y : Symbol) (longer : List Symbol) → IsReadAt d x (term_at s.table d.t) n r → longer ≡ x.word.now ++ y ∷ []
+    → AllowsWord (alphabet_at d) v (term_at u.table d.t) longer → IsLinked d x (term_at s.table d.t) v r y
+linked d x s n u v f g h i r y longer read e word =
+    let t = term_at s.table d.t in
+    let now = read_still d x t n v (grows_then g h) r read in
+    let allowed = subst (λ z. AllowsWord (alphabet_at d) v z longer) (term_still s u (grows_then f g) d.t i) word in
+    record { read = now; allows = vanished d x t v r y longer now e allowed }
 
 -- ---- the base of a member
 

@@ -18,9 +18,8 @@ use Rattle.swreq_lowering.specs.declared.ids.FuncId.{FuncId}
 use Rattle.swreq_lowering.specs.declared.ids.Query.{Query}
 use Rattle.swreq_lowering.specs.declared.ids.Query.TheVariants as queries
 use Rattle.swreq_lowering.specs.Requirements.{PlacedRequirement}
-use Rattle.swreq_derivation.specs.UnderWay.{AddsLines, AreIdsIn, Assumptions, IsDerivedFrom, StaysDerived}
+use Rattle.swreq_derivation.specs.UnderWay.{AllIn, AreIdsIn, Assumptions, ContinuesFrom, IsDerivedFrom}
 use Rattle.swreq_derivation.specs.declared.derivation.Derivation.{Derivation}
-use Rattle.swreq_derivation.specs.Needed.{AreSomeOf}
 use Rattle.swreq_births.specs.declared.history.History.{History}
 use Rattle.swreq_births.specs.declared.history.Equation.{Equation}
 use Rattle.swreq_births.specs.declared.history.System.{System}
@@ -168,24 +167,21 @@ module _ (old new : List Term) (more : Extends old new) where
       }
 
 -- What is written in a derivation without lines is written over its table.
-pub written_over : (old : List Term) (s0 s : Derivation) (history : History) (ls : List Line) → s0.table ≡ old → s0.lines.items ≡ []
-    → AddsLines s0 s
-    → ((b : Assumptions) → FitsHistory history b → StaysDerived b s0 s)
-    → ((m : IdFacts) → AreDerived s.table m s.lines.items → AreDerived s.table m ls)
-    → AreSomeOf ls s.lines.items → AreWritten old s.table history ls
-written_over old s0 s history ls same none grows keeps part some = record {
-  extends = subst (λ z. Extends z s.table) same grows.extends;
-  derived = λ b m fits over. part m (of b m over (keeps b fits (first b)));
-  ids = λ k l e. (let (j, a, at, rule, statement) = some k l e in subst (AreIdsIn s.table) (sym statement) (grows.derivation.ids j a at));
+pub written_over : (s0 s : Derivation) (history : History) (ls : List Line) → s0.lines ≡ [] → ContinuesFrom (FitsHistory history) s0 s
+    → ((m : IdFacts) → AreDerived s.table m s.lines → AreDerived s.table m ls) → AllIn s.table ls → AreWritten s0.table s.table history ls
+written_over s0 s history ls none continues part ids = record {
+  extends = continues.grows.extends;
+  derived = λ b m fits over. part m (of b m over (continues.derives b fits (first b)));
+  ids = ids;
 }
   where
     first : (b : Assumptions) → IsDerivedFrom b s0
     first b = subst (λ (z : List Line). IsDerivation b.facts b.params b.written (map (line_of s0.table) z)) (sym none) (λ k l e. cc)
 
-    of : (b : Assumptions) (m : IdFacts) → IsAssumptionsOver s.table m b → IsDerivedFrom b s → AreDerived s.table m s.lines.items
+    of : (b : Assumptions) (m : IdFacts) → IsAssumptionsOver s.table m b → IsDerivedFrom b s → AreDerived s.table m s.lines
     of b m over d =
         subst (λ (z : TermFacts).
-        IsDerivation z (generic_params m.params) (map (requirement_of s.table) m.written) (map (line_of s.table) s.lines.items)) over.facts
-        (subst (λ (z : List ParamId). IsDerivation b.facts z (map (requirement_of s.table) m.written) (map (line_of s.table) s.lines.items))
+        IsDerivation z (generic_params m.params) (map (requirement_of s.table) m.written) (map (line_of s.table) s.lines)) over.facts
+        (subst (λ (z : List ParamId). IsDerivation b.facts z (map (requirement_of s.table) m.written) (map (line_of s.table) s.lines))
         over.params
-        (subst (λ (z : List TermRequirement). IsDerivation b.facts b.params z (map (line_of s.table) s.lines.items)) over.written d))
+        (subst (λ (z : List TermRequirement). IsDerivation b.facts b.params z (map (line_of s.table) s.lines)) over.written d))

@@ -16,7 +16,8 @@ use Rattle.swreq_valid.specs.Rounds.{AreRounds, RoundView}
 use Rattle.swreq_explain.specs.declared.numbered.Numbered.{Numbered}
 use Rattle.swreq_explain.specs.Uses.{Course, Uses, UsesFirst}
 use Rattle.swreq_complete.proofs.Alike.{linked_are_alike}
-use Rattle.swreq_explain.proofs.RoundLemmas.{ended_complete, left_at, more_holds, none_at_first, none_set, set_holds}
+use Rattle.swreq_valid.proofs.Flagged.{none_set}
+use Rattle.swreq_explain.proofs.RoundLemmas.{ended_complete, left_at, more_holds, none_at_first, set_holds}
 
 -- The first round that uses a requirement comes no later than any round that uses it.
 pub first_within : (rounds : List RoundView) (first k place : ℕ) → UsesFirst rounds first place → Uses rounds k place → first ≤ k

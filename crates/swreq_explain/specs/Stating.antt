@@ -9,7 +9,7 @@ use Rattle.swreq_complete.specs.Alike.{ReduceAlike}
 use Rattle.swreq_readings.specs.declared.alphabet.Alphabet.{Alphabet}
 use Rattle.swreq_readings.specs.Readable.{AllowsWord, read_word}
 use Rattle.swreq_derivation.specs.declared.derivation.Derivation.{Derivation}
-use Rattle.swreq_derivation.specs.UnderWay.{AreStatedEqual, IsUnderWay}
+use Rattle.swreq_derivation.specs.UnderWay.{AreStatedEqual}
 use Rattle.swreq_births.specs.Systems.{HasSystem, IsShown, rules_at}
 use Rattle.swreq_explain.specs.declared.sides.RoundReader.{RoundReader}
 use Rattle.swreq_explain.specs.declared.sides.ReadAs.{ReadAs}
@@ -25,7 +25,6 @@ rules_of d = rules_at d.history.now d.system
 -- The history has the system, and the type parameter after which words are read is of the derivation's table.
 pub record IsReady (d : RoundReader) (s : Derivation) : Type 0 where
   pub system : HasSystem d.history.now d.system
-  pub derivation : IsUnderWay s
   pub t : IsOf s.table d.t
 
 -- The rules show that the type parameter is valid over the list, and this is its word.

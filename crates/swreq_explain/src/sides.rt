@@ -1,8 +1,8 @@
 //! The type parameters of a requirement, read in a derivation.
-ghost use Rattle.std.specs.Prelude.{IfOk, OnOk};
+ghost use Rattle.std.specs.Prelude.{IfOk};
 ghost use Rattle.swreq_param.specs.Tables.{term_at};
-ghost use Rattle.swreq_derivation.specs.UnderWay.{AddsLines};
-ghost use Rattle.swreq_births.specs.Systems.{IsStillDerivedBy};
+ghost use Rattle.swreq_derivation.specs.UnderWay.{ContinuesFrom};
+ghost use Rattle.swreq_births.specs.Systems.{FitsHistory};
 ghost use Rattle.swreq_explain.specs.Stating.{IsReadAt, IsReady, IsWordOf};
 
 use std::alloc::{AllocError, Global};
@@ -47,9 +47,8 @@ pub(crate) fn read_side(
     ensures read { IfOk result
         (IsReadAt reader.entry side.entry
         (term_at derivation.old.table reader.entry.t) derivation.new) }
-    ensures grows { AddsLines derivation.old derivation.new }
-    ensures derives { OnOk result
-        (IsStillDerivedBy reader.entry.history.now derivation.old derivation.new) }
+    ensures continues { ContinuesFrom (FitsHistory reader.entry.history.now) derivation.old
+        derivation.new }
 {
     let scope = ReadingPlace {
         system: reader.system,

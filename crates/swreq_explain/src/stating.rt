@@ -6,8 +6,8 @@ ghost use Rattle.swreq_derive.specs.Derivation.TermRequirement.{Conforms, Equals
 ghost use Rattle.swreq_derive.specs.Derivation.TermStatement.{Requires};
 ghost use Rattle.swreq_word.specs.declared.symbols.Symbol.TheVariants.{Layout, Proto};
 ghost use Rattle.swreq_complete.specs.Alike.{ReduceAlike};
-ghost use Rattle.swreq_derivation.specs.UnderWay.{AddsLines, AreStatedEqual, States};
-ghost use Rattle.swreq_births.specs.Systems.{HasShownSides, IsStillDerivedBy, requirement_by};
+ghost use Rattle.swreq_derivation.specs.UnderWay.{AreStatedEqual, ContinuesFrom, States};
+ghost use Rattle.swreq_births.specs.Systems.{FitsHistory, HasShownSides, requirement_by};
 ghost use Rattle.swreq_explain.specs.Stating.{IsReady, IsWordOf, Vanishes, alphabet_at, rules_of};
 
 use crate::sides::{RoundReader, WordOfType, read_side};
@@ -31,9 +31,8 @@ pub(crate) fn state_conformance(
     requires vanishes { Vanishes reader side (Proto p.rank) longer.now }
     ensures says { OnOk result
         (States derivation.new (Requires (Conforms (as_term side.entry.param.now) p))) }
-    ensures grows { AddsLines derivation.old derivation.new }
-    ensures derives { OnOk result
-        (IsStillDerivedBy reader.entry.history.now derivation.old derivation.new) }
+    ensures continues { ContinuesFrom (FitsHistory reader.entry.history.now) derivation.old
+        derivation.new }
 {
     let ids = read_side(reader, derivation, side)?;
     if conform_by_member(reader.history, derivation, ids.itself, p)? {
@@ -63,9 +62,8 @@ pub(crate) fn state_layout(
     requires vanishes { Vanishes reader side Layout longer.now }
     ensures says { OnOk result
         (States derivation.new (Requires (IsAnyObject (as_term side.entry.param.now)))) }
-    ensures grows { AddsLines derivation.old derivation.new }
-    ensures derives { OnOk result
-        (IsStillDerivedBy reader.entry.history.now derivation.old derivation.new) }
+    ensures continues { ContinuesFrom (FitsHistory reader.entry.history.now) derivation.old
+        derivation.new }
 {
     let ids = read_side(reader, derivation, side)?;
     link(
@@ -99,9 +97,8 @@ pub(crate) fn equate(
     ensures equal { OnOk result
         (AreStatedEqual derivation.new (as_term left.entry.param.now)
         (as_term right.entry.param.now)) }
-    ensures grows { AddsLines derivation.old derivation.new }
-    ensures derives { OnOk result
-        (IsStillDerivedBy reader.entry.history.now derivation.old derivation.new) }
+    ensures continues { ContinuesFrom (FitsHistory reader.entry.history.now) derivation.old
+        derivation.new }
 {
     let first = read_side(reader, derivation, left)?;
     let last = read_side(reader, derivation, right)?;
@@ -132,9 +129,8 @@ fn state_equality(
     requires alike { ReduceAlike (rules_of reader) right.word.now left.word.now }
     ensures says { OnOk result (States derivation.new
         (Requires (Equals (as_term left.entry.param.now) (as_term right.entry.param.now)))) }
-    ensures grows { AddsLines derivation.old derivation.new }
-    ensures derives { OnOk result
-        (IsStillDerivedBy reader.entry.history.now derivation.old derivation.new) }
+    ensures continues { ContinuesFrom (FitsHistory reader.entry.history.now) derivation.old
+        derivation.new }
 {
     let (t, u) = equate(reader, derivation, left, right)?;
     if are_one(derivation, t, u) {
@@ -156,9 +152,8 @@ pub(crate) fn state_requirement(
         (rules_of reader) r.now left.now right.now }
     requires alike { ReduceAlike (rules_of reader) right.now left.now }
     ensures says { OnOk result (States derivation.new (Requires (requirement_by r.now))) }
-    ensures grows { AddsLines derivation.old derivation.new }
-    ensures derives { OnOk result
-        (IsStillDerivedBy reader.entry.history.now derivation.old derivation.new) }
+    ensures continues { ContinuesFrom (FitsHistory reader.entry.history.now) derivation.old
+        derivation.new }
 {
     match r {
         OwnedRequirement::Conf { subject, proto } => {

@@ -5,17 +5,16 @@ ghost use Rattle.swreq_param.specs.Owned.{as_term};
 ghost use Rattle.swreq_param.specs.Terms.Term.{Generic, Member};
 ghost use Rattle.swreq_derive.specs.Derivation.TermRequirement.{Equals};
 ghost use Rattle.swreq_derive.specs.Derivation.TermStatement.{IsValid, Requires};
-ghost use Rattle.swreq_derivation.specs.UnderWay.{AddsLines, AreStatedEqual, States};
+ghost use Rattle.swreq_derivation.specs.UnderWay.{AreStatedEqual, ContinuesFrom, States};
 ghost use Rattle.swreq_readings.specs.Readable.{IsGiven};
-ghost use Rattle.swreq_births.specs.Systems.{IsStillDerivedBy};
+ghost use Rattle.swreq_births.specs.Systems.{FitsHistory};
 ghost use Rattle.swreq_explain.specs.Stating.{IsReady, IsWordOf, alphabet_at};
 
 use crate::sides::{ReadAs, RoundReader, WordOfType, read_side};
 use std::alloc::{AllocError, Global};
 use swreq_births::{ReadingPlace, declare};
 use swreq_derivation::{
-    Derivation, add_assoc_decl, add_assoc_name, add_generic, add_reflex, add_same_conf, member,
-    param,
+    Derivation, add_assoc_decl, add_assoc_name, add_generic, add_reflex, add_same_conf,
 };
 use swreq_param::{Step, TermId, TypeParam};
 use swreq_readings::Named;
@@ -60,11 +59,10 @@ fn validate_member(
         (term_at derivation.old.table base.itself) step) }
     ensures says { OnOk result
         (States derivation.new (IsValid (Member (term_at derivation.old.table base.itself) step))) }
-    ensures grows { AddsLines derivation.old derivation.new }
-    ensures derives { OnOk result
-        (IsStillDerivedBy reader.entry.history.now derivation.old derivation.new) }
+    ensures continues { ContinuesFrom (FitsHistory reader.entry.history.now) derivation.old
+        derivation.new }
 {
-    let v = member(derivation, base.itself, step)?;
+    let v = derivation.member(base.itself, step)?;
     add_same_conf(derivation, base.itself, base.word, named.proto)?;
     let of = (named.proto, named.name);
     match step {
@@ -86,13 +84,12 @@ fn validate(
     ensures stands { IfOk result
         (λ v. term_at derivation.new.table v ≡ as_term side.entry.param.now) }
     ensures says { OnOk result (States derivation.new (IsValid (as_term side.entry.param.now))) }
-    ensures grows { AddsLines derivation.old derivation.new }
-    ensures derives { OnOk result
-        (IsStillDerivedBy reader.entry.history.now derivation.old derivation.new) }
+    ensures continues { ContinuesFrom (FitsHistory reader.entry.history.now) derivation.old
+        derivation.new }
 {
     match split(reader.alloc, side.param)? {
         None => {
-            let t = param(derivation, side.param.head)?;
+            let t = derivation.param(side.param.head)?;
             add_generic(derivation, t)?;
             Ok(t)
         }
@@ -125,9 +122,8 @@ pub(crate) fn reflect(
     requires side { IsWordOf reader side }
     ensures says { OnOk result (States derivation.new
         (Requires (Equals (as_term side.entry.param.now) (as_term side.entry.param.now)))) }
-    ensures grows { AddsLines derivation.old derivation.new }
-    ensures derives { OnOk result
-        (IsStillDerivedBy reader.entry.history.now derivation.old derivation.new) }
+    ensures continues { ContinuesFrom (FitsHistory reader.entry.history.now) derivation.old
+        derivation.new }
 {
     let t = validate(reader, derivation, side)?;
     add_reflex(derivation, t)?;

@@ -6,9 +6,9 @@ ghost use Rattle.swreq_derive.specs.Derivation.TermStatement.{Requires};
 ghost use Rattle.swreq_derive.specs.Facts.{IdFacts, requirement_of};
 ghost use Rattle.swreq_derive.specs.Lines.{AreDerived};
 ghost use Rattle.swreq_complete.specs.Alike.{ReduceAlike};
-ghost use Rattle.swreq_derivation.specs.UnderWay.{AddsLines, AreIdsIn, IsUnderWay, States};
-ghost use Rattle.swreq_derivation.specs.Needed.{AreSomeOf, EndIn};
-ghost use Rattle.swreq_births.specs.Systems.{HasShownSides, IsHistory, IsStillDerivedBy, requirement_by, rules_at, systems_of};
+ghost use Rattle.swreq_derivation.specs.UnderWay.{AllIn, AreIdsIn, ContinuesFrom, States};
+ghost use Rattle.swreq_derivation.specs.Needed.{EndIn};
+ghost use Rattle.swreq_births.specs.Systems.{FitsHistory, HasShownSides, IsHistory, requirement_by, rules_at, systems_of};
 ghost use Rattle.swreq_explain.specs.Written.{AreWritten};
 
 use crate::sides::RoundReader;
@@ -16,7 +16,7 @@ use crate::stating::state_requirement;
 use std::alloc::{AllocError, Global};
 use std::mem;
 use swreq_births::{History, OwnedRequirement, system_count};
-use swreq_derivation::{Derivation, needed, number_of, param};
+use swreq_derivation::{Derivation, needed};
 use swreq_derive::{Line, Requirement, Statement};
 use swreq_param::{ParamId, ParamTable};
 use swreq_word::Symbol;
@@ -31,44 +31,40 @@ fn write(
     right: &[Symbol],
 ) -> Result<(), AllocError>
     requires history { IsHistory history.now × (0 < length (systems_of history.now)) }
-    requires derivation { IsUnderWay derivation.old }
     requires sides { HasShownSides history.now.alphabet None
         (rules_at history.now (length (systems_of history.now) - 1)) r.now left.now right.now }
     requires alike { ReduceAlike (rules_at history.now
         (length (systems_of history.now) - 1)) right.now left.now }
     ensures says { OnOk result (States derivation.new (Requires (requirement_by r.now))) }
-    ensures grows { AddsLines derivation.old derivation.new }
-    ensures derives { OnOk result (IsStillDerivedBy history.now derivation.old derivation.new) }
+    ensures continues { ContinuesFrom (FitsHistory history.now) derivation.old derivation.new }
 {
     let system = system_count(history) - 1;
-    let t = param(derivation, ParamId { depth: 0, index: 0 })?;
+    let t = derivation.param(ParamId { depth: 0, index: 0 })?;
     let reader = RoundReader {
         alloc,
         history,
         system,
         t,
     };
-    state_requirement(reader, derivation, r, left, right)?;
-    Ok(())
+    state_requirement(reader, derivation, r, left, right)
 }
 
 /// The lines that the line that states the requirement needs, and this line last.
 fn finish(alloc: Global, derivation: &Derivation, r: Requirement) -> Result<Vec<Line>, AllocError>
-    requires derivation { IsUnderWay derivation.now }
     requires ids { AreIdsIn derivation.now.table (Holds r) }
     requires says { States derivation.now (Requires (requirement_of derivation.now.table r)) }
     ensures derived { IfOk result
-        (λ v. (m : IdFacts) → AreDerived derivation.now.table m derivation.now.lines.items
+        (λ v. (m : IdFacts) → AreDerived derivation.now.table m derivation.now.lines
         → AreDerived derivation.now.table m v.items) }
     ensures last { IfOk result (λ v. EndIn v.items (Holds r)) }
-    ensures some { IfOk result (λ v. AreSomeOf v.items derivation.now.lines.items) }
+    ensures ids { IfOk result (λ v. AllIn derivation.now.table v.items) }
 {
     // If two ids stand for the same type parameter, they are equal.
-    let _count = derivation.table.len();
-    match number_of(derivation, Statement::Holds { r }) {
+    let _count = derivation.table().len();
+    match derivation.number_of(Statement::Holds { r }) {
         None => unreachable!(),
         Some(n) => {
-            let lines = needed(alloc, &derivation.lines[..n])?;
+            let lines = needed(alloc, &derivation.lines()[..n])?;
             Ok(lines)
         }
     }
@@ -85,7 +81,7 @@ fn lines_on(
     sides: (&[Symbol], &[Symbol]),
 ) -> Result<Vec<Line>, AllocError>
     requires history { IsHistory history.now × (0 < length (systems_of history.now)) }
-    requires derivation { IsUnderWay derivation.old × AreIdsIn derivation.old.table (Holds r) }
+    requires ids { AreIdsIn derivation.old.table (Holds r) }
     requires by_itself { requirement_by by_itself.now ≡ requirement_of derivation.old.table r }
     requires sides { HasShownSides history.now.alphabet None
         (rules_at history.now (length (systems_of history.now) - 1)) by_itself.now
@@ -93,12 +89,11 @@ fn lines_on(
     requires alike { ReduceAlike (rules_at history.now (length (systems_of history.now) - 1))
         sides.1.now sides.0.now }
     ensures derived { IfOk result
-        (λ v. (m : IdFacts) → AreDerived derivation.new.table m derivation.new.lines.items
+        (λ v. (m : IdFacts) → AreDerived derivation.new.table m derivation.new.lines
         → AreDerived derivation.new.table m v.items) }
     ensures last { IfOk result (λ v. EndIn v.items (Holds r)) }
-    ensures some { IfOk result (λ v. AreSomeOf v.items derivation.new.lines.items) }
-    ensures grows { AddsLines derivation.old derivation.new }
-    ensures derives { OnOk result (IsStillDerivedBy history.now derivation.old derivation.new) }
+    ensures ids { IfOk result (λ v. AllIn derivation.new.table v.items) }
+    ensures continues { ContinuesFrom (FitsHistory history.now) derivation.old derivation.new }
 {
     write(alloc, history, derivation, by_itself, sides.0, sides.1)?;
     let lines = finish(alloc, derivation, r)?;
@@ -129,8 +124,7 @@ pub(crate) fn lines_over(
     let taken = mem::replace(table, ParamTable::new(alloc));
     let mut derivation = Derivation::new(alloc, taken);
     let written = lines_on(alloc, history, &mut derivation, r, by_itself, sides);
-    let Derivation { table: grown, .. } = derivation;
-    *table = grown;
+    *table = derivation.into_table();
     let lines = written?;
     Ok(lines)
 }

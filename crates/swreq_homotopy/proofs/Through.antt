@@ -75,3 +75,33 @@ module _ (rules : List Rule) where
           (subst (λ x. ReducesThrough rules back place.at place.j w r x) (sym e) b);
       steps_are = steps;
     }
+
+  -- the same of two such paths, by what is told of each as it is made
+  module _ (place : Place) (left right w : List Symbol) (p : IsPair rules place left right) (is : IsPairWord rules place w)
+      (out back : Path) (v x : List Symbol) (v_is : v ≡ w) (x_is : x ≡ w) (from_v : out.start ≡ v) (from_x : back.start ≡ x)
+      (through : (side : List Symbol) × (end : List Symbol) × ReducesThrough rules out.steps 0 place.i v side end)
+      (other : (side : List Symbol) × (end : List Symbol) × ReducesThrough rules back.steps place.at place.j x side end)
+      (m n : List Symbol) (out_to : HasTarget rules out m) (back_to : HasTarget rules back n) where
+    out_reduces : ReducesThrough rules out.steps 0 place.i w through.0 through.1
+    out_reduces = subst (λ u. ReducesThrough rules out.steps 0 place.i u through.0 through.1) v_is through.2
+
+    back_reduces : ReducesThrough rules back.steps place.at place.j w other.0 other.1
+    back_reduces = subst (λ u. ReducesThrough rules back.steps place.at place.j u other.0 other.1) x_is other.2
+
+    out_end : m ≡ through.1
+    out_end = target_is out 0 place.i v through.0 through.1 m from_v through.2 out_to
+
+    back_end : n ≡ other.1
+    back_end = target_is back place.at place.j x other.0 other.1 n from_x other.2 back_to
+
+    pub ends_meet : SidesReduceToOne rules place → m ≡ n
+    ends_meet s =
+        out_end
+        ∙ one_word place left right w p is out.steps back.steps through.0 other.0 through.1 other.1 out_reduces back_reduces s
+        ∙ sym back_end
+
+    pub makes_loop : m ≡ n → (round : Loop) → round.path.start ≡ out.start → round.path.steps ≡ out.steps ++ inverse back.steps
+        → IsLoopOfPair rules place round
+    makes_loop e round start steps =
+        loop_is place left right w p is out.steps back.steps through.0 other.0 through.1 other.1 out_reduces back_reduces
+        (sym out_end ∙ e ∙ back_end) round (start ∙ from_v ∙ v_is) steps

@@ -14,6 +14,10 @@ use Rattle.swreq_lexicon.specs.Heirs.{IsDirectHeir, position_at, leads_up, AreAl
 use Rattle.swreq_lexicon.specs.Heirs.{LeadToProtocols}
 use Rattle.swreq_lexicon.specs.Views.{place_by}
 
+-- what is read of an order past its end
+abbrev pub first : ProtoId
+first = record { rank = 0 }
+
 no_element : (k : ℕ) → Contains [] k → ⊥
 no_element k c = let h = c.1 in omega (arith, h)
 

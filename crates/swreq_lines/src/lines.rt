@@ -1,6 +1,6 @@
 //! Reading the lines of a derivation.
 
-ghost use Rattle.std.specs.Prelude.{◌≡◌, ◌≤◌, ◌++◌, ◌∷◌, [], Contains, IfErr, IfOk, OnOk, length};
+ghost use Rattle.std.specs.Prelude.{◌≡◌, ◌≤◌, Contains, IfErr, IfOk, length};
 ghost use Rattle.swreq_derive.specs.declared.lines.Line.{Line};
 ghost use Rattle.swreq_derive.specs.Lines.{line_of};
 ghost use Rattle.swreq_param.specs.Tables.{Extends};
@@ -8,9 +8,10 @@ ghost use Rattle.swreq_print.specs.Reading.{TellsApart};
 ghost use Rattle.swreq_lines.specs.GoodLines.{AreLinesOf, IsRefused, IsTextOf};
 ghost use Rattle.swreq_lines.specs.LineTexts.{HasLineIds};
 ghost use Rattle.swreq_lines.specs.Written.{IsRefusedAt};
+ghost use Rattle.swreq_lines.specs.declared.lines.LinesErr.TheVariants.{Memory};
 
 use crate::reading::read_line;
-use std::alloc::{AllocError, Global};
+use std::alloc::{AllocError, AllocFailed, Global};
 use swreq_derive::Line;
 use swreq_lexicon::Lexicon;
 use swreq_param::ParamTable;
@@ -23,6 +24,22 @@ pub enum LinesErr {
     Syntax { line: u32 },
     /// Memory ran out.
     Memory,
+}
+
+impl From<AllocError> for LinesErr {
+    ghost from_gives = { λ _ e. e ≡ Memory };
+
+    fn from(_: AllocError) -> Self {
+        LinesErr::Memory
+    }
+}
+
+impl<T: Drop> From<AllocFailed<T>> for LinesErr {
+    ghost from_gives = { λ _ e. e ≡ Memory };
+
+    fn from(_: AllocFailed<T>) -> Self {
+        LinesErr::Memory
+    }
 }
 
 /// The line with this number, or why it is refused.
@@ -39,21 +56,7 @@ fn good_line(
     ensures line { IfOk result (λ l. IsTextOf names.now n text.now (line_of table.new l)) }
     ensures refused { IfErr result (IsRefusedAt names.now n text.now) }
 {
-    match read_line(alloc, names, table, n, text) {
-        Ok(Some(line)) => Ok(line),
-        Ok(None) => Err(LinesErr::Syntax { line: n }),
-        Err(_) => Err(LinesErr::Memory),
-    }
-}
-
-fn put(lines: &mut Vec<Line>, line: Line) -> Result<(), LinesErr>
-    ensures ok { OnOk result (lines.new.items ≡ lines.old.items ++ line ∷ []) }
-    ensures err { IfErr result (λ e. e ≡ LinesErr.Memory) }
-{
-    match lines.push(line) {
-        Ok(()) => Ok(()),
-        Err(_) => Err(LinesErr::Memory),
-    }
+    read_line(alloc, names, table, n, text)?.ok_or(LinesErr::Syntax { line: n })
 }
 
 /// The lines of a derivation, numbered from 1, whose texts are all lines of the text up to its end, in order. The last line may lack
@@ -79,7 +82,7 @@ pub fn read_lines(
     while let Some(found) = first_line(rest) {
         let n = lines.len() as u32 + 1;
         let line = good_line(alloc, names, table, n, found.line)?;
-        put(&mut lines, line)?;
+        lines.push(line)?;
         rest = found.rest;
     }
     Ok(lines)

@@ -25,7 +25,7 @@ use Rattle.swreq_valid.proofs.OfProtocols.{drop_at}
 
 -- ---- lists
 
-at_front : (front : Word) (s : Symbol) (rest : Word) → slice_get (front ++ (s ∷ rest)) (length front) ≡ Some s
+pub at_front : (front : Word) (s : Symbol) (rest : Word) → slice_get (front ++ (s ∷ rest)) (length front) ≡ Some s
 at_front [] s rest = refl
 at_front (x ∷ front) s rest = at_front front s rest
 

@@ -9,8 +9,10 @@ use Rattle.swreq_complete.specs.declared.limit.Failed.{Failed}
 use Rattle.swreq_complete.specs.declared.limit.Failed.TheVariants.{Limit, Memory}
 use Rattle.swreq_rounds.specs.Plan.{Plan}
 use Rattle.swreq_valid.specs.Answers.{Answers}
+use Rattle.swreq_canonical.specs.Generators.{Takes}
 use Rattle.swreq_list_rules.specs.declared.setting.Setting.{Setting}
-use Rattle.swreq_list_rules.specs.Settings.{plan_in}
+use Rattle.swreq_list_rules.specs.Settings.{facts_in, params_in, plan_in}
+use Rattle.swreq_minimal.specs.Passed.{IsLeftWithout, IsPassed, IsTakenBefore}
 use Rattle.swreq_minimal.specs.Told.{AreParts, FailsBy, Tells, TellsFailure, TellsParts}
 use Rattle.swreq_minimal.specs.Told.AreParts.{a_part, no_part}
 
@@ -152,3 +154,39 @@ module _ (s : Setting) (P : List TermRequirement → Type 0) where
       → (result : Result T Failed) (old new : Option (List Event)) → Tells s P result old new → Tells s Q result old new
   tells_those Q to (Ok x) old new h = tells_of s.limits (plan_in s) P Q to old new h
   tells_those Q to (Err e) old new h = failure_of s.limits (plan_in s) P Q to old new e h
+
+-- ---- what minimising tells: what taking candidates tells, and then what dropping generators tells
+
+module _ (s : Setting) (cs : List TermRequirement) where
+  abbrev IsTaken : List TermRequirement → Type 0
+  IsTaken = IsTakenBefore (facts_in s) (params_in s) cs
+
+  abbrev pub IsOnTheWay : List TermRequirement → Type 0
+  IsOnTheWay = IsPassed (facts_in s) (params_in s) cs
+
+  pub taking_told : (old new : Option (List Event)) → TellsParts s.limits (plan_in s) IsTaken old new
+      → TellsParts s.limits (plan_in s) IsOnTheWay old new
+  taking_told old new h = tells_of s.limits (plan_in s) IsTaken IsOnTheWay (λ list one. inl one) old new h
+
+  pub taking_failed : (old new : Option (List Event)) (failed : Failed) → TellsFailure s.limits (plan_in s) IsTaken old new failed
+      → TellsFailure s.limits (plan_in s) IsOnTheWay old new failed
+  taking_failed old new failed h = failure_of s.limits (plan_in s) IsTaken IsOnTheWay (λ list one. inl one) old new failed h
+
+  module _ (gs : List TermRequirement) (takes : Takes (facts_in s) (params_in s) [] cs gs) (old mid new : Option (List Event))
+      (taken : TellsParts s.limits (plan_in s) IsTaken old mid) where
+    abbrev IsLeft : List TermRequirement → Type 0
+    IsLeft = IsLeftWithout (facts_in s) (params_in s) gs
+
+    on_the_way : (list : List TermRequirement) → IsLeft list → IsOnTheWay list
+    on_the_way list one = inr (gs, takes, one)
+
+    pub dropping_told : TellsParts s.limits (plan_in s) IsLeft mid new → TellsParts s.limits (plan_in s) IsOnTheWay old new
+    dropping_told h =
+        tells_on s.limits (plan_in s) IsOnTheWay old mid new (taking_told old mid taken)
+        (tells_of s.limits (plan_in s) IsLeft IsOnTheWay on_the_way mid new h)
+
+    pub dropping_failed : (failed : Failed) → TellsFailure s.limits (plan_in s) IsLeft mid new failed
+        → TellsFailure s.limits (plan_in s) IsOnTheWay old new failed
+    dropping_failed failed h =
+        fails_after s.limits (plan_in s) IsOnTheWay old mid new (taking_told old mid taken) failed
+        (failure_of s.limits (plan_in s) IsLeft IsOnTheWay on_the_way mid new failed h)

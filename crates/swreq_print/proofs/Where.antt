@@ -1,5 +1,6 @@
 -- The requirements of a signature over the ids of a table.
-use Rattle.std.proofs.Common.{◌≡◌, ◌++◌, ◌<◌, [], ◌∷◌, List, length, map, codes, ap, refl, arith}
+use Rattle.std.proofs.Common.{◌≡◌, ◌++◌, ◌<◌, [], ◌∷◌, List, length, map, codes, ap, arith}
+use Rattle.std.proofs.lemmas.Simd.{map-map}
 use Rattle.swreq_param.specs.Terms.{Term}
 use Rattle.swreq_text.specs.Joined.{joined}
 use Rattle.swreq_derive.specs.declared.requirements.Requirement.{Requirement}
@@ -12,13 +13,9 @@ use Rattle.swreq_print.specs.Signatures.{requirement_text, where_text}
 abbrev pub text_over : LexiconView → List Term → Requirement → Text
 text_over x terms r = requirement_text x (requirement_of terms r)
 
-texts_over : (x : LexiconView) (terms : List Term) (rs : List Requirement)
-    → map (requirement_text x) (map (requirement_of terms) rs) ≡ map (text_over x terms) rs
-texts_over x terms [] = refl
-texts_over x terms (r ∷ rs) = ap (λ ts. text_over x terms r ∷ ts) (texts_over x terms rs)
-
 -- There are requirements, so they are printed.
 pub where_of_some : (x : LexiconView) (terms : List Term) (rs : List Requirement) → 0 < length rs
     → where_text x (map (requirement_of terms) rs) ≡ codes " where " ++ joined (codes ", ") (map (text_over x terms) rs)
 where_of_some x terms [] some = absurd (omega (arith, some))
-where_of_some x terms (r ∷ rs) some = ap (λ ts. codes " where " ++ joined (codes ", ") ts) (texts_over x terms (r ∷ rs))
+where_of_some x terms (r ∷ rs) some =
+    ap (λ ts. codes " where " ++ joined (codes ", ") ts) (map-map (requirement_text x) (requirement_of terms) (r ∷ rs))

@@ -1,10 +1,11 @@
 -- A query has at most one answer, whatever is derivable.
 use Rattle.std.proofs.Common.{◌≡◌, refl, sym, ◌∙◌, subst, ap, inl, inr, Option, Some, None}
+use Rattle.std.proofs.lemmas.Option.{none-some, same_Some}
 use Rattle.swreq_param.specs.Terms.{Term, self}
 use Rattle.swreq_param.proofs.TotalOrder.{total}
 use Rattle.swreq_derive.specs.Derivation.{TermRequirement, TermStatement}
 use Rattle.swreq_derive.specs.Derivation.TermRequirement.{IsAnyObject}
-use Rattle.swreq_derive.specs.Derivation.TermStatement.{Requires}
+use Rattle.swreq_derive.specs.Derivation.TermStatement.{IsValid, Requires}
 use Rattle.swreq_print.specs.Names.{Text}
 use Rattle.swreq_lexicon.specs.Views.{LexiconView}
 use Rattle.swreq_lowering.specs.Queries.{TermQuery}
@@ -12,6 +13,9 @@ use Rattle.swreq_lowering.specs.Queries.TermQuery.{AsksSignature, AsksReduced, A
 use Rattle.swreq_lowering.specs.declared.ids.FuncId.{FuncId}
 use Rattle.swreq_query.specs.Answers.{Answer, IsAnswer, IsAnswerLine, IsLeastEqual, answer_line, asked}
 use Rattle.swreq_query.specs.Answers.Answer.{Invalid, Yes, No, Reduced}
+use Rattle.swreq_query.specs.Asked.{IsVerdictOf, answer_of}
+use Rattle.swreq_query.specs.declared.verdict.Verdict.{Verdict}
+use Rattle.swreq_query.specs.declared.verdict.Verdict.TheVariants as verdicts
 
 -- the type of which a query asks the reduced one
 type_of : TermQuery → Term
@@ -38,6 +42,12 @@ one_requirement q r p h k = ap or_self (sym h ∙ k)
 no_requirement : (q : TermQuery) (r : TermRequirement) (f : FuncId) (t : Term) → asked q ≡ Some r → q ≡ AsksReduced f t → ⊥
 unfolding is_some
 no_requirement q r f t h k = subst is_some (sym h ∙ ap asked k) tt
+
+same_verdict : (v u : Verdict) → answer_of v ≡ answer_of u → v ≡ u
+same_verdict verdicts.Invalid verdicts.Invalid e = refl
+same_verdict verdicts.Yes verdicts.Yes e = refl
+same_verdict verdicts.No verdicts.No e = refl
+same_verdict _ _ e = absurd (cc)
 
 module _ (derivable : TermStatement → Type 0) where
   one_least : (t u v : Term) → IsLeastEqual derivable t u → IsLeastEqual derivable t v → u ≡ v
@@ -71,3 +81,19 @@ module _ (derivable : TermStatement → Type 0) where
 
   pub one_line : (x : LexiconView) (q : TermQuery) (l m : Text) → IsAnswerLine x derivable q l → IsAnswerLine x derivable q m → l ≡ m
   one_line x q l m h k = h.2 ∙ (ap (answer_line x) (one_answer q h.0 k.0 h.1 k.1) ∙ sym k.2)
+
+  -- the verdict that a query has is the only one
+  pub only_verdict : (q : TermQuery) (v : Verdict) → IsAnswer derivable q (answer_of v) → IsVerdictOf derivable q (Some v)
+  only_verdict q v is u = (
+    λ has. ap Some (same_verdict v u (one_answer q (answer_of v) (answer_of u) is has)),
+    λ e. subst (λ (z : Verdict). IsAnswer derivable q (answer_of z)) (same_Some v u e) is,
+  )
+
+  -- a query of a type that is valid has none
+  pub no_verdict : (f : FuncId) (t : Term) → derivable (IsValid t) → IsVerdictOf derivable (AsksReduced f t) None
+  no_verdict f t valid v = (λ has. absurd (none v has), λ e. absurd (none-some v e))
+    where
+      none : (u : Verdict) → IsAnswer derivable (AsksReduced f t) (answer_of u) → ⊥
+      none verdicts.Invalid has = has.2 (subst (λ (s : Term). derivable (IsValid s)) (sym has.1) valid)
+      none verdicts.Yes has = none-some has.1.0 has.1.1
+      none verdicts.No has = none-some has.1.0 has.1.1

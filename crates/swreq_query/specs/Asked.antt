@@ -1,5 +1,5 @@
 -- With what a query is asked, and what comes of it.
-use Rattle.std.specs.Prelude.{◌≡◌, ℕ, ◌+◌, ◌*◌, ◌≤◌, List, ◌++◌, Bool, true, false, Option, Some, None}
+use Rattle.std.specs.Prelude.{◌≡◌, ◌↔◌, ℕ, ◌+◌, ◌*◌, ◌≤◌, List, ◌++◌, Bool, true, false, Option, Some, None}
 use Rattle.swreq_param.specs.Terms.{Term, member_count}
 use Rattle.swreq_derive.specs.Derivation.{TermRequirement, TermStatement}
 use Rattle.swreq_print.specs.Names.{Text}
@@ -16,7 +16,7 @@ use Rattle.swreq_machine.specs.declared.having.Property.{Property}
 use Rattle.swreq_machine.specs.declared.having.Property.TheVariants.{Protocol, Layout}
 use Rattle.swreq_query.specs.declared.verdict.Verdict.{Verdict}
 use Rattle.swreq_query.specs.declared.verdict.Verdict.TheVariants as verdicts
-use Rattle.swreq_query.specs.Answers.{Answer, IsAnswerLine, IsSide, asked}
+use Rattle.swreq_query.specs.Answers.{Answer, IsAnswer, IsAnswerLine, IsSide, asked}
 use Rattle.swreq_query.specs.Answers.Answer.{Invalid, Yes, No}
 
 -- ---- what a query needs
@@ -47,6 +47,10 @@ abbrev pub answer_of : Verdict → Answer
 answer_of verdicts.Invalid = Invalid
 answer_of verdicts.Yes = Yes
 answer_of verdicts.No = No
+
+-- The query has a verdict if and only if it is this one.
+abbrev pub IsVerdictOf : (TermStatement → Type 0) → TermQuery → Option Verdict → Type 0
+IsVerdictOf derivable q verdict = (v : Verdict) → IsAnswer derivable q (answer_of v) ↔ (verdict ≡ Some v)
 
 -- None where a side is not valid, and otherwise whether the requirement is derivable
 abbrev pub verdict_of : Option Bool → Verdict

@@ -71,10 +71,8 @@ fn put_line(
         (signature_text world.now.lexicon (generic_params params) (listed table.now list.now)
         ++ codes "\n") out.new.items) }
 {
-    match put_signature(alloc, world, table, params, list, out) {
-        Ok(()) => Ok(()),
-        Err(_) => Err(Failed::Memory),
-    }
+    put_signature(alloc, world, table, params, list, out)?;
+    Ok(())
 }
 
 /// Writes the minimised list of a signature at the end, by its machine, as a line. If memory runs out the first bytes of it may
@@ -121,8 +119,6 @@ pub fn minimised_line<W: Watch>(
     ensures world { world_by table.new world.now ≡ world_by table.old world.now }
     ensures text { IsTextOver table.new world.now }
 {
-    match minimise(alloc, world, table, protocols, machine, limits, watch) {
-        Err(failed) => Err(failed),
-        Ok(list) => put_line(alloc, world, table, world.params(f), &list, out),
-    }
+    let list = minimise(alloc, world, table, protocols, machine, limits, watch)?;
+    put_line(alloc, world, table, world.params(f), &list, out)
 }

@@ -1,5 +1,5 @@
 //! The line of a query of a type.
-ghost use Rattle.std.specs.Prelude.{◌≡◌, ◌+◌, ◌*◌, ◌≤◌, ◌++◌, List, codes, OnErr, OnOk};
+ghost use Rattle.std.specs.Prelude.{◌≡◌, ◌+◌, ◌*◌, ◌≤◌, ◌++◌, List, codes, IfOk, OnErr, OnOk};
 ghost use Rattle.swreq_param.specs.Tables.{term_at};
 ghost use Rattle.swreq_param.specs.Terms.{member_count, with_steps};
 ghost use Rattle.swreq_param.specs.Terms.Term.{Generic};
@@ -11,7 +11,7 @@ ghost use Rattle.swreq_machine.specs.Asked.{IsDerivable};
 ghost use Rattle.swreq_machine.specs.Machines.{IsMachineOf};
 ghost use Rattle.swreq_lowering.specs.Queries.TermQuery.{AsksReduced};
 ghost use Rattle.swreq_lowering.specs.declared.ids.FuncId.{FuncId};
-ghost use Rattle.swreq_query.specs.Asked.{AppendsAnswer};
+ghost use Rattle.swreq_query.specs.Asked.{AppendsAnswer, IsVerdictOf};
 
 use crate::verdict::Verdict;
 use std::alloc::{AllocError, Global};
@@ -40,7 +40,8 @@ fn type_line(
     append_bytes(out, &line)
 }
 
-/// Appends the line of the reduced type of t, or of `invalid` where t is not valid.
+/// Appends the line of the reduced type of t, or of `invalid` where t is not valid. Ok has the verdict, or None where the line is that of a
+/// type.
 pub(crate) fn reduced_line(
     alloc: Global,
     text: &Text<'_>,
@@ -48,7 +49,7 @@ pub(crate) fn reduced_line(
     t: TermId,
     scratch: &mut Scratch,
     out: &mut Vec<u8>,
-) -> Result<(), AllocError>
+) -> Result<Option<Verdict>, AllocError>
     requires text { BelongTogether text.now }
     requires t { IsTypeIn text.now.table.now text.now.world.now.lexicon t }
     requires room { 4 * (member_count (term_at text.now.table.now t) + 2) ≤ scratch.old.room }
@@ -57,6 +58,10 @@ pub(crate) fn reduced_line(
         → AppendsAnswer text.now.world.now.lexicon
         (IsDerivable (world_of text.now) machine.now list)
         (AsksReduced f (term_at text.now.table.now t)) out.old.items out.new.items) }
+    ensures verdict { IfOk result (λ verdict. (f : FuncId) (list : List TermRequirement)
+        → IsMachineOf (world_of text.now) list machine.now
+        → IsVerdictOf (IsDerivable (world_of text.now) machine.now list)
+        (AsksReduced f (term_at text.now.table.now t)) verdict) }
     ensures err { OnErr result (out.new.items ≡ out.old.items) }
     ensures room { scratch.new.room ≡ scratch.old.room }
 {
@@ -67,8 +72,10 @@ pub(crate) fn reduced_line(
             scratch.param(),
             scratch.steps(),
             out,
-        )
+        )?;
+        Ok(None)
     } else {
-        append_bytes(out, Verdict::Invalid.line())
+        append_bytes(out, Verdict::Invalid.line())?;
+        Ok(Some(Verdict::Invalid))
     }
 }

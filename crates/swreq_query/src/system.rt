@@ -124,8 +124,6 @@ pub fn system_text(
         (signature_at (world_by table.now world.now) f) text
         × GrewByPart out.old.items text out.new.items)) }
 {
-    match machine.rules().canonical(alloc) {
-        Err(error) => Err(error),
-        Ok(rules) => put_system(alloc, world, table, f, &rules, out),
-    }
+    let rules = machine.rules().canonical(alloc)?;
+    put_system(alloc, world, table, f, &rules, out)
 }

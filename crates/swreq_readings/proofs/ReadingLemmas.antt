@@ -16,14 +16,11 @@ use Rattle.swreq_param.specs.declared.ids.Step.TheVariants.{Name as NameStep}
 use Rattle.swreq_word.specs.declared.symbols.Symbol.{Symbol}
 use Rattle.swreq_word.specs.declared.symbols.Symbol.TheVariants.{Proto, Member, Param, Name, Layout}
 use Rattle.swreq_derivation.specs.declared.derivation.Derivation.{Derivation}
-use Rattle.swreq_derivation.specs.UnderWay.{AddsLines, AreEqualIds, AreStatedEqual, IsUnderWay, States}
+use Rattle.swreq_derivation.specs.UnderWay.{AddsLines, AreEqualIds, AreStatedEqual, States}
 use Rattle.swreq_derivation.proofs.DerivationLemmas as derivations
 use Rattle.swreq_readings.specs.declared.alphabet.Alphabet.{Alphabet}
 use Rattle.swreq_readings.specs.declared.alphabet.Named.{Named}
 use Rattle.swreq_readings.specs.Readable.{read_symbol, read_word, IsGiven, IsGivenAt, IsOfStep, IsReadAs, AreReadEqual, AllowsName, AllowsSymbol, AllowsWord}
-
-pub grown_by_none : (s : Derivation) → IsUnderWay s → AddsLines s s
-grown_by_none s h = derivations.grown_by_none s h
 
 module _ (g : Alphabet) (s u : Derivation) (grows : AddsLines s u) where
   pub equal_still : (t v : Term) → AreStatedEqual s t v → AreStatedEqual u t v
@@ -196,7 +193,7 @@ carrying_on g s n a b w k d t u t' u' c grows h e f says equal =
           ((subst (AllowsWord g n t) p (word_still g s n grows t (drop k w) c.left)).1);
       first = read_step g t t' (read_word g a w) w k d h e c.first;
       second = read_step g u u' (read_word g b w) w k d h f c.second;
-      whole = λ v i y. c.whole v (derivations.grows_then s n v grows i)
+      whole = λ v i y. c.whole v (derivations.grows_then grows i)
           (subst (AllowsWord g v u) (sym p) (symbol_still g n v i u x says, subst (λ z. AllowsWord g v z (drop (k + 1) w)) f y));
       equal = equal_as n t' u' (read_symbol g t x) (read_symbol g u x) e f equal;
     }
@@ -208,15 +205,14 @@ pub record IsCarried (g : Alphabet) (s : Derivation) (a b : Term) (w : List Symb
   pub second : u ≡ read_word g b w
   pub equal : AreStatedEqual s (read_word g a w) (read_word g b w)
 
-pub all_carried : (g : Alphabet) (s : Derivation) (a b : Term) (w : List Symbol) (k : ℕ) (t u : Term) → IsUnderWay s → IsCarrying g s a b w
-    k t u
+pub all_carried : (g : Alphabet) (s : Derivation) (a b : Term) (w : List Symbol) (k : ℕ) (t u : Term) → IsCarrying g s a b w k t u
     → length w ≤ k → IsCarried g s a b w t u
-all_carried g s a b w k t u i c h =
+all_carried g s a b w k t u c h =
     let e : drop k w ≡ [] = drop_all k w h in
     let f : t ≡ read_word g a w = sym (ap (read_word g t) e) ∙ c.first in
     let n : u ≡ read_word g b w = sym (ap (read_word g u) e) ∙ c.second in
     record {
-      word = c.whole s (grown_by_none s i) (subst (AllowsWord g s u) (sym e) tt);
+      word = c.whole s (derivations.grown_by_none s) (subst (AllowsWord g s u) (sym e) tt);
       first = f;
       second = n;
       equal = equal_as s

@@ -7,8 +7,7 @@ use Rattle.swreq_derive.specs.Derivation.{Declares}
 use Rattle.swreq_derive.specs.Derivation.TermRequirement.{Conforms}
 use Rattle.swreq_derive.specs.Facts.{generic_params}
 use Rattle.swreq_derive.specs.Instances.{HasNumber}
-use Rattle.swreq_derivation.specs.declared.derivation.Derivation.{Derivation}
-use Rattle.swreq_derivation.specs.UnderWay.{Assumptions, StaysDerived}
+use Rattle.swreq_derivation.specs.UnderWay.{Assumptions}
 use Rattle.swreq_readings.specs.declared.alphabet.Alphabet.{Alphabet}
 use Rattle.swreq_readings.specs.declared.alphabet.Named.{Named}
 use Rattle.swreq_readings.specs.declared.alphabet.WrittenInheritance.{WrittenInheritance}
@@ -48,7 +47,3 @@ pub record FitsAssumptions (g : Alphabet) (b : Assumptions) : Type 0 where
   pub associated : (k : ℕ) (n : Named) → slice_get g.associated k ≡ Some n → Declares b.facts n.proto n.name (record { rank = k })
   pub parents : (e : WrittenInheritance) → Contains g.parents e → HasNumber e.number (b.facts.of_protocol e.heir) (Conforms self e.proto)
   pub params : b.params ≡ generic_params g.params
-
--- Whatever the old lines are a derivation from, the new ones are too, if the alphabet fits it.
-abbrev pub IsStillDerivedOver : Alphabet → Derivation → Derivation → Type 0
-IsStillDerivedOver g old new = (b : Assumptions) → FitsAssumptions g b → StaysDerived b old new

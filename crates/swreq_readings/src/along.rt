@@ -1,11 +1,10 @@
 //! Symbols and words that lines allow after a type parameter are allowed after an equal one.
-ghost use Rattle.std.specs.Prelude.{◌≡◌, ◌<◌, IfOk, OnOk, length};
+ghost use Rattle.std.specs.Prelude.{◌≡◌, ◌<◌, IfOk, OnOk};
 ghost use Rattle.swreq_param.specs.Tables.{IsOf, term_at};
 ghost use Rattle.swreq_param.specs.declared.ids.Step.TheVariants as steps;
-ghost use Rattle.swreq_param.specs.Terms.{Term};
 ghost use Rattle.swreq_word.specs.declared.symbols.Symbol.TheVariants as symbols;
-ghost use Rattle.swreq_derivation.specs.UnderWay.{AddsLines, AreEqualIds, AreStatedEqual, IsUnderWay};
-ghost use Rattle.swreq_readings.specs.Alphabets.{IsStillDerivedOver};
+ghost use Rattle.swreq_derivation.specs.UnderWay.{AreEqualIds, AreStatedEqual, ContinuesFrom};
+ghost use Rattle.swreq_readings.specs.Alphabets.{FitsAssumptions};
 ghost use Rattle.swreq_readings.specs.Readable.{AllowsSymbol, AllowsWord, IsIdAfter, read_symbol, read_word};
 
 use crate::alphabet::{Alphabet, member_at};
@@ -26,7 +25,6 @@ fn carry_member(
     rank: u64,
     members: (TermId, TermId),
 ) -> Result<(), AllocError>
-    requires derivation { IsUnderWay derivation.old }
     requires symbol { AllowsSymbol alphabet.now derivation.old
         (term_at derivation.old.table from) (symbols.Member rank) }
     requires equal { AreEqualIds derivation.old from to }
@@ -38,8 +36,8 @@ fn carry_member(
     ensures equal { OnOk result
         (AreStatedEqual derivation.new (term_at derivation.old.table members.0)
         (term_at derivation.old.table members.1)) }
-    ensures grows { AddsLines derivation.old derivation.new }
-    ensures derives { OnOk result (IsStillDerivedOver alphabet.now derivation.old derivation.new) }
+    ensures continues { ContinuesFrom (FitsAssumptions alphabet.now) derivation.old
+        derivation.new }
 {
     let named = member_at(alphabet, rank);
     carry_name(alphabet, derivation, from, to, named.name, members)?;
@@ -57,7 +55,6 @@ fn carry_symbol(
     symbol: Symbol,
     members: (TermId, TermId),
 ) -> Result<(), AllocError>
-    requires derivation { IsUnderWay derivation.old }
     requires symbol { AllowsSymbol alphabet.now derivation.old
         (term_at derivation.old.table from) symbol }
     requires equal { AreEqualIds derivation.old from to }
@@ -68,8 +65,8 @@ fn carry_symbol(
     ensures equal { OnOk result
         (AreStatedEqual derivation.new (term_at derivation.old.table members.0)
         (term_at derivation.old.table members.1)) }
-    ensures grows { AddsLines derivation.old derivation.new }
-    ensures derives { OnOk result (IsStillDerivedOver alphabet.now derivation.old derivation.new) }
+    ensures continues { ContinuesFrom (FitsAssumptions alphabet.now) derivation.old
+        derivation.new }
 {
     match symbol {
         Symbol::Proto(rank) => {
@@ -100,7 +97,6 @@ fn carry(
     to: TermId,
     symbol: Symbol,
 ) -> Result<(TermId, TermId), AllocError>
-    requires derivation { IsUnderWay derivation.old }
     requires from { IsOf derivation.old.table from }
     requires to { IsOf derivation.old.table to }
     requires symbol { AllowsSymbol alphabet.now derivation.old
@@ -121,8 +117,8 @@ fn carry(
         (AreStatedEqual derivation.new
         (read_symbol alphabet.now (term_at derivation.old.table from) symbol)
         (read_symbol alphabet.now (term_at derivation.old.table to) symbol)) }
-    ensures grows { AddsLines derivation.old derivation.new }
-    ensures derives { OnOk result (IsStillDerivedOver alphabet.now derivation.old derivation.new) }
+    ensures continues { ContinuesFrom (FitsAssumptions alphabet.now) derivation.old
+        derivation.new }
 {
     let first = read_symbol(alphabet, derivation, from, symbol)?;
     let second = read_symbol(alphabet, derivation, to, symbol)?;
@@ -139,7 +135,6 @@ pub fn carry_all(
     to: TermId,
     word: &[Symbol],
 ) -> Result<(TermId, TermId), AllocError>
-    requires derivation { IsUnderWay derivation.old }
     requires from { IsOf derivation.old.table from }
     requires to { IsOf derivation.old.table to }
     requires word { AllowsWord alphabet.now derivation.old
@@ -160,8 +155,8 @@ pub fn carry_all(
         (AreStatedEqual derivation.new
         (read_word alphabet.now (term_at derivation.old.table from) word.now)
         (read_word alphabet.now (term_at derivation.old.table to) word.now)) }
-    ensures grows { AddsLines derivation.old derivation.new }
-    ensures derives { OnOk result (IsStillDerivedOver alphabet.now derivation.old derivation.new) }
+    ensures continues { ContinuesFrom (FitsAssumptions alphabet.now) derivation.old
+        derivation.new }
 {
     let mut first = from;
     let mut second = to;

@@ -1,12 +1,11 @@
 //! What lines allow after a type parameter, they allow after an equal one.
-ghost use Rattle.std.specs.Prelude.{◌≡◌, OnOk};
+ghost use Rattle.std.specs.Prelude.{OnOk};
 ghost use Rattle.swreq_param.specs.Tables.{IsOf, term_at};
 ghost use Rattle.swreq_param.specs.declared.ids.Step.TheVariants.{Name};
-ghost use Rattle.swreq_param.specs.Terms.Term.{Member};
 ghost use Rattle.swreq_derive.specs.Derivation.TermRequirement.{Conforms, IsAnyObject};
 ghost use Rattle.swreq_derive.specs.Derivation.TermStatement.{Requires};
-ghost use Rattle.swreq_derivation.specs.UnderWay.{AddsLines, AreEqualIds, AreStatedEqual, IsIdOfMember, IsStillDerived, IsUnderWay, States};
-ghost use Rattle.swreq_readings.specs.Alphabets.{IsStillDerivedOver};
+ghost use Rattle.swreq_derivation.specs.UnderWay.{AreEqualIds, AreStatedEqual, Continues, ContinuesFrom, IsIdOfMember, States};
+ghost use Rattle.swreq_readings.specs.Alphabets.{FitsAssumptions};
 ghost use Rattle.swreq_readings.specs.Readable.{AllowsName};
 
 use crate::alphabet::Alphabet;
@@ -22,7 +21,6 @@ pub fn carry_conf(
     to: TermId,
     protocol: ProtoId,
 ) -> Result<(), AllocError>
-    requires derivation { IsUnderWay derivation.old }
     requires from { IsOf derivation.old.table from }
     requires to { IsOf derivation.old.table to }
     requires conforms { States derivation.old
@@ -31,8 +29,7 @@ pub fn carry_conf(
         (term_at derivation.old.table to) }
     ensures conforms { OnOk result
         (States derivation.new (Requires (Conforms (term_at derivation.old.table to) protocol))) }
-    ensures grows { AddsLines derivation.old derivation.new }
-    ensures derives { OnOk result (IsStillDerived derivation.old derivation.new) }
+    ensures continues { Continues derivation.old derivation.new }
 {
     add_symm(derivation, from, to)?;
     add_same_conf(derivation, to, from, protocol)?;
@@ -41,7 +38,6 @@ pub fn carry_conf(
 
 /// From `[T : AnyObject]` and `[T == U]`: `[U : AnyObject]`.
 pub fn carry_layout(derivation: &mut Derivation, from: TermId, to: TermId) -> Result<(), AllocError>
-    requires derivation { IsUnderWay derivation.old }
     requires from { IsOf derivation.old.table from }
     requires to { IsOf derivation.old.table to }
     requires object { States derivation.old
@@ -50,8 +46,7 @@ pub fn carry_layout(derivation: &mut Derivation, from: TermId, to: TermId) -> Re
         (term_at derivation.old.table to) }
     ensures object { OnOk result
         (States derivation.new (Requires (IsAnyObject (term_at derivation.old.table to)))) }
-    ensures grows { AddsLines derivation.old derivation.new }
-    ensures derives { OnOk result (IsStillDerived derivation.old derivation.new) }
+    ensures continues { Continues derivation.old derivation.new }
 {
     add_symm(derivation, from, to)?;
     add_same_layout(derivation, to, from)?;
@@ -68,7 +63,6 @@ pub fn carry_name(
     name: NameId,
     members: (TermId, TermId),
 ) -> Result<(), AllocError>
-    requires derivation { IsUnderWay derivation.old }
     requires name { AllowsName alphabet.now derivation.old
         (term_at derivation.old.table from) name }
     requires equal { AreEqualIds derivation.old from to }
@@ -79,8 +73,8 @@ pub fn carry_name(
     ensures equal { OnOk result
         (AreStatedEqual derivation.new (term_at derivation.old.table members.0)
         (term_at derivation.old.table members.1)) }
-    ensures grows { AddsLines derivation.old derivation.new }
-    ensures derives { OnOk result (IsStillDerivedOver alphabet.now derivation.old derivation.new) }
+    ensures continues { ContinuesFrom (FitsAssumptions alphabet.now) derivation.old
+        derivation.new }
 {
     let p = declarer(alphabet, derivation, from, name);
     carry_conf(derivation, from, to, p)?;

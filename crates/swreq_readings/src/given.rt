@@ -4,7 +4,7 @@ ghost use Rattle.std.specs.Bool.{Decides};
 ghost use Rattle.swreq_param.specs.Tables.{IsOf, term_at};
 ghost use Rattle.swreq_derive.specs.Derivation.TermRequirement.{Conforms};
 ghost use Rattle.swreq_derive.specs.Derivation.TermStatement.{Requires};
-ghost use Rattle.swreq_derivation.specs.UnderWay.{IsUnderWay, States};
+ghost use Rattle.swreq_derivation.specs.UnderWay.{States};
 ghost use Rattle.swreq_readings.specs.declared.alphabet.Named.{Named as NamedView};
 ghost use Rattle.swreq_readings.specs.Alphabets.{IsDeclared};
 ghost use Rattle.swreq_readings.specs.Readable.{AllowsName, IsGiven, IsOfStep};
@@ -31,7 +31,6 @@ fn is_given_at(
     rank: usize,
     named: Named,
 ) -> bool
-    requires derivation { IsUnderWay derivation.now }
     requires subject { IsOf derivation.now.table subject }
     ensures { Decides result (IsOfStep step rank named
         × States derivation.now
@@ -51,7 +50,6 @@ pub fn given_step(
     subject: TermId,
     step: Step,
 ) -> Option<Named>
-    requires derivation { IsUnderWay derivation.now }
     requires subject { IsOf derivation.now.table subject }
     ensures { MatchOption result
         ((n : NamedView) → IsGiven alphabet.now derivation.now
@@ -74,7 +72,6 @@ pub fn declarer(
     subject: TermId,
     name: NameId,
 ) -> ProtoId
-    requires derivation { IsUnderWay derivation.now }
     requires subject { IsOf derivation.now.table subject }
     requires name { AllowsName alphabet.now derivation.now
         (term_at derivation.now.table subject) name }

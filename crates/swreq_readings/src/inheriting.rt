@@ -4,8 +4,8 @@ ghost use Rattle.std.specs.Bool.{Decides};
 ghost use Rattle.swreq_param.specs.Tables.{IsOf, term_at};
 ghost use Rattle.swreq_derive.specs.Derivation.TermRequirement.{Conforms};
 ghost use Rattle.swreq_derive.specs.Derivation.TermStatement.{Requires};
-ghost use Rattle.swreq_derivation.specs.UnderWay.{AddsLines, IsUnderWay, States};
-ghost use Rattle.swreq_readings.specs.Alphabets.{IsFromAbove, IsInherited, IsMember, IsParentFor, IsStillDerivedOver};
+ghost use Rattle.swreq_derivation.specs.UnderWay.{ContinuesFrom, States};
+ghost use Rattle.swreq_readings.specs.Alphabets.{FitsAssumptions, IsFromAbove, IsInherited, IsMember, IsParentFor};
 ghost use Rattle.swreq_readings.specs.Readable.{AllowsName};
 
 use crate::alphabet::{Alphabet, WrittenInheritance, declares, is_member};
@@ -61,7 +61,6 @@ fn step_up(
 ) -> Result<WrittenInheritance, AllocError>
     requires inherited { IsInherited alphabet.now }
     requires member { IsFromAbove alphabet.now protocol name }
-    requires derivation { IsUnderWay derivation.old }
     requires subject { IsOf derivation.old.table subject }
     requires conforms { States derivation.old
         (Requires (Conforms (term_at derivation.old.table subject) protocol)) }
@@ -72,8 +71,8 @@ fn step_up(
     ensures conforms { IfOk result
         (λ e. States derivation.new
         (Requires (Conforms (term_at derivation.old.table subject) e.proto))) }
-    ensures grows { AddsLines derivation.old derivation.new }
-    ensures derives { OnOk result (IsStillDerivedOver alphabet.now derivation.old derivation.new) }
+    ensures continues { ContinuesFrom (FitsAssumptions alphabet.now) derivation.old
+        derivation.new }
 {
     let parent = parent_for(alphabet, protocol, name);
     add_assoc_conf(
@@ -97,14 +96,13 @@ pub fn inherit(
 ) -> Result<(), AllocError>
     requires inherited { IsInherited alphabet.now }
     requires member { IsMember alphabet.now protocol name }
-    requires derivation { IsUnderWay derivation.old }
     requires subject { IsOf derivation.old.table subject }
     requires conforms { States derivation.old
         (Requires (Conforms (term_at derivation.old.table subject) protocol)) }
     ensures name { OnOk result (AllowsName alphabet.now derivation.new
         (term_at derivation.old.table subject) name) }
-    ensures grows { AddsLines derivation.old derivation.new }
-    ensures derives { OnOk result (IsStillDerivedOver alphabet.now derivation.old derivation.new) }
+    ensures continues { ContinuesFrom (FitsAssumptions alphabet.now) derivation.old
+        derivation.new }
 {
     let mut at = protocol;
     for k in 0..alphabet.protocols {

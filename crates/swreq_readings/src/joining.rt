@@ -1,7 +1,7 @@
 //! Words that are read alike: the order of two, and chains of them.
 ghost use Rattle.std.specs.Prelude.{OnOk};
 ghost use Rattle.swreq_param.specs.Tables.{IsOf, term_at};
-ghost use Rattle.swreq_derivation.specs.UnderWay.{AddsLines, IsStillDerived, IsUnderWay};
+ghost use Rattle.swreq_derivation.specs.UnderWay.{Continues};
 ghost use Rattle.swreq_readings.specs.Readable.{AreReadEqual};
 
 use crate::alphabet::Alphabet;
@@ -19,15 +19,13 @@ pub fn turn(
     from: &[Symbol],
     to: &[Symbol],
 ) -> Result<(), AllocError>
-    requires derivation { IsUnderWay derivation.old }
     requires subject { IsOf derivation.old.table subject }
     requires both { AreReadEqual alphabet.now derivation.old
         (term_at derivation.old.table subject) from.now to.now }
     ensures both { OnOk result
         (AreReadEqual alphabet.now derivation.new
         (term_at derivation.old.table subject) to.now from.now) }
-    ensures grows { AddsLines derivation.old derivation.new }
-    ensures derives { OnOk result (IsStillDerived derivation.old derivation.new) }
+    ensures continues { Continues derivation.old derivation.new }
 {
     let first = read_word(alphabet, derivation, subject, from)?;
     let second = read_word(alphabet, derivation, subject, to)?;
@@ -44,7 +42,6 @@ pub fn join(
     via: &[Symbol],
     to: &[Symbol],
 ) -> Result<(), AllocError>
-    requires derivation { IsUnderWay derivation.old }
     requires subject { IsOf derivation.old.table subject }
     requires first { AreReadEqual alphabet.now derivation.old
         (term_at derivation.old.table subject) from.now via.now }
@@ -53,8 +50,7 @@ pub fn join(
     ensures both { OnOk result
         (AreReadEqual alphabet.now derivation.new
         (term_at derivation.old.table subject) from.now to.now) }
-    ensures grows { AddsLines derivation.old derivation.new }
-    ensures derives { OnOk result (IsStillDerived derivation.old derivation.new) }
+    ensures continues { Continues derivation.old derivation.new }
 {
     let first = read_word(alphabet, derivation, subject, from)?;
     let middle = read_word(alphabet, derivation, subject, via)?;

@@ -1,7 +1,7 @@
 //! Words that are read after type parameters, as lines of a derivation allow it.
 //!
 //! A call fails only if memory runs out. Whatever it answers, what was stated is still stated, and the table begins with the old one.
-#![tactic(auto, using(crate::proofs::ReadingLemmas::grown_by_none))]
+#![tactic(auto)]
 
 mod along;
 mod alphabet;

@@ -3,15 +3,13 @@ ghost use Rattle.std.specs.Prelude.{◌≡◌, IfOk, OnOk};
 ghost use Rattle.swreq_param.specs.Tables.{IsOf, term_at};
 ghost use Rattle.swreq_param.specs.declared.ids.Step.TheVariants.{Bound, Name};
 ghost use Rattle.swreq_param.specs.Terms.Term.{Member};
-ghost use Rattle.swreq_derivation.specs.UnderWay.{AddsLines, AreEqualIds, AreStatedEqual, IsUnderWay};
-ghost use Rattle.swreq_readings.specs.Alphabets.{IsStillDerivedOver};
+ghost use Rattle.swreq_derivation.specs.UnderWay.{AreEqualIds, AreStatedEqual, ContinuesFrom};
+ghost use Rattle.swreq_readings.specs.Alphabets.{FitsAssumptions};
 ghost use Rattle.swreq_readings.specs.Readable.{AreMembers, IsGiven};
 
 use crate::alphabet::{Alphabet, Named};
 use std::alloc::AllocError;
-use swreq_derivation::{
-    Derivation, add_assoc_bind, add_same_conf, add_same_name, add_trans, member,
-};
+use swreq_derivation::{Derivation, add_assoc_bind, add_same_conf, add_same_name, add_trans};
 use swreq_param::{AssocId, Step, TermId};
 
 /// The bound member and the unbound member of a type parameter by an associated type, and a type parameter that equals the unbound member.
@@ -32,7 +30,6 @@ fn bind(
     named: Named,
     members: Members,
 ) -> Result<(), AllocError>
-    requires derivation { IsUnderWay derivation.old }
     requires equal { AreEqualIds derivation.old sides.0 sides.1 }
     requires given { IsGiven alphabet.now derivation.old
         (term_at derivation.old.table sides.1) (Bound assoc) named }
@@ -41,8 +38,8 @@ fn bind(
     ensures equal { OnOk result
         (AreStatedEqual derivation.new (term_at derivation.old.table members.bound)
         (term_at derivation.old.table members.last)) }
-    ensures grows { AddsLines derivation.old derivation.new }
-    ensures derives { OnOk result (IsStillDerivedOver alphabet.now derivation.old derivation.new) }
+    ensures continues { ContinuesFrom (FitsAssumptions alphabet.now) derivation.old
+        derivation.new }
 {
     let (t, u) = sides;
     add_same_conf(derivation, t, u, named.proto)?;
@@ -66,7 +63,6 @@ pub fn equal_member(
     step: Step,
     named: Named,
 ) -> Result<TermId, AllocError>
-    requires derivation { IsUnderWay derivation.old }
     requires left { IsOf derivation.old.table left }
     requires right { IsOf derivation.old.table right }
     requires given { IsGiven alphabet.now derivation.old
@@ -79,12 +75,12 @@ pub fn equal_member(
     ensures equal { OnOk result
         (AreStatedEqual derivation.new (Member (term_at derivation.old.table left) step)
         (Member (term_at derivation.old.table right) (Name named.name))) }
-    ensures grows { AddsLines derivation.old derivation.new }
-    ensures derives { OnOk result (IsStillDerivedOver alphabet.now derivation.old derivation.new) }
+    ensures continues { ContinuesFrom (FitsAssumptions alphabet.now) derivation.old
+        derivation.new }
 {
-    let plain = member(derivation, left, Step::Name(named.name))?;
-    let last = member(derivation, right, Step::Name(named.name))?;
-    let stepped = member(derivation, left, step)?;
+    let plain = derivation.member(left, Step::Name(named.name))?;
+    let last = derivation.member(right, Step::Name(named.name))?;
+    let stepped = derivation.member(left, step)?;
     add_same_name(
         derivation,
         left,

@@ -1,8 +1,8 @@
 //! One part of a word put in place of another.
-ghost use Rattle.std.specs.Prelude.{◌≡◌, ◌++◌, OnOk};
+ghost use Rattle.std.specs.Prelude.{◌++◌, OnOk};
 ghost use Rattle.swreq_param.specs.Tables.{IsOf, term_at};
-ghost use Rattle.swreq_derivation.specs.UnderWay.{AddsLines, AreStatedEqual, IsUnderWay};
-ghost use Rattle.swreq_readings.specs.Alphabets.{IsStillDerivedOver};
+ghost use Rattle.swreq_derivation.specs.UnderWay.{ContinuesFrom};
+ghost use Rattle.swreq_readings.specs.Alphabets.{FitsAssumptions};
 ghost use Rattle.swreq_readings.specs.Readable.{AllowsWord, AreReadEqual, read_word};
 
 use crate::along::carry_all;
@@ -31,7 +31,6 @@ pub fn put_side(
     to: &[Symbol],
     after: &[Symbol],
 ) -> Result<(), AllocError>
-    requires derivation { IsUnderWay derivation.old }
     requires subject { IsOf derivation.old.table subject }
     requires both { AreReadEqual alphabet.now derivation.old
         (term_at derivation.old.table subject) from.now to.now }
@@ -40,8 +39,8 @@ pub fn put_side(
     ensures both { OnOk result (AreReadEqual alphabet.now derivation.new
         (term_at derivation.old.table subject)
         (from.now ++ after.now) (to.now ++ after.now)) }
-    ensures grows { AddsLines derivation.old derivation.new }
-    ensures derives { OnOk result (IsStillDerivedOver alphabet.now derivation.old derivation.new) }
+    ensures continues { ContinuesFrom (FitsAssumptions alphabet.now) derivation.old
+        derivation.new }
 {
     let first = read_word(alphabet, derivation, subject, from)?;
     let second = read_word(alphabet, derivation, subject, to)?;
@@ -59,7 +58,6 @@ pub fn replace(
     sides: Sides,
     after: &[Symbol],
 ) -> Result<(), AllocError>
-    requires derivation { IsUnderWay derivation.old }
     requires subject { IsOf derivation.old.table subject }
     requires both { AreReadEqual alphabet.now derivation.old
         (read_word alphabet.now (term_at derivation.old.table subject) before.now)
@@ -70,8 +68,8 @@ pub fn replace(
         (term_at derivation.old.table subject)
         (before.now ++ (sides.entry.from.now ++ after.now))
         (before.now ++ (sides.entry.to.now ++ after.now))) }
-    ensures grows { AddsLines derivation.old derivation.new }
-    ensures derives { OnOk result (IsStillDerivedOver alphabet.now derivation.old derivation.new) }
+    ensures continues { ContinuesFrom (FitsAssumptions alphabet.now) derivation.old
+        derivation.new }
 {
     let v = read_word(alphabet, derivation, subject, before)?;
     put_side(alphabet, derivation, v, sides.from, sides.to, after)?;
@@ -87,7 +85,6 @@ pub fn replace_back(
     sides: Sides,
     after: &[Symbol],
 ) -> Result<(), AllocError>
-    requires derivation { IsUnderWay derivation.old }
     requires subject { IsOf derivation.old.table subject }
     requires both { AreReadEqual alphabet.now derivation.old
         (read_word alphabet.now (term_at derivation.old.table subject) before.now)
@@ -98,8 +95,8 @@ pub fn replace_back(
         (term_at derivation.old.table subject)
         (before.now ++ (sides.entry.from.now ++ after.now))
         (before.now ++ (sides.entry.to.now ++ after.now))) }
-    ensures grows { AddsLines derivation.old derivation.new }
-    ensures derives { OnOk result (IsStillDerivedOver alphabet.now derivation.old derivation.new) }
+    ensures continues { ContinuesFrom (FitsAssumptions alphabet.now) derivation.old
+        derivation.new }
 {
     let v = read_word(alphabet, derivation, subject, before)?;
     turn(alphabet, derivation, v, sides.to, sides.from)?;

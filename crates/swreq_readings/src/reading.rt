@@ -1,12 +1,12 @@
 //! The type parameters that words are read as.
-ghost use Rattle.std.specs.Prelude.{◌≡◌, IfOk, OnOk};
+ghost use Rattle.std.specs.Prelude.{◌≡◌, IfOk};
 ghost use Rattle.swreq_param.specs.Tables.{IsOf, term_at};
-ghost use Rattle.swreq_derivation.specs.UnderWay.{AddsLines, IsStillDerived, IsUnderWay};
+ghost use Rattle.swreq_derivation.specs.UnderWay.{Continues};
 ghost use Rattle.swreq_readings.specs.Readable.{read_symbol, read_word};
 
 use crate::alphabet::{Alphabet, member_at};
 use std::alloc::AllocError;
-use swreq_derivation::{Derivation, member, param};
+use swreq_derivation::Derivation;
 use swreq_param::{NameId, ParamId, Step, TermId};
 use swreq_word::Symbol;
 
@@ -17,24 +17,22 @@ pub fn read_symbol(
     subject: TermId,
     symbol: Symbol,
 ) -> Result<TermId, AllocError>
-    requires derivation { IsUnderWay derivation.old }
     requires subject { IsOf derivation.old.table subject }
     ensures is_of { IfOk result (IsOf derivation.new.table) }
     ensures stands { IfOk result
         (λ u. term_at derivation.new.table u ≡ read_symbol alphabet.now
         (term_at derivation.old.table subject) symbol) }
-    ensures grows { AddsLines derivation.old derivation.new }
-    ensures derives { OnOk result (IsStillDerived derivation.old derivation.new) }
+    ensures continues { Continues derivation.old derivation.new }
 {
     match symbol {
         Symbol::Proto(_) => Ok(subject),
         Symbol::Layout => Ok(subject),
-        Symbol::Name(rank) => member(derivation, subject, Step::Name(NameId { rank })),
+        Symbol::Name(rank) => derivation.member(subject, Step::Name(NameId { rank })),
         Symbol::Member(rank) => {
             let named = member_at(alphabet, rank);
-            member(derivation, subject, Step::Name(named.name))
+            derivation.member(subject, Step::Name(named.name))
         }
-        Symbol::Param(depth, index) => param(derivation, ParamId { depth, index }),
+        Symbol::Param(depth, index) => derivation.param(ParamId { depth, index }),
     }
 }
 
@@ -45,14 +43,12 @@ pub fn read_word(
     subject: TermId,
     word: &[Symbol],
 ) -> Result<TermId, AllocError>
-    requires derivation { IsUnderWay derivation.old }
     requires subject { IsOf derivation.old.table subject }
     ensures is_of { IfOk result (IsOf derivation.new.table) }
     ensures stands { IfOk result
         (λ u. term_at derivation.new.table u ≡ read_word alphabet.now
         (term_at derivation.old.table subject) word.now) }
-    ensures grows { AddsLines derivation.old derivation.new }
-    ensures derives { OnOk result (IsStillDerived derivation.old derivation.new) }
+    ensures continues { Continues derivation.old derivation.new }
 {
     let mut at = subject;
     for k in 0..word.len() {

@@ -1,9 +1,9 @@
 //! Whether lines allow words, and state that they are read alike.
-ghost use Rattle.std.specs.Prelude.{◌≡◌, IfOk, MatchOption, OnOk};
+ghost use Rattle.std.specs.Prelude.{IfOk, MatchOption};
 ghost use Rattle.std.specs.Bool.{Decides};
 ghost use Rattle.swreq_param.specs.Tables.{IsOf, term_at};
 ghost use Rattle.swreq_word.specs.declared.symbols.Symbol.TheVariants.{Member};
-ghost use Rattle.swreq_derivation.specs.UnderWay.{AddsLines, AreStatedEqual, IsStillDerived, IsUnderWay};
+ghost use Rattle.swreq_derivation.specs.UnderWay.{AreStatedEqual, Continues};
 ghost use Rattle.swreq_readings.specs.Readable.{AllowsName, AllowsSymbol, AllowsWord, AreReadEqual, IsReadAs};
 
 use crate::alphabet::{Alphabet, member_at};
@@ -18,7 +18,6 @@ use swreq_word::Symbol;
 
 /// Whether lines allow the name after T.
 fn allows_name(alphabet: &Alphabet, derivation: &Derivation, subject: TermId, name: NameId) -> bool
-    requires derivation { IsUnderWay derivation.now }
     requires subject { IsOf derivation.now.table subject }
     ensures { Decides result (AllowsName alphabet.now derivation.now
         (term_at derivation.now.table subject) name) }
@@ -31,7 +30,6 @@ fn allows_name(alphabet: &Alphabet, derivation: &Derivation, subject: TermId, na
 
 /// Whether lines allow the member symbol with this rank after T.
 fn allows_member(alphabet: &Alphabet, derivation: &Derivation, subject: TermId, rank: u64) -> bool
-    requires derivation { IsUnderWay derivation.now }
     requires subject { IsOf derivation.now.table subject }
     ensures { Decides result
         (AllowsSymbol alphabet.now derivation.now
@@ -54,7 +52,6 @@ fn allows_symbol(
     subject: TermId,
     symbol: Symbol,
 ) -> bool
-    requires derivation { IsUnderWay derivation.now }
     requires subject { IsOf derivation.now.table subject }
     ensures { Decides result (AllowsSymbol alphabet.now derivation.now
         (term_at derivation.now.table subject) symbol) }
@@ -75,13 +72,11 @@ fn read_if_allowed(
     subject: TermId,
     word: &[Symbol],
 ) -> Result<Option<TermId>, AllocError>
-    requires derivation { IsUnderWay derivation.old }
     requires subject { IsOf derivation.old.table subject }
     ensures told { IfOk result (λ o. MatchOption o
         (AllowsWord alphabet.now derivation.new (term_at derivation.old.table subject) word.now → ⊥)
         (IsReadAs alphabet.now derivation.new (term_at derivation.old.table subject) word.now)) }
-    ensures grows { AddsLines derivation.old derivation.new }
-    ensures derives { OnOk result (IsStillDerived derivation.old derivation.new) }
+    ensures continues { Continues derivation.old derivation.new }
 {
     let mut at = subject;
     for k in 0..word.len() {
@@ -95,7 +90,6 @@ fn read_if_allowed(
 
 /// Whether the two ids are one, or a line states that they are equal.
 fn are_equal(derivation: &Derivation, left: TermId, right: TermId) -> bool
-    requires derivation { IsUnderWay derivation.now }
     requires left { IsOf derivation.now.table left }
     requires right { IsOf derivation.now.table right }
     ensures { Decides result
@@ -116,13 +110,11 @@ pub fn are_read_equal(
     from: &[Symbol],
     to: &[Symbol],
 ) -> Result<bool, AllocError>
-    requires derivation { IsUnderWay derivation.old }
     requires subject { IsOf derivation.old.table subject }
     ensures told { IfOk result (λ yes.
         Decides yes (AreReadEqual alphabet.now derivation.new
         (term_at derivation.old.table subject) from.now to.now)) }
-    ensures grows { AddsLines derivation.old derivation.new }
-    ensures derives { OnOk result (IsStillDerived derivation.old derivation.new) }
+    ensures continues { Continues derivation.old derivation.new }
 {
     let first = read_if_allowed(alphabet, derivation, subject, from)?;
     match first {

@@ -67,7 +67,8 @@ use Rattle.swreq_check.specs.Told.MinimisingAllTells.{nothing}
 use Rattle.swreq_reply.specs.Verdict.{ChecksMachines, HasNoWorld, HasWorld, IsStopOf, IsVerdict, PassesCheck, RefusesSecond, limits_of, machine_outcome, refused_with, text_for}
 use Rattle.swreq_reply.specs.Verdict.IsRefused.{bad_calls, misfit, past_a_limit_of_families, unchecked, without_world}
 use Rattle.swreq_reply.specs.Verdict.IsVerdict.{answered as is_answered, cut_short as is_cut_short, judged as is_judged, refused as is_refused}
-use Rattle.swreq_check.proofs.OfChecks.{check_tells, is_formed, stops_come}
+use Rattle.swreq_rounds.proofs.Turning.{stopped_comes}
+use Rattle.swreq_check.proofs.OfChecks.{check_tells, is_formed}
 use Rattle.swreq_reply.proofs.ByBook.{by_book}
 
 -- ---- what is refused and what is printed
@@ -359,7 +360,7 @@ module _ {r : Request} (request : IsRequest r) where
                 record {
                   asked = s.stops.asked;
                   are = s.stops.are;
-                  comes = stops_come (limits_in r) (family_plan w s.stops.asked) which trace s.part s.stops.stops;
+                  comes = stopped_comes which trace s.part s.stops.stops;
                 },
                 s.told_is,
               );

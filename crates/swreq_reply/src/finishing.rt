@@ -24,7 +24,7 @@ use crate::printing::{MadePieces, output};
 use crate::request::{Request, second_at};
 use std::alloc::AllocError;
 use swreq_check::{
-    Asked, Checked, Content, Minimising, Passed, check, lines_of_calls, lists_wanted,
+    Asked, Checked, Content, Minimising, Passed, Piece, check, lines_of_calls, lists_wanted,
     minimised_lines, places,
 };
 use swreq_decl::parse_calls;
@@ -220,7 +220,7 @@ fn answered(
     r: &Request<'_>,
     world: &World,
     table: &ParamTable,
-    pieces: &[Option<Seq<u8>>],
+    pieces: &[Option<Piece>],
     lists: &[Option<Seq<u8>>],
 ) -> Result<Outcome, AllocError>
     requires request { IsRequest r.now }

@@ -18,7 +18,7 @@ ghost use Rattle.swreq_reply.specs.Pieces.{IsWhole, query_at, world_of};
 ghost use Rattle.swreq_check.specs.Made.{text_at};
 
 use std::alloc::{AllocError, Global};
-use swreq_check::{Content, Shown, list_asked, text_at};
+use swreq_check::{Content, Piece, Shown, line_at, list_asked, text_at, verdict_at};
 use swreq_lowering::FuncId;
 use swreq_param::ParamTable;
 use swreq_query::{Verdict, full_name};
@@ -32,7 +32,7 @@ pub(crate) struct MadePieces<'a> {
     pub world: &'a World,
     pub table: &'a ParamTable,
     pub content: Content,
-    pub pieces: &'a [Option<Seq<u8>>],
+    pub pieces: &'a [Option<Piece>],
     /// The line of the minimised list of each signature, by place, or None where it is not wanted.
     pub lists: &'a [Option<Seq<u8>>],
 }
@@ -46,7 +46,7 @@ fn answer_at<'a>(m: &MadePieces<'a>, k: usize) -> &'a [u8]
         (query_at m.now k) result.now }
 {
     match list_asked(&m.world.queries()[k]) {
-        Some(f) => text_at(m.lists, f.place as usize),
+        Some(f) => line_at(m.lists, f.place as usize),
         None => text_at(m.pieces, k),
     }
 }
@@ -65,22 +65,20 @@ fn all_answers(m: &MadePieces<'_>) -> Result<Vec<u8>, AllocError>
     Ok(out)
 }
 
-/// Whether the query at this place has this verdict: its line is that of no other answer.
+/// Whether the query at this place has this verdict.
 fn has_verdict(m: &MadePieces<'_>, k: usize, verdict: Verdict) -> bool
     requires k { k < length m.now.world.now.queries }
     requires answers { AreAnswers m.now.content }
-    requires plain { backing_of m.now.content ≡ Nothing }
     requires whole { IsWhole m.now }
     ensures { Decides result
         (HasAnswer (world_of m.now) true (answer_of verdict) (query_at m.now k)) }
 {
-    answer_at(m, k) == verdict.line()
+    verdict_at(m.pieces, k) == Some(verdict)
 }
 
 /// How many queries have this verdict.
 fn count_of(m: &MadePieces<'_>, verdict: Verdict) -> usize
     requires answers { AreAnswers m.now.content }
-    requires plain { backing_of m.now.content ≡ Nothing }
     requires whole { IsWhole m.now }
     ensures { Counted (HasAnswer (world_of m.now) true (answer_of verdict))
         (world_of m.now).queries result }
@@ -185,7 +183,7 @@ fn put_named(m: &MadePieces<'_>, f: FuncId, out: &mut Vec<u8>) -> Result<(), All
 {
     full_name(m.world, m.table, f, out)?;
     append_bytes(out, b": ")?;
-    append_bytes(out, text_at(m.lists, f.place as usize))
+    append_bytes(out, line_at(m.lists, f.place as usize))
 }
 
 /// The lines of all signatures, in written order.

@@ -1,6 +1,5 @@
 -- Parts of a list, by flags.
-use Rattle.std.proofs.Common.{◌≡◌, ◌∙◌, inl, inr, refl, sym, ap, subst, ℕ, zero, suc, ◌<◌, arith, Bool, true, false, List, [], ◌∷◌, ◌++◌, length, replicate, take, drop, slice_get, Some, Contains}
-use Rattle.swreq_lemmas.proofs.Members.{first_member, later_member, member_cases, no_member}
+use Rattle.std.proofs.Common.{◌≡◌, ◌∙◌, refl, ap, ℕ, zero, suc, ◌<◌, arith, Bool, true, false, List, [], ◌∷◌, ◌++◌, length, replicate, take, drop, slice_get, Some}
 use Rattle.swreq_valid.specs.Flags.{chosen}
 use Rattle.swreq_reqsig.specs.GoingThrough.{without}
 
@@ -30,15 +29,6 @@ drop_unset (b ∷ bs) (suc n) e = drop_unset bs n e
 -- ---- parts
 
 module _ {A : Type 0} where
-  pub chosen_in : (xs : List A) (bs : List Bool) (x : A) → Contains (chosen xs bs) x → Contains xs x
-  chosen_in [] bs x c = c
-  chosen_in (y ∷ xs) [] x c = no_member x c
-  chosen_in (y ∷ xs) (true ∷ bs) x c = elim (member_cases y x (chosen xs bs) c) [
-    | inl e ↦ subst (λ z. Contains (y ∷ xs) z) (sym e) (first_member y xs)
-    | inr k ↦ later_member y x xs (chosen_in xs bs x k)
-  ]
-  chosen_in (y ∷ xs) (false ∷ bs) x c = later_member y x xs (chosen_in xs bs x c)
-
   pub chosen-append : (xs ys : List A) (bs : List Bool)
       → chosen (xs ++ ys) bs ≡ chosen xs (take (length xs) bs) ++ chosen ys (drop (length xs) bs)
   chosen-append [] ys bs = refl

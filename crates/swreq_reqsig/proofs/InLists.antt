@@ -18,7 +18,7 @@ use Rattle.swreq_symbols.proofs.OfText.{requirements_by}
 use Rattle.swreq_valid.proofs.OfProtocols.{drop_at}
 use Rattle.swreq_reqsig.specs.Families.{family_of, flag_lists, in_lists, members, members_in, numbered, numbers, numbers_from, own, owned_in}
 use Rattle.swreq_reqsig.specs.Places.{all_places, places_from, places_in}
-use Rattle.swreq_reqsig.proofs.OfWorld.{chosen_first}
+use Rattle.swreq_reqsig.proofs.OfWorld.{chosen_first, lists_count}
 
 -- ---- list by list
 
@@ -47,10 +47,6 @@ from_count p n [] = refl
 from_count p n (r ∷ rs) = ap suc (from_count p (suc n) rs)
 
 module _ (w : IdWorld) where
-  lists_count : (ps : List ProtoId) (flags : List Bool) → length (in_lists w ps flags) ≡ length ps
-  lists_count [] flags = refl
-  lists_count (p ∷ ps) flags = ap suc (lists_count ps (drop (length (requirements_of w p)) flags))
-
   first_count : (p : ProtoId) (ps : List ProtoId) → length (places_in w (p ∷ ps)) ≡ length (requirements_of w p) + length (places_in w ps)
   first_count p ps =
       length-append (places_from p 1 (bare (requirements_of w p))) (places_in w ps)
@@ -77,7 +73,7 @@ module _ (w : IdWorld) where
   pub flags_are : (flags : List Bool) (lists : List (List Bool)) → length flags ≡ length (all_places w) → lists ≡ flag_lists w flags
       → AreFlags w lists
   flags_are flags lists n e = subst (AreFlags w) (sym e) (record {
-    protocols = lists_count w.lexicon.written_order flags;
+    protocols = lists_count w w.lexicon.written_order flags;
     requirements = λ k p own_flags i h. flags_each w.lexicon.written_order flags n k p own_flags i h;
   })
 
@@ -99,7 +95,7 @@ module _ (w : IdWorld) where
 
   -- a list of numbers for each protocol
   pub numbers_count : (flags : List Bool) → AreIds w.lexicon → length (numbers w flags) ≡ length w.lexicon.protocols
-  numbers_count flags ids = length-map (flag_lists w flags) (numbers_from 1) ∙ lists_count w.lexicon.written_order flags ∙ ids.each_once
+  numbers_count flags ids = length-map (flag_lists w flags) (numbers_from 1) ∙ lists_count w w.lexicon.written_order flags ∙ ids.each_once
 
 -- ---- those with the numbers are those whose flags are set
 

@@ -22,13 +22,13 @@ use Rattle.swreq_correspondence.proofs.Correspondence.{substitute-self}
 use Rattle.swreq_symbols.specs.Meaning.{facts_of}
 use Rattle.swreq_symbols.proofs.Symbols.{text_law}
 use Rattle.swreq_world.specs.Closed.{IsClosed}
-use Rattle.swreq_world.specs.Worlds.{TextWorld, requirements_of}
+use Rattle.swreq_world.specs.Worlds.{TextWorld, WorldOver, requirements_of}
 use Rattle.swreq_lowering.specs.Requirements.{PlacedRequirement}
 use Rattle.swreq_valid.specs.Flags.{chosen}
 use Rattle.swreq_valid.specs.Keeping.{flags_of, kept_facts}
-use Rattle.swreq_valid.proofs.Flagged.{chosen_map}
+use Rattle.swreq_valid.proofs.Flagged.{chosen_in, chosen_map}
 use Rattle.swreq_valid.proofs.Once.{flags_at, once}
-use Rattle.swreq_reqsig.proofs.Choosing.{chosen-append, chosen_in}
+use Rattle.swreq_reqsig.proofs.Choosing.{chosen-append}
 use Rattle.swreq_reqsig.specs.Families.{associated_types_of, family_of, flag_lists, in_lists, own, owned, owned_in}
 
 -- ---- what conforms derives
@@ -48,6 +48,11 @@ usable_derivable f p (Equals u x) c v =
     (assoc_same {u = u} {v = x} (conf refl (λ _. generic refl)) c (λ _. v.0) (λ _. v.1)))
 
 -- ---- parts of the requirements
+
+-- There is a list of flags for each protocol.
+pub lists_count : {R Q : Type 0} (w : WorldOver R Q) (ps : List ProtoId) (flags : List Bool) → length (in_lists w ps flags) ≡ length ps
+lists_count w [] flags = refl
+lists_count w (p ∷ ps) flags = ap suc (lists_count w ps (drop (length (requirements_of w p)) flags))
 
 module _ (w : TextWorld) where
   own_length : (p : ProtoId) → length (map (own p) ((facts_of w).of_protocol p)) ≡ length (requirements_of w p)
@@ -112,10 +117,6 @@ module _ (w : TextWorld) (closed : IsClosed w) where
   )
 
   -- ---- those whose flags are set
-
-  in_lists-length : (ps : List ProtoId) (flags : List Bool) → length (in_lists w ps flags) ≡ length ps
-  in_lists-length [] flags = refl
-  in_lists-length (p ∷ ps) flags = ap suc (in_lists-length ps (drop (length (requirements_of w p)) flags))
 
   part_has : (ps : List ProtoId) (flags : List Bool) (k : ℕ) (p : ProtoId) (own_flags : List Bool) (r : TermRequirement)
       → slice_get ps k ≡ Some p
@@ -196,7 +197,7 @@ module _ (w : TextWorld) (closed : IsClosed w) where
       let k : ℕ = g.0 in
       let at : slice_get order k ≡ Some p = g.1 in
       let l : k < length order = slice_get_within order k p at in
-      let n : length keep ≡ length order = in_lists-length order flags in
+      let n : length keep ≡ length order = lists_count w order flags in
       let there : slice_get keep k ≡ Some (get_or keep k []) = slice_get-get_or keep k [] (omega (arith, l, n)) in
       member_owned (family_of w flags) p (own p r)
       (part_has order flags k p (get_or keep k []) r at there

@@ -16,6 +16,7 @@ use Rattle.swreq_derive.specs.Derivation.TermRequirement.{Conforms}
 use Rattle.swreq_derive.specs.Facts.{requirement_of}
 use Rattle.swreq_derive.specs.Kept.{Owned}
 use Rattle.swreq_valid.specs.Flags.{unset}
+use Rattle.swreq_valid.proofs.Flagged.{none_set}
 use Rattle.swreq_valid.proofs.OfProtocols.{drop_at}
 use Rattle.swreq_reqsig.specs.declared.places.Place.{Place}
 use Rattle.swreq_reqsig.specs.Families.{own}
@@ -225,11 +226,6 @@ module _ (places : List Place) (flags starts : List Bool) where
   )
 
 -- ---- one that is marked first
-
-none_set : (n k : ℕ) → slice_get (replicate n false) k ≡ Some true → ⊥
-none_set zero k e = cc
-none_set (suc n) zero e = (let f : false ≡ true = cc in cc)
-none_set (suc n) (suc k) e = none_set n k e
 
 pub no_mark : (n : ℕ) (q : ProtoId) → IsMarked (replicate n false) q → ⊥
 no_mark n q m = none_set n q.rank m

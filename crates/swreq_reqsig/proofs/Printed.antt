@@ -3,6 +3,7 @@ use Rattle.std.proofs.Common.{◌≡◌, ◌∙◌, inl, inr, refl, sym, ap, ap�
 use Rattle.std.specs.List.{All}
 use Rattle.std.proofs.lemmas.List.{append-nil, drop-map, drop_all, map-append, take-map}
 use Rattle.std.proofs.lemmas.List.Elements.{Contains-append_cases, Contains-get_or}
+use Rattle.std.proofs.lemmas.Simd.{map-map}
 use Rattle.swreq_text.specs.Joined.{joined}
 use Rattle.swreq_lemmas.proofs.Members.{contains_of_map, first_member, later_member, no_member, only_member}
 use Rattle.swreq_param.specs.declared.ids.ProtoId.{ProtoId}
@@ -93,13 +94,9 @@ lines_done w ps kept k all whole l h = sym (append-nil all) ∙ ap (λ z. all ++
 abbrev pub text_over : LexiconView → List Term → Requirement → Text
 text_over x terms r = self_text x (requirement_of terms r)
 
-texts_over : (x : LexiconView) (terms : List Term) (rs : List Requirement)
-    → map (self_text x) (map (requirement_of terms) rs) ≡ map (text_over x terms) rs
-texts_over x terms [] = refl
-texts_over x terms (r ∷ rs) = ap (λ ts. text_over x terms r ∷ ts) (texts_over x terms rs)
-
 -- they are printed
 pub where_of_some : (x : LexiconView) (terms : List Term) (rs : List Requirement) → 0 < length rs
     → where_text x (map (requirement_of terms) rs) ≡ codes " where " ++ joined (codes ", ") (map (text_over x terms) rs)
 where_of_some x terms [] some = absurd (omega (arith, some))
-where_of_some x terms (r ∷ rs) some = ap (λ ts. codes " where " ++ joined (codes ", ") ts) (texts_over x terms (r ∷ rs))
+where_of_some x terms (r ∷ rs) some =
+    ap (λ ts. codes " where " ++ joined (codes ", ") ts) (map-map (self_text x) (requirement_of terms) (r ∷ rs))

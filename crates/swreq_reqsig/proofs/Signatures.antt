@@ -31,7 +31,7 @@ use Rattle.swreq_reqsig.specs.Families.{AreRequirementSignatures, DerivesWith, I
 use Rattle.swreq_reqsig.specs.GoingThrough.{AreAlike, AreGiven, AreKept, IsDecided, without}
 use Rattle.swreq_reqsig.specs.Places.{all_places, owned_at}
 use Rattle.swreq_reqsig.specs.Told.{IsSettled, MeetsFamily}
-use Rattle.swreq_reqsig.proofs.Choosing.{chosen_in}
+use Rattle.swreq_valid.proofs.Flagged.{chosen_in}
 use Rattle.swreq_reqsig.proofs.InLists.{members_by_numbers}
 use Rattle.swreq_reqsig.proofs.Leaving.{alike_where_derivable, given_keeps, given_needed, left_before, left_length, left_one, left_same}
 use Rattle.swreq_reqsig.proofs.OfWorld.{all_derivable, owned_derivable, owned_required}

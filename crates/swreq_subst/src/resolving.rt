@@ -142,9 +142,6 @@ pub fn resolve_calls(
 {
     match first_refusal(world, text, calls) {
         Some(r) => Err(error_of(r)),
-        None => match calls_of(alloc, world, table, text, calls) {
-            Ok(found) => Ok(found),
-            Err(_) => Err(NameErr::Memory),
-        },
+        None => Ok(calls_of(alloc, world, table, text, calls)?),
     }
 }

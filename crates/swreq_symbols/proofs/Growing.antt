@@ -2,22 +2,31 @@
 use Rattle.std.proofs.Common.{◌≡◌, refl, sym, ap₂, subst, arith, suc, List, [], ◌∷◌, map}
 use Rattle.std.specs.Prelude.{All}
 use Rattle.std.proofs.lemmas.List.Elements.{All-weaker}
+use Rattle.swreq_param.specs.declared.ids.TermId.{TermId}
 use Rattle.swreq_param.specs.Tables.{Extends}
 use Rattle.swreq_param.specs.Terms.{Term}
+use Rattle.swreq_derive.specs.declared.requirements.Requirement.{Requirement}
+use Rattle.swreq_lexicon.specs.Views.{LexiconView}
 use Rattle.swreq_lowering.specs.declared.ids.Written.{Written}
 use Rattle.swreq_lowering.specs.ByTable.{AreOf, HasQueryIdsOf, placed, query_by}
-use Rattle.swreq_lowering.proofs.Growing.{are_of_stay, placed_stay}
+use Rattle.swreq_lowering.proofs.Growing.{are_of_stay, ids_stay, of_stays, placed_stay, requirement_stays}
 use Rattle.swreq_world.specs.ByTable.{IsOverTable, signature_by, world_by}
-use Rattle.swreq_world.specs.Closed.{IsClosed}
+use Rattle.swreq_world.specs.Closed.{IsClosed, IsRequirementOf, IsTermOf}
 use Rattle.swreq_world.specs.Worlds.{IdWorld, SignatureOver}
 use Rattle.swreq_world.proofs.Filled.{query_of_stay, query_stays}
-use Rattle.swreq_symbols.specs.Known.{IsTextOver}
+use Rattle.swreq_symbols.specs.Known.{IsRequirementIn, IsTextOver, IsTypeIn}
 
 same_maps : {A B : Type 0} (f g : A → B) (P : A → Type 0) → ((x : A) → P x → f x ≡ g x) → (xs : List A) → All P xs → map f xs ≡ map g xs
 same_maps f g P same [] h = refl
 same_maps f g P same (x ∷ xs) h = ap₂ ◌∷◌ (same x (h 0 x (omega arith))) (same_maps f g P same xs (λ k d l. h (suc k) d (omega arith)))
 
 module _ (old new : List Term) (more : Extends old new) where
+  pub type_in_stays : (x : LexiconView) (t : TermId) → IsTypeIn old x t → IsTypeIn new x t
+  type_in_stays x t h = (of_stays old new t more h.0, subst (IsTermOf x) (sym (more.stands t h.0)) h.1)
+
+  pub requirement_in_stays : (x : LexiconView) (r : Requirement) → IsRequirementIn old x r → IsRequirementIn new x r
+  requirement_in_stays x r h = (ids_stay old new r more h.0, subst (IsRequirementOf x) (sym (requirement_stays old new r more h.0)) h.1)
+
   module _ (w : IdWorld) (over : IsOverTable old w) where
     -- the world is the same
     pub world_stays : world_by new w ≡ world_by old w

@@ -128,10 +128,10 @@ fn answer<S: Source, W: Watch>(
 {
     match line.command.input() {
         Input::Nothing => replied(alloc, line, &[], watch),
-        _ => match read_all(alloc, src, TEXT_LIMIT) {
-            Ok(text) => replied(alloc, line, &text, watch),
-            Err(e) => Err(e),
-        },
+        _ => {
+            let text = read_all(alloc, src, TEXT_LIMIT)?;
+            replied(alloc, line, &text, watch)
+        }
     }
 }
 

@@ -17,7 +17,7 @@ use Rattle.swreq_trie.specs.Stored.{NoneBegins, Shortest}
 use Rattle.swreq_trie.specs.Index.{IsIndex, FirstThere, HasSpot, IsPassing, IsPassingUpTo, IsOnWay, IsInside, IsInsideBelow, IsWithin, PassesRight, StandsRight, begin_of, spot_of}
 use Rattle.swreq_lemmas.proofs.Elements.{get_left, get_last, get_cases}
 use Rattle.swreq_trie.proofs.Paths.{grown_itself, child_kept, leads_kept, one_end, one_word}
-use Rattle.swreq_trie.proofs.Marks.{copies_keep, copies_keep_back}
+use Rattle.swreq_trie.proofs.Marks.{copies_keep, copies_keep_back, only_like}
 use Rattle.swreq_trie.proofs.Ways.{front_is}
 
 pub has_spot_kept : (edges edges' : List Edge) (inside inside' : List (Vec Spot Global)) → IsGrown edges edges' → KeepsListed inside inside'
@@ -33,6 +33,14 @@ passing_kept edges edges' passing passing' g q begin left n h front rest e some 
 pub way_kept : (edges edges' : List Edge) → IsGrown edges edges' → (left : List Symbol) (node : ℕ) → IsOnWay edges left node
     → IsOnWay edges' left node
 way_kept edges edges' g left node w = (w.0, w.1, w.2, leads_kept edges edges' g w.0 0 node w.3)
+
+-- what is listed besides is the start of a side, on its way over more edges too
+pub only_on_way : (edges edges' : List Edge) → IsGrown edges edges' → (begin : Spot) (left : List Symbol) (old new : List (Vec Spot Global))
+    → ListsOnly old new (λ n s. (s ≡ begin) × IsOnWay edges left n)
+    → ListsOnly old new (λ n s. (s ≡ begin) × IsOnWay edges' left n)
+only_on_way edges edges' g begin left old new =
+    only_like (λ n s. (s ≡ begin) × IsOnWay edges left n) (λ n s. (s ≡ begin) × IsOnWay edges' left n) old new
+    (λ n s h. (h.0, way_kept edges edges' g left n h.1))
 
 pub within_kept : (edges edges' : List Edge) → IsGrown edges edges' → (left : List Symbol) (at node : ℕ) → IsWithin edges left at node
     → IsWithin edges' left at node
@@ -148,13 +156,21 @@ index_copied edges edges' ends ends' passing passing' inside inside' lengths sto
 -- the way of a side was made, which is not stored yet
 module _ (edges edges' : List Edge) (ends ends' : List (Option ℕ))
     (passing passing' inside inside' : List (Vec Spot Global)) (lengths : Lengths)
-    (stored : List Entry) (index : IsIndex edges ends passing inside lengths stored) (entry : Entry) (grown : IsGrown edges edges')
+    (stored : List Entry) (index : IsIndex edges ends passing inside lengths stored) (entry : Entry)
+    (side : ℕ) (is_side : side ≡ length stored) (grown : IsGrown edges edges')
     (fork : IsForked edges')
     (same : SameEnds ends ends') (begun : KeepsListed passing passing') (within : KeepsListed inside inside')
-    (passes : ListsOnly passing passing' (λ n s. (s ≡ begin_of (length stored) entry) × IsOnWay edges' entry.left n))
-    (stands : ListsOnly inside inside' (λ n s. (at : ℕ) × (s ≡ spot_of (length stored) entry at) × IsWithin edges' entry.left at n)) where
+    (passes_at : ListsOnly passing passing' (λ n s. (s ≡ begin_of side entry) × IsOnWay edges' entry.left n))
+    (stands_at : ListsOnly inside inside' (λ n s. (at : ℕ) × (s ≡ spot_of side entry at) × IsWithin edges' entry.left at n)) where
+  passes : ListsOnly passing passing' (λ n s. (s ≡ begin_of (length stored) entry) × IsOnWay edges' entry.left n)
+  passes = subst (λ k. ListsOnly passing passing' (λ n s. (s ≡ begin_of k entry) × IsOnWay edges' entry.left n)) is_side passes_at
+
+  stands : ListsOnly inside inside' (λ n s. (at : ℕ) × (s ≡ spot_of (length stored) entry at) × IsWithin edges' entry.left at n)
+  stands = subst (λ k. ListsOnly inside inside' (λ n s. (at : ℕ) × (s ≡ spot_of k entry at) × IsWithin edges' entry.left at n))
+      is_side stands_at
+
   -- if memory runs out, its spots are forgotten
-  module _ (passing'' inside'' : List (Vec Spot Global)) (side : ℕ) (is_side : side ≡ length stored)
+  module _ (passing'' inside'' : List (Vec Spot Global))
       (forgot : Forgets passing' passing'' side)
       (forgot_inside : Forgets inside' inside'' side) where
     below_passing : (node : ℕ) (spot : Spot) → IsListed passing node spot → spot.side < side
@@ -180,9 +196,15 @@ module _ (edges edges' : List Edge) (ends ends' : List (Option ℕ))
 
   -- a side more
   module _ (ends'' : List (Option ℕ)) (node : ℕ) (leads : Leads edges' 0 entry.left node) (marked : Marked ends' ends'' node entry.number)
-      (listed : IsPassing edges' passing' (begin_of (length stored) entry) entry.left)
-      (spots : IsInside edges' inside' (length stored) entry)
+      (listed_at : IsPassing edges' passing' (begin_of side entry) entry.left)
+      (spots_at : IsInside edges' inside' side entry)
       (long : 0 < length entry.left) where
+    listed : IsPassing edges' passing' (begin_of (length stored) entry) entry.left
+    listed = subst (λ k. IsPassing edges' passing' (begin_of k entry) entry.left) is_side listed_at
+
+    spots : IsInside edges' inside' (length stored) entry
+    spots = subst (λ k. IsInside edges' inside' k entry) is_side spots_at
+
     abbrev more : List Entry
     more = stored ++ entry ∷ []
 

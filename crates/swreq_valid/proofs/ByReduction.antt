@@ -1,7 +1,5 @@
 -- What reduction shows of type parameters, from what the code decides.
 use Rattle.std.proofs.Common.{◌≡◌, ◌↔◌, ◌∙◌, inl, inr, refl, sym, ap, subst, ℕ, ◌<◌, ◌≤◌, ◌+◌, arith, Bool, IsTrue, List, length, slice_get, Some, Result, Ok, Err, IfOk}
-use Rattle.std.proofs.lemmas.Bool.{cases_eq}
-use Rattle.std.proofs.lemmas.Option.{same_Some, slice_get_within}
 use Rattle.std.specs.declared.alloc.AllocError.{AllocError}
 use Rattle.swreq_lemmas.proofs.Elements.{get_contains}
 use Rattle.swreq_param.specs.declared.ids.AssocId.{AssocId}
@@ -17,11 +15,9 @@ use Rattle.swreq_rule.specs.Reduction.{Reduces}
 use Rattle.swreq_rule.proofs.Remaining.{one_result}
 use Rattle.swreq_complete.specs.Alike.{ReduceAlike}
 use Rattle.swreq_lexicon.specs.declared.pair.ProtocolName.{ProtocolName}
-use Rattle.swreq_lexicon.specs.Lexicons.{pair}
 use Rattle.swreq_lexicon.specs.Views.{IsProtocol, LexiconView}
 use Rattle.swreq_symbols.specs.declared.over.Over.{Over}
-use Rattle.swreq_symbols.specs.Vanishing.{DeclaresType}
-use Rattle.swreq_symbols.proofs.Declared.{at_rank, from_rank}
+use Rattle.swreq_symbols.proofs.Giving.{assoc_answer, given_answer}
 use Rattle.swreq_world.specs.Closed.{AreIds}
 use Rattle.swreq_world.specs.Worlds.{TextWorld}
 use Rattle.swreq_valid.specs.ByReduction.{HasStepOf, IsGivenOf, ReducesConformance, ReducesValid}
@@ -34,60 +30,18 @@ alike_by rules u v m n p q b e = (
   λ a. e.1 (one_result rules u m a.0 p a.1 ∙ sym (one_result rules v n a.0 q a.2)),
 )
 
-module _ (x : LexiconView) (rules : List Rule) (over : Over) (t : Term) where
-  module _ (a : NameId) where
-    declared_as : (d : AssocId) (e : ProtocolName) → slice_get x.associated d.rank ≡ Some e → (p : ProtoId)
-        → DeclaresType x p a d → pair p a ≡ e
-    declared_as d e at p c = same_Some (pair p a) e (sym (at_rank x p a d c) ∙ at)
-
-    pub given_answer : (d : AssocId) (e : ProtocolName) (r : Bool) → slice_get x.associated d.rank ≡ Some e → e.name.rank ≡ a.rank
-        → IsTrue r ↔ ReducesConformance x rules over t e.proto → IsTrue r ↔ IsGivenOf x rules over t a d
-    given_answer d e r at named k =
-        let same : e ≡ pair e.proto a = λ j. record { proto = e.proto; name = record { rank = named j } } in (
-          (λ h. (e.proto, from_rank x e.proto a d (at ∙ ap Some same), k.0 h)),
-          λ g. k.1 (subst (λ (z : ProtocolName). ReducesConformance x rules over t z.proto) (declared_as d e at g.0 g.1) g.2),
-        )
-
-    pub not_given : (d : AssocId) (e : ProtocolName) → slice_get x.associated d.rank ≡ Some e → (e.name.rank ≡ a.rank → ⊥)
-        → IsGivenOf x rules over t a d → ⊥
-    not_given d e at other g = other (sym (ap (λ (z : ProtocolName). z.name.rank) (declared_as d e at g.0 g.1)))
-
-    -- none of lesser rank is given
-    abbrev pub NoneGiven : ℕ → Type 0
-    NoneGiven bound = (d : AssocId) → d.rank < bound → IsGivenOf x rules over t a d → ⊥
-
-    pub none_given : (k : ℕ) → (IsGivenOf x rules over t a (record { rank = k }) → ⊥) → NoneGiven k → NoneGiven (k + 1)
-    none_given k n none d l g = elim (cases_eq d.rank k) [
-      | inl e ↦ n (subst (λ (r : ℕ). IsGivenOf x rules over t a (record { rank = r })) e g)
-      | inr e ↦ none d (omega (arith, l, e)) g
-    ]
-
-    pub none_at_all : (k : ℕ) → length x.associated ≤ k → NoneGiven k → HasStepOf x rules over t (Name a) → ⊥
-    none_at_all k l none (d, g) =
-        let o = slice_get_within x.associated d.rank (pair g.0 a) (at_rank x g.0 a d g.1) in
-        none d (omega (arith, l, o)) g
-
-  -- the protocol of an associated type gives it
-  pub assoc_answer : (d : AssocId) (e : ProtocolName) (r : Bool) → slice_get x.associated d.rank ≡ Some e
-      → IsTrue r ↔ ReducesConformance x rules over t e.proto → IsTrue r ↔ HasStepOf x rules over t (Bound d)
-  assoc_answer d e r at k =
-      let one = given_answer e.name d e r at refl k in (
-        (λ h. (e.name, one.0 h)),
-        λ h. k.1 (subst (λ (z : ProtocolName). ReducesConformance x rules over t z.proto) (declared_as h.0 d e at h.1.0 h.1.1) h.1.2),
-      )
-
 -- ---- results
 
 module _ (x : LexiconView) (rules : List Rule) (over : Over) (t : Term) where
   pub given_result : (a : NameId) (d : AssocId) (e : ProtocolName) (r : Result Bool AllocError) → slice_get x.associated d.rank ≡ Some e
       → e.name.rank ≡ a.rank → IfOk r (λ b. IsTrue b ↔ ReducesConformance x rules over t e.proto)
       → IfOk r (λ b. IsTrue b ↔ IsGivenOf x rules over t a d)
-  given_result a d e (Ok b) at named h = given_answer x rules over t a d e b at named h
+  given_result a d e (Ok b) at named h = given_answer x (ReducesConformance x rules over t) a d e b at named h
   given_result a d e (Err f) at named h = tt
 
   pub assoc_result : (d : AssocId) (e : ProtocolName) (r : Result Bool AllocError) → slice_get x.associated d.rank ≡ Some e
       → IfOk r (λ b. IsTrue b ↔ ReducesConformance x rules over t e.proto) → IfOk r (λ b. IsTrue b ↔ HasStepOf x rules over t (Bound d))
-  assoc_result d e (Ok b) at h = assoc_answer x rules over t d e b at h
+  assoc_result d e (Ok b) at h = assoc_answer x (ReducesConformance x rules over t) d e b at h
   assoc_result d e (Err f) at h = tt
 
 -- the protocol of an associated type is of the text

@@ -4,7 +4,16 @@ use Rattle.std.proofs.lemmas.List.{append-nil, drop_more, drop_all}
 use Rattle.std.proofs.lemmas.List.Elements.{Contains-append_cases, Contains-append_left, Contains-append_right}
 use Rattle.std.proofs.lemmas.Option.{get_or_from_slice_get, slice_get_within}
 use Rattle.swreq_lemmas.proofs.Members.{first_member, later_member, member_cases, no_member, only_member}
-use Rattle.swreq_valid.specs.Sides.{FailsFirst, HoldsOfEach, Side}
+use Rattle.swreq_param.specs.declared.ids.TermId.{TermId}
+use Rattle.swreq_param.specs.Tables.{term_at}
+use Rattle.swreq_param.specs.Terms.{Term}
+use Rattle.swreq_derive.specs.declared.requirements.Requirement.{Requirement}
+use Rattle.swreq_derive.specs.declared.requirements.Requirement.TheVariants.{Same}
+use Rattle.swreq_derive.specs.Derivation.{Source}
+use Rattle.swreq_derive.specs.Facts.{requirement_of}
+use Rattle.swreq_lowering.specs.declared.ids.Written.{Written}
+use Rattle.swreq_lowering.specs.ByTable.{placed_by}
+use Rattle.swreq_valid.specs.Sides.{FailsFirst, HoldsOfEach, Side, sides_at, sides_of}
 
 same_head : (x y : Side) (xs ys : List Side) → x ∷ xs ≡ y ∷ ys → x ≡ y
 same_head x y xs ys e = cc
@@ -36,22 +45,52 @@ module _ (P : Side → Type 0) where
   second_fails s t a h n e =
       record { before = s ∷ []; side = t; after = []; split = refl; earlier = one_holds s h; fails = n; at_is = sym e }
 
-  pub of_one : {E : Type 0} (result : Result (Option ℕ) E) (s : Side) (all : List Side) → all ≡ s ∷ [] → IfOk result (Tested s)
+  of_one : {E : Type 0} (result : Result (Option ℕ) E) (s : Side) (all : List Side) → all ≡ s ∷ [] → IfOk result (Tested s)
       → IfOk result (Found all)
   of_one (Ok None) s all e h = subst (HoldsOfEach P) (sym e) (one_holds s h)
   of_one (Ok (Some a)) s all e h = subst (λ z. FailsFirst P z a) (sym e) (head_fails s [] a h.0 h.1)
   of_one (Err x) s all e h = tt
 
-  pub of_second : {E : Type 0} (result : Result (Option ℕ) E) (s t : Side) (first : Option ℕ) (all : List Side)
+  of_second : {E : Type 0} (result : Result (Option ℕ) E) (s t : Side) (first : Option ℕ) (all : List Side)
       → all ≡ s ∷ t ∷ [] → first ≡ None
       → Tested s first → IfOk result (Tested t) → IfOk result (Found all)
   of_second (Ok None) s t first all e n k h = subst (HoldsOfEach P) (sym e) (two_hold s t (subst (Tested s) n k) h)
   of_second (Ok (Some a)) s t first all e n k h = subst (λ z. FailsFirst P z a) (sym e) (second_fails s t a (subst (Tested s) n k) h.0 h.1)
   of_second (Err x) s t first all e n k h = tt
 
-  pub of_first : (s t : Side) (a : ℕ) (first : Option ℕ) (all : List Side) → all ≡ s ∷ t ∷ [] → first ≡ Some a
+  of_first : (s t : Side) (a : ℕ) (first : Option ℕ) (all : List Side) → all ≡ s ∷ t ∷ [] → first ≡ Some a
       → Tested s first → FailsFirst P all a
   of_first s t a first all e n k = let h = subst (Tested s) n k in subst (λ z. FailsFirst P z a) (sym e) (head_fails s (t ∷ []) a h.0 h.1)
+
+-- ---- the sides of a written requirement
+
+module _ (P : Side → Type 0) (terms : List Term) (s : Source) (written : Written) where
+  abbrev its_sides : List Side
+  its_sides = sides_of s (placed_by terms written)
+
+  abbrev left_side : TermId → Side
+  left_side t = record { source = s; term = term_at terms t; at = written.left_at }
+
+  abbrev right_side : TermId → Side
+  right_side t = record { source = s; term = term_at terms t; at = written.right_at }
+
+  abbrev sides_with : Requirement → List Side
+  sides_with r = sides_at s (requirement_of terms r) written.left_at written.right_at
+
+  -- it has one side
+  pub of_alone : {E : Type 0} (result : Result (Option ℕ) E) (r : Requirement) (t : TermId) → written.requirement ≡ r
+      → sides_with r ≡ left_side t ∷ []
+      → IfOk result (Tested P (left_side t)) → IfOk result (Found P its_sides)
+  of_alone result r t is one h = of_one P result (left_side t) its_sides (ap sides_with is ∙ one) h
+
+  -- it has two
+  module _ (t u : TermId) (is : written.requirement ≡ Same t u) (first : Option ℕ) (h : Tested P (left_side t) first) where
+    pub of_left : (a : ℕ) → first ≡ Some a → FailsFirst P its_sides a
+    of_left a e = of_first P (left_side t) (right_side u) a first its_sides (ap sides_with is) e h
+
+    pub of_right : {E : Type 0} (result : Result (Option ℕ) E) → first ≡ None → IfOk result (Tested P (right_side u))
+        → IfOk result (Found P its_sides)
+    of_right result e k = of_second P result (left_side t) (right_side u) first its_sides (ap sides_with is) e h k
 
 -- ---- one part after another
 

@@ -1,13 +1,19 @@
 -- Flags from round to round.
 use Rattle.std.proofs.lemmas.List.{drop_all, drop_more}
-use Rattle.std.proofs.Common.{◌≡◌, ◌⊎◌, inl, inr, refl, sym, subst, ap, ap₂, drop, get_or, replicate, ◌∙◌, ℕ, zero, suc, ◌<◌, ◌≤◌, ◌+◌, arith, Bool, true, false, List, [], ◌∷◌, ◌++◌, length, map, Contains, IsTrue, true≢false}
+use Rattle.std.proofs.Common.{◌≡◌, ◌⊎◌, inl, inr, refl, sym, subst, ap, ap₂, drop, get_or, replicate, ◌∙◌, ℕ, zero, suc, ◌<◌, ◌≤◌, ◌+◌, arith, Bool, true, false, List, [], ◌∷◌, ◌++◌, length, map, Contains, IsTrue, slice_get, Some, true≢false}
 use Rattle.std.specs.Bool.{Decides, if◌then◌else◌, beq}
 use Rattle.std.specs.List.{list_all}
-use Rattle.swreq_lemmas.proofs.Members.{first_member, later_member}
+use Rattle.swreq_lemmas.proofs.Members.{first_member, later_member, member_cases, no_member}
 use Rattle.swreq_rounds.specs.Rounds.{Selects}
 use Rattle.swreq_rounds.specs.Rounds.Selects.{none, takes, leaves}
 use Rattle.swreq_rounds.proofs.Members.{selected}
 use Rattle.swreq_valid.specs.Flags.{chosen, Tells, TellsMore, either_of, is_either, unset}
+
+-- Of flags that are all unset none is set.
+pub none_set : (n k : ℕ) → slice_get (replicate n false) k ≡ Some true → ⊥
+none_set zero k e = cc
+none_set (suc n) zero e = cc
+none_set (suc n) (suc k) e = none_set n k e
 
 module _ {A : Type 0} where
   -- flags of which none is set choose nothing
@@ -15,6 +21,16 @@ module _ {A : Type 0} where
   chosen_unset [] n = refl
   chosen_unset (x ∷ xs) zero = refl
   chosen_unset (x ∷ xs) (suc n) = chosen_unset xs n
+
+  -- what is chosen is of the list
+  pub chosen_in : (xs : List A) (bs : List Bool) (x : A) → Contains (chosen xs bs) x → Contains xs x
+  chosen_in [] bs x c = c
+  chosen_in (y ∷ xs) [] x c = no_member x c
+  chosen_in (y ∷ xs) (true ∷ bs) x c = elim (member_cases y x (chosen xs bs) c) [
+    | inl e ↦ subst (λ z. Contains (y ∷ xs) z) (sym e) (first_member y xs)
+    | inr k ↦ later_member y x xs (chosen_in xs bs x k)
+  ]
+  chosen_in (y ∷ xs) (false ∷ bs) x c = later_member y x xs (chosen_in xs bs x c)
 
   -- flags that tell of P choose exactly those of which P holds
   pub tells_selects : {P : A → Type 0} (xs : List A) (bs : List Bool) → Tells P xs bs → Selects P xs (chosen xs bs)

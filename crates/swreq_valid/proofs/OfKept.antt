@@ -1,8 +1,8 @@
 -- The plan of the protocols with the kept requirements, and which requirements are usable.
-use Rattle.std.proofs.Common.{◌≡◌, ◌∙◌, inl, inr, refl, sym, ap, ap₂, subst, ℕ, zero, suc, ◌<◌, ◌≤◌, ◌+◌, arith, Bool, true, false, List, [], ◌∷◌, ◌++◌, length, map, take, drop, append_assoc, get_or, slice_get, Some, Contains, subst₂, Option, Result, Ok, Err, IfOk}
+use Rattle.std.proofs.Common.{◌≡◌, ◌∙◌, inl, inr, refl, sym, ap, ap₂, subst, ℕ, zero, suc, ◌<◌, ◌≤◌, ◌+◌, arith, Bool, false, List, [], ◌∷◌, ◌++◌, length, map, take, drop, append_assoc, get_or, slice_get, Some, subst₂, Option, Result, Ok, Err, IfOk}
 use Rattle.std.specs.Bool.{Decides, if◌then◌else◌}
 use Rattle.std.proofs.lemmas.Bool.{cases_eq}
-use Rattle.std.proofs.lemmas.List.{append-nil, map-append, drop_all}
+use Rattle.std.proofs.lemmas.List.{append-nil, map-append, drop_all, take_all}
 use Rattle.std.proofs.lemmas.List.Elements.{Contains-append_cases}
 use Rattle.std.proofs.lemmas.Option.{get_or_from_slice_get, slice_get-get_or, slice_get_within}
 use Rattle.std.proofs.lemmas.Simd.{map-map}
@@ -15,7 +15,7 @@ use Rattle.swreq_derive.specs.Derivation.Source.{SelfOf}
 use Rattle.swreq_derive.specs.Derivation.TermRequirement.{Conforms, IsAnyObject, Equals}
 use Rattle.swreq_derive.specs.Facts.{requirement_of}
 use Rattle.swreq_derive.specs.WellFormed.{HasValidSides}
-use Rattle.swreq_lemmas.proofs.Members.{first_member, later_member, member_cases, no_member, contains_of_map}
+use Rattle.swreq_lemmas.proofs.Members.{no_member, contains_of_map}
 use Rattle.swreq_rule.specs.declared.rules.Rule.{Rule}
 use Rattle.swreq_watch.specs.declared.events.Event.{Event}
 use Rattle.swreq_complete.specs.declared.limit.Failed.{Failed}
@@ -23,6 +23,7 @@ use Rattle.swreq_complete.specs.declared.limit.Limits.{Limits}
 use Rattle.swreq_correspondence.specs.Shown.{ShowsUsable}
 use Rattle.swreq_correspondence.specs.Symbols.{AreOfText, AreSymbolsOf, IsOfText, Symbols}
 use Rattle.swreq_rounds.specs.Given.{basic_equations, items_of as items_from, of_self}
+use Rattle.swreq_rounds.specs.Plan.{Plan}
 use Rattle.swreq_rounds.specs.Presents.{AreProtocolRules}
 use Rattle.swreq_rounds.proofs.LastRound.{protocols_law}
 use Rattle.swreq_symbols.specs.Known.{IsRequirementIn, IsTextOver}
@@ -35,26 +36,17 @@ use Rattle.swreq_world.specs.Worlds.{IdWorld, TextWorld, requirements_of}
 use Rattle.swreq_lowering.specs.declared.ids.Written.{Written}
 use Rattle.swreq_valid.specs.declared.wanted.RoundStart.{RoundStart}
 use Rattle.swreq_valid.specs.declared.wanted.RoundRequirement.{RoundRequirement}
-use Rattle.swreq_valid.specs.Answers.{Answers}
+use Rattle.swreq_valid.specs.Answers.{Answers, IsOnlyOutcome}
 use Rattle.swreq_valid.specs.Flags.{Tells, chosen}
 use Rattle.swreq_valid.specs.Keeping.{AreFlags, IsUsableBy, TellEach, TellUsable, flags_of, kept_facts, kept_in, kept_plan}
 use Rattle.swreq_valid.specs.Plans.{AreWanted, bare, in_protocol, item_of, items_of, plan_of, says}
-use Rattle.swreq_valid.specs.Rounds.{RoundView, last_rules, rules_of}
+use Rattle.swreq_valid.specs.Rounds.{AreRounds, RoundView, last_rules, rules_of}
 use Rattle.swreq_valid.proofs.Deriving.{self_derivable, self_shown}
-use Rattle.swreq_valid.proofs.Flagged.{chosen_from, chosen_map, map_one_if, tells_map, tells_one_more}
+use Rattle.swreq_valid.proofs.Flagged.{chosen_from, chosen_in, chosen_map, map_one_if, tells_map, tells_one_more}
 use Rattle.swreq_symbols.proofs.OfText.{own_requirements, protocol_written}
 use Rattle.swreq_valid.proofs.OfProtocols.{drop_at}
 use Rattle.swreq_valid.proofs.Once.{flags_at, once}
-use Rattle.swreq_valid.proofs.Transfer.{usable_over, with_facts}
-
-chosen_in : {A : Type 0} (xs : List A) (bs : List Bool) (x : A) → Contains (chosen xs bs) x → Contains xs x
-chosen_in [] bs x c = c
-chosen_in (y ∷ xs) [] x c = no_member x c
-chosen_in (y ∷ xs) (true ∷ bs) x c = elim (member_cases y x (chosen xs bs) c) [
-  | inl e ↦ subst (λ z. Contains (y ∷ xs) z) (sym e) (first_member y xs)
-  | inr k ↦ later_member y x xs (chosen_in xs bs x k)
-]
-chosen_in (y ∷ xs) (false ∷ bs) x c = later_member y x xs (chosen_in xs bs x c)
+use Rattle.swreq_valid.proofs.Transfer.{answers_over, ok_rounds_over, only_over, usable_over, with_facts}
 
 -- ---- the plan
 
@@ -96,6 +88,29 @@ module _ (w : IdWorld) (terms : List Term) (keep : List (List Bool)) where
         ∙ kept_items (says terms (kept_in w order keep)) order keep are.protocols
         (λ k p flags e h. flags_at order keep k p flags (λ i q l f. once w.lexicon text.closed.ids i k q p l f e) e h) in
         λ i. record { symbols = symbols_of w.lexicon; facts = g; base = none i; basic = basic_is i; all = items i }
+
+    -- what rounds over the kept requirements of these lists come to is of that plan
+    module _ (start : RoundStart) (basic_is : start.basic.items ≡ basic_equations (symbols_of w.lexicon))
+        (all_is : start.all.items ≡ kept_in w w.lexicon.written_order keep) where
+      abbrev its_plan : Plan
+      its_plan = plan_of w terms [] start
+
+      same_plan : with_facts its_plan g ≡ kept_plan W keep
+      same_plan = kept_plan_is [] start refl basic_is all_is
+
+      pub kept_answers : (old new : Option (List Event)) (answer : Result (List Rule) Failed) → Answers start.limits its_plan old new answer
+          → Answers start.limits (kept_plan W keep) old new answer
+      kept_answers old new answer h =
+          subst (λ p. Answers start.limits p old new answer) same_plan (answers_over start.limits its_plan g refl old new answer h)
+
+      pub kept_only : (answer : Result (List Rule) Failed) → IsOnlyOutcome start.limits its_plan answer
+          → IsOnlyOutcome start.limits (kept_plan W keep) answer
+      kept_only answer h = subst (λ p. IsOnlyOutcome start.limits p answer) same_plan (only_over start.limits its_plan g refl answer h)
+
+      pub kept_rounds : (answer : Result (List RoundView) Failed) → IfOk answer (AreRounds start.limits its_plan)
+          → IfOk answer (AreRounds start.limits (kept_plan W keep))
+      kept_rounds answer h =
+          subst (λ p. IfOk answer (AreRounds start.limits p)) same_plan (ok_rounds_over start.limits its_plan g refl answer h)
 
     kept_wanted : (ps : List ProtoId) (ks : List (List Bool)) → AreWanted terms w.lexicon (kept_in w ps ks)
     kept_wanted [] ks x c = no_member x c
@@ -183,13 +198,7 @@ module _ {A : Type 0} (P : A → Type 0) (xs : List A) where
       subst₂ (Tells P) (sym cut) (sym f) (tells_one_more P (take k xs) bs (get_or xs k d) b t h)
 
   pub told_to_end : (k : ℕ) (bs : List Bool) → length xs ≤ k → Tells P (take k xs) bs → Tells P xs bs
-  told_to_end k bs l t = subst (λ z. Tells P z bs) (take_past xs k l) t
-    where
-      take_past : (ys : List A) (n : ℕ) → length ys ≤ n → take n ys ≡ ys
-      take_past [] zero h = refl
-      take_past [] (suc n) h = refl
-      take_past (y ∷ ys) zero h = absurd (omega (arith, h))
-      take_past (y ∷ ys) (suc n) h = ap (λ z. y ∷ z) (take_past ys n (omega (arith, h)))
+  told_to_end k bs l t = subst (λ z. Tells P z bs) (take_all k xs l) t
 
 -- the flags of the requirements of a protocol, over ids
 pub told_of : (w : IdWorld) (terms : List Term) (rules : List Rule) (p : ProtoId) (list : List Requirement) (flags : List Bool)

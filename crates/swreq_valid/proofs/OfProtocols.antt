@@ -55,10 +55,13 @@ module _ {A B : Type 0} (of : List A → List B) (part : A → List B) (one : (x
 
 -- ---- the basic equations, protocol by protocol
 
+-- the equations, and those of the protocols from a place on, are all
+abbrev pub AreBasicBefore : LexiconView → ℕ → List (Word × Word) → Type 0
+AreBasicBefore x k v = v ++ basic_of (symbols_of x) (drop k x.written_order) ≡ basic_equations (symbols_of x)
+
 pub basic_at : (x : LexiconView) (k : ℕ) (p : ProtoId) (v w : List (Word × Word)) → slice_get x.written_order k ≡ Some p
     → w ≡ v ++ (doubled p ∷ named_from p 0 (symbols_of x).members)
-    → v ++ basic_of (symbols_of x) (drop k x.written_order) ≡ basic_equations (symbols_of x)
-    → w ++ basic_of (symbols_of x) (drop (k + 1) x.written_order) ≡ basic_equations (symbols_of x)
+    → AreBasicBefore x k v → AreBasicBefore x (k + 1) w
 basic_at x k p v w e f h =
     part_at (basic_of (symbols_of x)) (λ p. doubled p ∷ named_from p 0 (symbols_of x).members) (λ p ps. refl) x.written_order k p v w
     (basic_equations (symbols_of x)) e f h

@@ -1,9 +1,9 @@
 -- From what the code has of a plan to the plan.
 use Rattle.std.proofs.lemmas.Option.{slice_get_read}
 use Rattle.swreq_lemmas.proofs.Elements.{take_one}
-use Rattle.std.proofs.Common.{◌≡◌, zero, suc, subst₂, refl, sym, ap, subst, ◌∙◌, ℕ, ◌<◌, ◌≤◌, ◌+◌, arith, Bool, List, [], ◌∷◌, ◌++◌, length, map, take, drop, get_or, append_assoc}
+use Rattle.std.proofs.Common.{◌≡◌, suc, subst₂, refl, sym, ap, subst, ◌∙◌, ℕ, ◌<◌, ◌≤◌, ◌+◌, arith, Bool, List, [], ◌∷◌, ◌++◌, length, map, take, drop, get_or, append_assoc, vec_len}
 use Rattle.std.specs.Bool.{if◌then◌else◌, Decides}
-use Rattle.std.proofs.lemmas.List.{append-nil, drop_all, map-append}
+use Rattle.std.proofs.lemmas.List.{append-nil, drop_all, map-append, take_all}
 use Rattle.std.proofs.lemmas.Simd.{map-map}
 use Rattle.swreq_param.specs.Terms.{Term}
 use Rattle.swreq_rule.specs.declared.rules.Rule.{Rule}
@@ -16,6 +16,8 @@ use Rattle.swreq_correspondence.proofs.Shown.{shown_by_params, usable_by_params}
 use Rattle.swreq_rounds.specs.Plan.{AreShown, AreShownByReduction, Item, equation_of, given}
 use Rattle.swreq_symbols.specs.declared.over.Over.{Over}
 use Rattle.swreq_symbols.specs.declared.over.Over.TheVariants.{Signature, Protocol}
+use Rattle.swreq_lexicon.specs.Views.{LexiconView}
+use Rattle.swreq_symbols.specs.Known.{IsRequirementIn}
 use Rattle.swreq_symbols.specs.Meaning.{facts_of, symbols_of}
 use Rattle.swreq_symbols.specs.Overs.{source_over}
 use Rattle.swreq_symbols.specs.Vanishing.{Links}
@@ -24,7 +26,7 @@ use Rattle.swreq_world.specs.Worlds.{IdWorld}
 use Rattle.swreq_valid.specs.declared.wanted.RoundStart.{RoundStart}
 use Rattle.swreq_valid.specs.declared.wanted.RoundRequirement.{RoundRequirement}
 use Rattle.swreq_valid.specs.Flags.{chosen, Tells}
-use Rattle.swreq_valid.specs.Plans.{item_of, items_of, plan_of, says, within}
+use Rattle.swreq_valid.specs.Plans.{AreWanted, item_of, items_of, plan_of, says, within}
 use Rattle.swreq_valid.proofs.Flagged.{chosen_from, chosen_map, map_one_if, tells_to, tells_map, tells_one_more}
 
 module _ (m : Symbols) (f : TermFacts) (rs : List TermRequirement) (C : Word → Word → Type 0) (r : TermRequirement) where
@@ -112,6 +114,19 @@ module _ (w : IdWorld) (terms : List Term) where
   none_left start used k v l =
       sym (ap (λ z. v ++ map (equation_for start) (chosen z (drop k used))) (drop_all k start.all.items l) ∙ append-nil v)
 
+-- a place before the end is of the list
+pub place_within : (start : RoundStart) (k count : ℕ) → k < count → count ≡ vec_len start.all → k < length start.all.items
+place_within start k count l e = let ok = start.all.ok in omega (arith, l, e, ok)
+
+pub place_behind : (start : RoundStart) (k count : ℕ) → count ≤ k → count ≡ vec_len start.all → length start.all.items ≤ k
+place_behind start k count l e = let ok = start.all.ok in omega (arith, l, e, ok)
+
+-- the requirement at a place of the list is of the table and of the text
+pub wanted_at : (terms : List Term) (x : LexiconView) (start : RoundStart) (k : ℕ) (want : RoundRequirement)
+    → AreWanted terms x start.all.items → k < length start.all.items → want ≡ get_or start.all.items k want
+    → IsRequirementIn terms x want.requirement
+wanted_at terms x start k want all l is = all want (k, l, sym is)
+
 -- flags of one more, and of all
 pub told_more : (P : RoundRequirement → Type 0) (xs : List RoundRequirement) (k : ℕ) (x : RoundRequirement) (bs cs : List Bool) (b : Bool)
     → k < length xs → x ≡ get_or xs k x
@@ -124,13 +139,7 @@ told_more P xs k x bs cs b l e f t d =
 
 pub told_all : (P : RoundRequirement → Type 0) (xs : List RoundRequirement) (k : ℕ) (bs : List Bool) → length xs ≤ k
     → Tells P (take k xs) bs → Tells P xs bs
-told_all P xs k bs l t = subst (λ z. Tells P z bs) (take_past xs k l) t
-  where
-    take_past : (ys : List RoundRequirement) (n : ℕ) → length ys ≤ n → take n ys ≡ ys
-    take_past [] zero h = refl
-    take_past [] (suc n) h = refl
-    take_past (y ∷ ys) zero h = absurd (omega (arith, h))
-    take_past (y ∷ ys) (suc n) h = ap (λ z. y ∷ z) (take_past ys n (omega (arith, h)))
+told_all P xs k bs l t = subst (λ z. Tells P z bs) (take_all k xs l) t
 
 pub items_length : (terms : List Term) (xs : List RoundRequirement) → length (items_of terms xs) ≡ length xs
 items_length terms xs = go xs

@@ -3,26 +3,26 @@ use Rattle.std.proofs.Common.{◌≡◌, ◌∙◌, inl, inr, refl, sym, ap, sub
 use Rattle.std.proofs.lemmas.Bool.{cases_lt}
 use Rattle.std.proofs.Math.Seq.{take-length}
 use Rattle.std.specs.declared.alloc.AllocError.{AllocError}
-use Rattle.std.proofs.lemmas.List.{drop_all, drop-append-le, length-take, map-append, take-take, take_more}
+use Rattle.std.proofs.lemmas.List.{drop_all, drop-append-le, length-take, map-append, take-take, take_all, take_more}
 use Rattle.std.proofs.lemmas.Option.{get_or_from_slice_get, slice_get_within}
 use Rattle.swreq_lemmas.proofs.Elements.{in_front, in_whole}
 use Rattle.swreq_word.specs.declared.symbols.Symbol.{Symbol}
 use Rattle.swreq_rule.specs.declared.rules.Birth.{Birth}
-use Rattle.swreq_rule.specs.declared.rules.Birth.TheVariants.{Given, Pair}
 use Rattle.swreq_rule.specs.declared.rules.Rule.{Rule}
 use Rattle.swreq_rule.specs.Reduction.{Reduces}
 use Rattle.swreq_watch.specs.declared.events.Event.{Event}
 use Rattle.swreq_watch.specs.declared.events.Event.TheVariants.{Born, Start}
 use Rattle.swreq_watch.specs.Told.{GrewBy}
-use Rattle.swreq_watch.proofs.Told.{grew_on}
+use Rattle.swreq_watch.proofs.Told.{grew_none, grew_on}
 use Rattle.swreq_complete.specs.declared.limit.Limits.{Limits}
 use Rattle.swreq_complete.specs.declared.limit.Failed.TheVariants.{Memory}
 use Rattle.swreq_complete.specs.Events.{events}
 use Rattle.swreq_complete.specs.Limits.{IsWithin}
-use Rattle.swreq_complete.specs.Moments.{Before, HasSides, greater_number}
+use Rattle.swreq_complete.specs.Moments.{Before}
 use Rattle.swreq_complete.specs.Reached.{BeginsWith, IsReached}
 use Rattle.swreq_complete.specs.RulesAt.{RulesAt}
 use Rattle.swreq_complete.specs.Settled.{SettledBy}
+use Rattle.swreq_complete.proofs.Agreement.{sides_in_front, sides_in_whole}
 use Rattle.swreq_complete.proofs.Moments.{not_both}
 use Rattle.swreq_rounds.specs.Plan.{AreShown, Item, Plan, given}
 use Rattle.swreq_rounds.specs.Rounds.{ComesTo, Ends, IsDue, IsOutcome, IsRound, Passed, Stops}
@@ -41,35 +41,6 @@ use Rattle.swreq_valid.proofs.Turned.{begun_by, more_by_item}
 -- ---- a front of a reached trace is reached
 
 module _ (base : ℕ) (given : List (List Symbol × List Symbol)) (t : List Rule) (n : ℕ) where
-  sides_in_front : (m : Birth) (l r : List Symbol) → greater_number m ≤ n → HasSides base given t m l r
-      → HasSides base given (take n t) m l r
-  sides_in_front (Given k) l r le s = s
-  sides_in_front (Pair i j at) l r le s =
-      let p = s.1 in let a = p.first_at in let b = p.second_at in (
-        s.0,
-        record {
-          first = p.first;
-          second = p.second;
-          kind = p.kind;
-          first_at = (a.0, a.1, in_front t n a.0 p.first (let e = a.1 in omega (arith, e, le)) a.2);
-          second_at = (b.0, b.1, in_front t n b.0 p.second (let e = b.1 in omega (arith, e, le)) b.2);
-        },
-      )
-
-  sides_in_whole : (m : Birth) (l r : List Symbol) → HasSides base given (take n t) m l r → HasSides base given t m l r
-  sides_in_whole (Given k) l r s = s
-  sides_in_whole (Pair i j at) l r s =
-      let p = s.1 in let a = p.first_at in let b = p.second_at in (
-        s.0,
-        record {
-          first = p.first;
-          second = p.second;
-          kind = p.kind;
-          first_at = (a.0, a.1, in_whole t n a.0 p.first a.2);
-          second_at = (b.0, b.1, in_whole t n b.0 p.second b.2);
-        },
-      )
-
   module _ (m : Birth) (l r : List Symbol) (count : ℕ) (below : count < n) (long : count ≤ length (take n t)) where
     rules_in_front : RulesAt base t m count → RulesAt base (take n t) m count
     rules_in_front h = record {
@@ -105,12 +76,13 @@ module _ (base : ℕ) (given : List (List Symbol × List Symbol)) (t : List Rule
         let below = place_below k rule e in record {
           left = b.left;
           right = b.right;
-          sides = sides_in_front rule.birth b.left b.right (let g = b.settled.rules_at.knows in omega (arith, g, below)) b.sides;
+          sides = sides_in_front base given t n rule.birth b.left b.right
+              (let g = b.settled.rules_at.knows in omega (arith, g, below)) b.sides;
           settled = settled_in_front rule.birth b.left b.right k below
               (let w = slice_get_within (take n t) k rule e in omega (arith, w)) b.settled;
         };
     settled = λ k rule lo e m l r sides before.
-        let (count, s) = h.settled k rule lo (in_whole t n k rule e) m l r (sides_in_whole m l r sides) before in
+        let (count, s) = h.settled k rule lo (in_whole t n k rule e) m l r (sides_in_whole base given t n m l r sides) before in
         let low = not_later k rule lo (in_whole t n k rule e) m count before s.rules_at in
         let below = place_below k rule e in
         let w = slice_get_within (take n t) k rule e in
@@ -129,12 +101,12 @@ module _ (base : ℕ) (given : List (List Symbol × List Symbol)) (t : List Rule
 
 -- ---- the events of rules and of rounds, one more
 
-pub start_alone : (base : ℕ) (rules : List Rule) → events base (take base rules) ≡ Start base ∷ []
+start_alone : (base : ℕ) (rules : List Rule) → events base (take base rules) ≡ Start base ∷ []
 start_alone base rules =
     let l = length-take base rules in
     ap (λ (rs : List Rule). Start base ∷ map Born rs) (drop_all base (take base rules) (omega (arith, l)))
 
-pub one_birth : (base k : ℕ) (rules : List Rule) (rule : Rule) → base ≤ k → slice_get rules k ≡ Some rule
+one_birth : (base k : ℕ) (rules : List Rule) (rule : Rule) → base ≤ k → slice_get rules k ≡ Some rule
     → events base (take (k + 1) rules) ≡ events base (take k rules) ++ Born rule ∷ []
 one_birth base k rules rule from e =
     let w = slice_get_within rules k rule e in
@@ -144,6 +116,34 @@ one_birth base k rules rule from e =
     ap (λ (rs : List Rule). Start base ∷ map Born (drop base rs)) more
     ∙ ap (λ (rs : List Rule). Start base ∷ map Born rs) (drop-append-le base (take k rules) (rule ∷ []) (omega (arith, l, w, from)))
     ∙ ap (λ (es : List Event). Start base ∷ es) (map-append Born (drop base (take k rules)) (rule ∷ []))
+
+module _ (base : ℕ) (rules : List Rule) (old : Option (List Event)) where
+  -- the watcher was told the events of the rules before a place, which is not before the base
+  abbrev pub TellsBefore : ℕ → Option (List Event) → Type 0
+  TellsBefore k now = GrewBy old now (events base (take k rules)) × (base ≤ k)
+
+  pub start_told : (now : Option (List Event)) → GrewBy old now (Start base ∷ []) → TellsBefore base now
+  start_told now grew = (subst (GrewBy old now) (sym (start_alone base rules)) grew, omega arith)
+
+  pub birth_told : (k : ℕ) (rule : Rule) (now new : Option (List Event)) → slice_get rules k ≡ Some rule → TellsBefore k now
+      → GrewBy now new (Born rule ∷ []) → TellsBefore (k + 1) new
+  birth_told k rule now new e told grew = let from = told.1 in (
+    subst (GrewBy old new) (sym (one_birth base k rules rule from e))
+        (grew_on old now new (events base (take k rules)) (Born rule ∷ []) told.0 grew),
+    omega (arith, from),
+  )
+
+  pub births_told : (k : ℕ) (now : Option (List Event)) → length rules ≤ k → TellsBefore k now → GrewBy old now (events base rules)
+  births_told k now l told = subst (λ (rs : List Rule). GrewBy old now (events base rs)) (take_all k rules l) told.0
+
+  -- what was told before memory ran out
+  pub none_told : (new : Option (List Event)) → new ≡ old → TellsFront base rules old new
+  none_told new same = ([], inl refl, subst (λ (t : Option (List Event)). GrewBy old t []) (sym same) (grew_none old))
+
+  pub front_told : (k : ℕ) (now new : Option (List Event)) → TellsBefore k now → new ≡ now → TellsFront base rules old new
+  front_told k now new told same =
+      let front = events base (take k rules) in
+      (front, inr (k, told.1, refl), subst (λ (t : Option (List Event)). GrewBy old t front) (sym same) told.0)
 
 pub one_round : (base : ℕ) (rounds : List RoundView) (r : RoundView)
     → events_of base (rounds ++ r ∷ []) ≡ events_of base rounds ++ round_events base r

@@ -28,10 +28,8 @@ fn noted<'b>(before: Vec<Round<'b>>, round: Round<'b>) -> Result<Vec<Round<'b>>,
     ensures { IfOk result (λ v. v.items ≡ before.entry.items ++ round.entry ∷ []) }
 {
     let mut before = before;
-    match before.push(round) {
-        Ok(()) => Ok(before),
-        Err(_) => Err(AllocError),
-    }
+    before.push(round)?;
+    Ok(before)
 }
 
 /// What comes after a round that ends with these rules.

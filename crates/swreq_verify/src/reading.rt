@@ -1,5 +1,5 @@
 // The sections of the second part of an input.
-ghost use Rattle.std.specs.Prelude.{◌≡◌, ◌++◌, ◌∷◌, ◌+◌, ◌^◌, ◌<◌, ◌≤◌, [], ℕ, IfOk, OnOk, length, map};
+ghost use Rattle.std.specs.Prelude.{◌≡◌, ◌∷◌, ◌+◌, ◌^◌, ◌<◌, ◌≤◌, ℕ, IfOk, length, map};
 ghost use Rattle.std.specs.List.{AllByRecursion};
 ghost use Rattle.swreq_lines.specs.declared.lines.LinesErr.TheVariants.{Memory, Syntax};
 ghost use Rattle.swreq_param.specs.Tables.{Extends};
@@ -111,16 +111,6 @@ fn next_section<'a>(
     }
 }
 
-fn put<'a>(sections: &mut Vec<Section<'a>>, section: Section<'a>) -> Result<(), LinesErr>
-    ensures ok { OnOk result (sections.new.items ≡ sections.old.items ++ section.entry ∷ []) }
-    ensures err { (n : ℕ) → result ≡ Err (Syntax n) → ⊥ }
-{
-    match sections.push(section) {
-        Ok(()) => Ok(()),
-        Err(_) => Err(LinesErr::Memory),
-    }
-}
-
 /// The sections of a text, of which there are to be `count`. It is `LinesErr::Syntax` if and only if the text is not made of `count`
 /// sections, with the first line that does not fit.
 ///
@@ -148,7 +138,7 @@ pub(crate) fn read_sections<'a>(
         let next = next_section(alloc, names, table, before, rest)?;
         before += next.section.derivation.len() as u32 + 1;
         rest = next.rest;
-        put(&mut sections, next.section)?;
+        sections.push(next.section)?;
     }
     if rest.is_empty() {
         Ok(sections)

@@ -66,8 +66,6 @@ pub fn verify(
 {
     let count = world.queries().len();
     let sections = read_sections(alloc, world.lexicon(), table, count, text)?;
-    match append_judgements(alloc, world, table, &sections, out) {
-        Ok(()) => Ok(()),
-        Err(_) => Err(LinesErr::Memory),
-    }
+    append_judgements(alloc, world, table, &sections, out)?;
+    Ok(())
 }

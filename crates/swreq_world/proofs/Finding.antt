@@ -138,7 +138,7 @@ module _ (terms : List Term) (w : IdWorld) where
   order_by [] = refl
   order_by (g ∷ gs) = ap (λ hs. g.signature ∷ hs) (order_by gs)
 
-  func_by : (outer : Option Bytes) (name : Bytes) → func_named (world_by terms w) outer name ≡ func_named w outer name
+  pub func_by : (outer : Option Bytes) (name : Bytes) → func_named (world_by terms w) outer name ≡ func_named w outer name
   func_by outer name = ap (λ gs. option_map (func_id gs) (signature_named w.lexicon.resolved.declared outer name)) (order_by w.signatures)
 
   pub outer_by : (o : Option FuncId) → outer_name (world_by terms w) o ≡ outer_name w o
@@ -156,7 +156,7 @@ module _ (terms : List Term) (w : IdWorld) where
             ∙ around,
       )
 
-  named_from : (outer : Option Bytes) (name : Bytes) (f : FuncId) → IsNamedAt w outer name f → IsNamedAt (world_by terms w) outer name f
+  pub named_from : (outer : Option Bytes) (name : Bytes) (f : FuncId) → IsNamedAt w outer name f → IsNamedAt (world_by terms w) outer name f
   named_from outer name f (within, called, around) =
       let e = by_table w.signatures f.place in
       let count = length-map w.signatures (signature_by terms) in (
@@ -165,7 +165,7 @@ module _ (terms : List Term) (w : IdWorld) where
         ap (λ (h : SignatureOver PlacedRequirement). outer_name (world_by terms w) h.outer) e ∙ outer_by (signature_at w f).outer ∙ around,
       )
 
-  param_by : (f : FuncId) (name : Bytes) → param_of_signature (world_by terms w) f name ≡ param_of_signature w f name
+  pub param_by : (f : FuncId) (name : Bytes) → param_of_signature (world_by terms w) f name ≡ param_of_signature w f name
   param_by f name =
       ap (λ (h : SignatureOver PlacedRequirement).
       option_map (param_id h.own_depth) (param_of w.lexicon.resolved.declared h.signature name)) (by_table w.signatures f.place)

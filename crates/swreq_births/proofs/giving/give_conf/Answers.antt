@@ -3,28 +3,28 @@ use Rattle.swreq_param.specs.Tables.{term_at}
 use Rattle.swreq_derive.specs.Derivation.TermRequirement.{Conforms}
 use Rattle.swreq_derive.specs.Derivation.TermStatement.{Requires}
 use Rattle.swreq_derivation.specs.UnderWay.{States}
-use Rattle.swreq_derivation.proofs.DerivationLemmas.{grows_then}
 use Rattle.swreq_readings.proofs.ReadingLemmas.{term_still, word_still}
 use Rattle.swreq_births.proofs.Equations.{conf_both}
 use Rattle.swreq_births.proofs.Readings.{on_side}
+use Rattle.swreq_derivation.proofs.DerivationLemmas.{continues_anyway, continues_then}
 use Rattle.swreq_births.proofs.giving.give_conf.Goals as goal
 
 pub carry_conf-requires-clause-conforms : goal.carry_conf-requires-clause-conforms
 carry_conf-requires-clause-conforms c =
     let s2 = c.read_word.new.derivation in
     let last = c.in_ok-last.ensures in
-    let x = on_side c.args.alphabet.now c.args.derivation.now c.put_conf.new.derivation s2 c.in_ok-put_conf.ensures.grows last.grows
-    c.args.origin.for_self
+    let x = on_side c.args.alphabet.now c.args.derivation.now c.put_conf.new.derivation s2 c.in_ok-put_conf.ensures.continues.grows
+    last.continues.grows c.args.origin.for_self
     c.args.subject c.in_ok-last.last c.args.word.now c.requires.origin.for_self c.requires.side last.stands in
     subst (λ z. States s2 (Requires (Conforms z c.args.protocol)))
     (sym (term_still c.args.derivation.now s2 x.grows c.args.subject c.requires.side.id))
-    (last.grows.stays _ c.in_ok-put_conf.ensures.conforms)
+    (last.continues.grows.stays _ c.in_ok-put_conf.ensures.conforms)
 
 pub carry_conf-requires-clause-equal : goal.carry_conf-requires-clause-equal
 carry_conf-requires-clause-equal c =
     let last = c.in_ok-last.ensures in
-    (on_side c.args.alphabet.now c.args.derivation.now c.put_conf.new.derivation c.read_word.new.derivation c.in_ok-put_conf.ensures.grows
-    last.grows
+    (on_side c.args.alphabet.now c.args.derivation.now c.put_conf.new.derivation c.read_word.new.derivation
+    c.in_ok-put_conf.ensures.continues.grows last.continues.grows
     c.args.origin.for_self c.args.subject c.in_ok-last.last c.args.word.now c.requires.origin.for_self c.requires.side last.stands).equal
 
 pub returns : goal.returns
@@ -37,17 +37,19 @@ returns c =
     let w = c.args.word.now in
     let last = c.in_ok-last.ensures in
     let carried = c.in_ok-carry_conf.ensures in
-    let x = on_side g s c.put_conf.new.derivation s2 c.in_ok-put_conf.ensures.grows last.grows c.args.origin.for_self c.args.subject
-    c.in_ok-last.last w c.requires.origin.for_self c.requires.side last.stands in record {
-      both = conf_both g s3 t w c.args.protocol (word_still g s2 s3 carried.grows t w x.word)
+    let x = on_side g s c.put_conf.new.derivation s2 c.in_ok-put_conf.ensures.continues.grows last.continues.grows c.args.origin.for_self
+    c.args.subject c.in_ok-last.last w c.requires.origin.for_self c.requires.side last.stands in record {
+      both = conf_both g s3 t w c.args.protocol (word_still g s2 s3 carried.continues.grows t w x.word)
           (subst (λ z. States s3 (Requires (Conforms z c.args.protocol))) x.stands carried.conforms);
-      grows = grows_then s s2 s3 x.grows carried.grows;
-      derives = λ b v n e d. carried.derives b (last.derives b (c.in_ok-put_conf.ensures.derives b v n e d));
+      continues = continues_then (continues_then c.in_ok-put_conf.ensures.continues (continues_anyway last.continues))
+          (continues_anyway carried.continues);
     }
 
-pub returns-in_err-last-clause-grows : goal.returns-in_err-last-clause-grows
-returns-in_err-last-clause-grows c = grows_then _ _ _ c.in_ok-put_conf.ensures.grows c.in_err-last.ensures.grows
+pub returns-in_err-last-clause-continues : goal.returns-in_err-last-clause-continues
+returns-in_err-last-clause-continues c =
+    continues_then c.in_ok-put_conf.ensures.continues (continues_anyway c.in_err-last.ensures.continues)
 
-pub returns-in_err-carry_conf-clause-grows : goal.returns-in_err-carry_conf-clause-grows
-returns-in_err-carry_conf-clause-grows c =
-    grows_then _ _ _ (grows_then _ _ _ c.in_ok-put_conf.ensures.grows c.in_ok-last.ensures.grows) c.in_err-carry_conf.ensures.grows
+pub returns-in_err-carry_conf-clause-continues : goal.returns-in_err-carry_conf-clause-continues
+returns-in_err-carry_conf-clause-continues c =
+    continues_then c.in_ok-put_conf.ensures.continues (continues_anyway (continues_then c.in_ok-last.ensures.continues
+    c.in_err-carry_conf.ensures.continues))

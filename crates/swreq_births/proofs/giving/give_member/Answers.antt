@@ -16,10 +16,8 @@ returns-clause-both c =
     let u = c.inherit.new.derivation in
     let t = term_at c.args.derivation.now.table c.args.subject in
     let m = member_at g c.args.rank in
-    let says : States u (Requires (Conforms t m.proto)) = c.inherit.ensures.grows.stays _ c.requires.conforms in
+    let says : States u (Requires (Conforms t m.proto)) = c.inherit.ensures.continues.grows.stays _ c.requires.conforms in
     let within = slice_get_within g.members c.args.rank c.requires.named.0 c.requires.named.1 in
-    on_ok_weaker c.inherit.result
-    (λ name.
+    on_ok_weaker c.inherit.result (λ name.
     let named : AllowsName g u t m.name = subst (λ (z : Named). AllowsName g u t z.name) c.member_at-named.ensures name in
-    record { left = (says, (named, tt)); right = ((within, says, named), tt); equal = inl refl })
-    c.inherit.ensures.name
+    record { left = (says, (named, tt)); right = ((within, says, named), tt); equal = inl refl }) c.inherit.ensures.name

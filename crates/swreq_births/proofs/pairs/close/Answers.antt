@@ -1,8 +1,8 @@
 use Rattle.std.proofs.Common.{refl, sym, ◌∙◌}
 use Rattle.swreq_param.specs.Tables.{term_at}
-use Rattle.swreq_derivation.proofs.DerivationLemmas.{grows_then}
 use Rattle.swreq_readings.proofs.ReadingLemmas.{both_still, is_still, term_still}
 use Rattle.swreq_births.proofs.Alike.{both_as, both_now, oriented_both}
+use Rattle.swreq_derivation.proofs.DerivationLemmas.{continues_then}
 use Rattle.swreq_births.proofs.pairs.close.Goals as goal
 
 pub join-requires-clause-first : goal.join-requires-clause-first
@@ -10,13 +10,12 @@ join-requires-clause-first c =
     let s = c.args.derivation.now in
     let s1 = c.join_at.new.derivation in
     both_as c.args.alphabet.now s1 _ _ c.args.ends.from.now c.args.ends.from.now c.args.words.to.now c.args.words.to.now
-    (sym (term_still s s1 c.in_ok-join_at.ensures.grows c.args.subject c.requires.subject)) refl refl c.in_ok-join_at.ensures.both
+    (sym (term_still s s1 c.in_ok-join_at.ensures.continues.grows c.args.subject c.requires.subject)) refl refl c.in_ok-join_at.ensures.both
 
 pub join-requires-clause-second : goal.join-requires-clause-second
 join-requires-clause-second c =
-    both_now c.args.alphabet.now c.args.derivation.now c.join_at.new.derivation c.in_ok-join_at.ensures.grows c.args.subject _ _
-    c.requires.subject
-    c.requires.ends.last
+    both_now c.args.alphabet.now c.args.derivation.now c.join_at.new.derivation c.in_ok-join_at.ensures.continues.grows c.args.subject _ _
+    c.requires.subject c.requires.ends.last
 
 pub turn-requires-clause-both : goal.turn-requires-clause-both
 turn-requires-clause-both c =
@@ -24,8 +23,8 @@ turn-requires-clause-both c =
     let s1 = c.join_at.new.derivation in
     let s2 = c.join.new.derivation in
     both_as c.args.alphabet.now s2 _ _ c.args.ends.from.now c.args.ends.from.now c.args.ends.to.now c.args.ends.to.now
-    (sym (term_still s1 s2 c.in_ok-join.ensures.grows c.args.subject
-    (is_still s s1 c.in_ok-join_at.ensures.grows c.args.subject c.requires.subject))) refl refl c.in_ok-join.ensures.both
+    (sym (term_still s1 s2 c.in_ok-join.ensures.continues.grows c.args.subject
+    (is_still s s1 c.in_ok-join_at.ensures.continues.grows c.args.subject c.requires.subject))) refl refl c.in_ok-join.ensures.both
 
 pub returns-clause-both : goal.returns-clause-both
 returns-clause-both c =
@@ -34,26 +33,22 @@ returns-clause-both c =
     let s1 = c.join_at.new.derivation in
     let s2 = c.join.new.derivation in
     let n = c.turn.new.derivation in
-    let is = is_still s s1 c.in_ok-join_at.ensures.grows c.args.subject c.requires.subject in
-    let one = term_still s s1 c.in_ok-join_at.ensures.grows c.args.subject c.requires.subject in
-    let two = term_still s1 s2 c.in_ok-join.ensures.grows c.args.subject is in
+    let is = is_still s s1 c.in_ok-join_at.ensures.continues.grows c.args.subject c.requires.subject in
+    let one = term_still s s1 c.in_ok-join_at.ensures.continues.grows c.args.subject c.requires.subject in
+    let two = term_still s1 s2 c.in_ok-join.ensures.continues.grows c.args.subject is in
     oriented_both g n (term_at s.table c.args.subject) c.args.ends.from.now c.args.ends.to.now c.args.rule.now c.requires.oriented
-    (both_still g s2 n c.in_ok-turn.ensures.grows _ _ _
+    (both_still g s2 n c.in_ok-turn.ensures.continues.grows _ _ _
     (both_as g s2 _ _ c.args.ends.from.now c.args.ends.from.now c.args.ends.to.now c.args.ends.to.now one refl refl
-    c.in_ok-join.ensures.both))
-    (both_as g n _ _ c.args.ends.to.now c.args.ends.to.now c.args.ends.from.now c.args.ends.from.now
+    c.in_ok-join.ensures.both)) (both_as g n _ _ c.args.ends.to.now c.args.ends.to.now c.args.ends.from.now c.args.ends.from.now
     (two ∙ one) refl refl c.in_ok-turn.ensures.both)
 
-pub returns-clause-grows : goal.returns-clause-grows
-returns-clause-grows c =
-    grows_then _ _ _ (grows_then _ _ _ c.in_ok-join_at.ensures.grows c.in_ok-join.ensures.grows) c.in_ok-turn.ensures.grows
+pub returns-clause-continues : goal.returns-clause-continues
+returns-clause-continues c =
+    continues_then (continues_then c.in_ok-join_at.ensures.continues c.in_ok-join.ensures.continues) c.in_ok-turn.ensures.continues
 
-pub returns-clause-derives : goal.returns-clause-derives
-returns-clause-derives c b d = c.in_ok-turn.ensures.derives b (c.in_ok-join.ensures.derives b (c.in_ok-join_at.ensures.derives b d))
+pub returns-in_err-join-clause-continues : goal.returns-in_err-join-clause-continues
+returns-in_err-join-clause-continues c = continues_then c.in_ok-join_at.ensures.continues c.in_err-join.ensures.continues
 
-pub returns-in_err-join-clause-grows : goal.returns-in_err-join-clause-grows
-returns-in_err-join-clause-grows c = grows_then _ _ _ c.in_ok-join_at.ensures.grows c.in_err-join.ensures.grows
-
-pub returns-in_err-turn-clause-grows : goal.returns-in_err-turn-clause-grows
-returns-in_err-turn-clause-grows c =
-    grows_then _ _ _ (grows_then _ _ _ c.in_ok-join_at.ensures.grows c.in_ok-join.ensures.grows) c.in_err-turn.ensures.grows
+pub returns-in_err-turn-clause-continues : goal.returns-in_err-turn-clause-continues
+returns-in_err-turn-clause-continues c =
+    continues_then (continues_then c.in_ok-join_at.ensures.continues c.in_ok-join.ensures.continues) c.in_err-turn.ensures.continues

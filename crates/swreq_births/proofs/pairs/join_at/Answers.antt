@@ -1,23 +1,21 @@
 use Rattle.std.proofs.Common.{refl}
-use Rattle.swreq_derivation.proofs.DerivationLemmas.{grows_then}
 use Rattle.swreq_readings.proofs.ReadingLemmas.{term_still}
 use Rattle.swreq_births.proofs.Alike.{both_as, both_now}
+use Rattle.swreq_derivation.proofs.DerivationLemmas.{continues_then}
 use Rattle.swreq_births.proofs.pairs.join_at.Goals as goal
 
 pub join-requires-clause-second : goal.join-requires-clause-second
 join-requires-clause-second c =
-    both_now c.args.alphabet.now c.args.derivation.now c.turn.new.derivation c.in_ok-turn.ensures.grows c.args.subject _ _
-    c.requires.subject
-    c.requires.second
+    both_now c.args.alphabet.now c.args.derivation.now c.turn.new.derivation c.in_ok-turn.ensures.continues.grows c.args.subject _ _
+    c.requires.subject c.requires.second
 
 pub returns-clause-both : goal.returns-clause-both
 returns-clause-both c = both_as c.args.alphabet.now c.join.new.derivation _ _ c.args.from.now c.args.from.now c.args.to.now c.args.to.now
-    (term_still c.args.derivation.now c.turn.new.derivation c.in_ok-turn.ensures.grows c.args.subject c.requires.subject) refl refl
-    c.in_ok-join.ensures.both
+    (term_still c.args.derivation.now c.turn.new.derivation c.in_ok-turn.ensures.continues.grows c.args.subject c.requires.subject) refl
+    refl c.in_ok-join.ensures.both
 
-pub returns-clause-grows : goal.returns-clause-grows
-returns-clause-grows c = grows_then c.args.derivation.now c.turn.new.derivation c.join.new.derivation c.in_ok-turn.ensures.grows
-    c.in_ok-join.ensures.grows
+pub returns-clause-continues : goal.returns-clause-continues
+returns-clause-continues c = continues_then c.in_ok-turn.ensures.continues c.in_ok-join.ensures.continues
 
-pub returns-in_err-join-clause-grows : goal.returns-in_err-join-clause-grows
-returns-in_err-join-clause-grows c = grows_then _ _ _ c.in_ok-turn.ensures.grows c.in_err-join.ensures.grows
+pub returns-in_err-join-clause-continues : goal.returns-in_err-join-clause-continues
+returns-in_err-join-clause-continues c = continues_then c.in_ok-turn.ensures.continues c.in_err-join.ensures.continues

@@ -1,9 +1,9 @@
 use Rattle.std.proofs.Common.{◌++◌, [], refl, sym, ap, subst, ◌∙◌, append-nil}
 use Rattle.swreq_param.specs.Tables.{term_at}
-use Rattle.swreq_derivation.proofs.DerivationLemmas.{grows_then}
 use Rattle.swreq_readings.specs.Readable.{AllowsWord, read_word}
 use Rattle.swreq_readings.proofs.ReadingLemmas.{both_still, is_still, term_still, word_both}
 use Rattle.swreq_births.proofs.Alike.{both_as}
+use Rattle.swreq_derivation.proofs.DerivationLemmas.{continues_anyway, continues_then, grows_then}
 use Rattle.swreq_births.proofs.pairs.read_across.Goals as goal
 
 pub put_side-requires-clause-word : goal.put_side-requires-clause-word
@@ -20,11 +20,9 @@ replace-requires-clause-both c =
     let s = c.args.derivation.now in
     let s1 = c.put_side.new.derivation in
     both_as g s1 (read_word g (term_at s.table c.args.subject) c.args.around.before.now) _ c.args.second.from.now c.args.second.from.now
-    c.args.second.to.now c.args.second.to.now
-    (ap (λ z. read_word g z c.args.around.before.now)
-    (sym (term_still s s1 c.in_ok-put_side.ensures.grows c.args.subject c.requires.subject)))
-    refl refl
-    (both_still g s s1 c.in_ok-put_side.ensures.grows _ c.args.second.from.now c.args.second.to.now c.requires.second.both)
+    c.args.second.to.now c.args.second.to.now (ap (λ z. read_word g z c.args.around.before.now)
+    (sym (term_still s s1 c.in_ok-put_side.ensures.continues.grows c.args.subject c.requires.subject))) refl refl
+    (both_still g s s1 c.in_ok-put_side.ensures.continues.grows _ c.args.second.from.now c.args.second.to.now c.requires.second.both)
 
 pub join_at-requires-clause-first : goal.join_at-requires-clause-first
 join_at-requires-clause-first c =
@@ -32,12 +30,11 @@ join_at-requires-clause-first c =
     let s = c.args.derivation.now in
     let s1 = c.put_side.new.derivation in
     let s2 = c.replace.new.derivation in
-    let gr = grows_then s s1 s2 c.in_ok-put_side.ensures.grows c.in_ok-replace.ensures.grows in
+    let gr = grows_then c.in_ok-put_side.ensures.continues.grows c.in_ok-replace.ensures.continues.grows in
     both_as g s2 (term_at s.table c.args.subject) _ (c.args.first.from.now ++ c.args.around.after.now) _
-    (c.args.first.to.now ++ c.args.around.after.now) _
-    (sym (term_still s s2 gr c.args.subject c.requires.subject))
+    (c.args.first.to.now ++ c.args.around.after.now) _ (sym (term_still s s2 gr c.args.subject c.requires.subject))
     (sym (c.deref.ensures.value ∙ c.in_ok-w.ensures)) (sym (c.deref-2.ensures.value ∙ c.in_ok-u.ensures))
-    (both_still g s1 s2 c.in_ok-replace.ensures.grows _ _ _ c.in_ok-put_side.ensures.both)
+    (both_still g s1 s2 c.in_ok-replace.ensures.continues.grows _ _ _ c.in_ok-put_side.ensures.both)
 
 pub join_at-requires-clause-second : goal.join_at-requires-clause-second
 join_at-requires-clause-second c =
@@ -45,11 +42,10 @@ join_at-requires-clause-second c =
     let s = c.args.derivation.now in
     let s1 = c.put_side.new.derivation in
     let s2 = c.replace.new.derivation in
-    let is = is_still s s1 c.in_ok-put_side.ensures.grows c.args.subject c.requires.subject in
+    let is = is_still s s1 c.in_ok-put_side.ensures.continues.grows c.args.subject c.requires.subject in
     both_as g s2 (term_at s1.table c.args.subject) (term_at s2.table c.args.subject)
-    (c.args.around.before.now ++ (c.args.second.from.now ++ [])) _
-    (c.args.around.before.now ++ (c.args.second.to.now ++ [])) _
-    (sym (term_still s1 s2 c.in_ok-replace.ensures.grows c.args.subject is))
+    (c.args.around.before.now ++ (c.args.second.from.now ++ [])) _ (c.args.around.before.now ++ (c.args.second.to.now ++ [])) _
+    (sym (term_still s1 s2 c.in_ok-replace.ensures.continues.grows c.args.subject is))
     (ap (λ z. c.args.around.before.now ++ z) (append-nil c.args.second.from.now) ∙ sym c.requires.word
     ∙ sym (c.deref.ensures.value ∙ c.in_ok-w.ensures))
     (ap (λ z. c.args.around.before.now ++ z) (append-nil c.args.second.to.now) ∙ sym (c.deref-3.ensures.value ∙ c.in_ok-v.ensures))
@@ -60,24 +56,21 @@ returns-clause-both c =
     let s = c.args.derivation.now in
     let s1 = c.put_side.new.derivation in
     let s2 = c.replace.new.derivation in
-    let gr = grows_then s s1 s2 c.in_ok-put_side.ensures.grows c.in_ok-replace.ensures.grows in
+    let gr = grows_then c.in_ok-put_side.ensures.continues.grows c.in_ok-replace.ensures.continues.grows in
     both_as c.args.alphabet.now c.join_at.new.derivation _ (term_at s.table c.args.subject) _
-    (c.args.first.to.now ++ c.args.around.after.now) _
-    (c.args.around.before.now ++ c.args.second.to.now)
+    (c.args.first.to.now ++ c.args.around.after.now) _ (c.args.around.before.now ++ c.args.second.to.now)
     (term_still s s2 gr c.args.subject c.requires.subject) (c.deref-2.ensures.value ∙ c.in_ok-u.ensures)
     (c.deref-3.ensures.value ∙ c.in_ok-v.ensures) c.in_ok-join_at.ensures.both
 
-pub returns-clause-grows : goal.returns-clause-grows
-returns-clause-grows c =
-    grows_then _ _ _ (grows_then _ _ _ c.in_ok-put_side.ensures.grows c.in_ok-replace.ensures.grows) c.in_ok-join_at.ensures.grows
+pub returns-clause-continues : goal.returns-clause-continues
+returns-clause-continues c =
+    continues_then (continues_then c.in_ok-put_side.ensures.continues c.in_ok-replace.ensures.continues) (continues_anyway
+    c.in_ok-join_at.ensures.continues)
 
-pub returns-clause-derives : goal.returns-clause-derives
-returns-clause-derives c b f d = c.in_ok-join_at.ensures.derives b
-    (c.in_ok-replace.ensures.derives b f (c.in_ok-put_side.ensures.derives b f d))
+pub returns-in_err-replace-clause-continues : goal.returns-in_err-replace-clause-continues
+returns-in_err-replace-clause-continues c = continues_then c.in_ok-put_side.ensures.continues c.in_err-replace.ensures.continues
 
-pub returns-in_err-replace-clause-grows : goal.returns-in_err-replace-clause-grows
-returns-in_err-replace-clause-grows c = grows_then _ _ _ c.in_ok-put_side.ensures.grows c.in_err-replace.ensures.grows
-
-pub returns-in_err-join_at-clause-grows : goal.returns-in_err-join_at-clause-grows
-returns-in_err-join_at-clause-grows c =
-    grows_then _ _ _ (grows_then _ _ _ c.in_ok-put_side.ensures.grows c.in_ok-replace.ensures.grows) c.in_err-join_at.ensures.grows
+pub returns-in_err-join_at-clause-continues : goal.returns-in_err-join_at-clause-continues
+returns-in_err-join_at-clause-continues c =
+    continues_then (continues_then c.in_ok-put_side.ensures.continues c.in_ok-replace.ensures.continues) (continues_anyway
+    c.in_err-join_at.ensures.continues)

@@ -1,8 +1,8 @@
 use Rattle.std.proofs.Common.{◌++◌, refl, sym, ap, ◌∙◌}
 use Rattle.swreq_param.specs.Tables.{term_at}
-use Rattle.swreq_derivation.proofs.DerivationLemmas.{grows_then}
 use Rattle.swreq_readings.proofs.ReadingLemmas.{term_still}
 use Rattle.swreq_births.proofs.Alike.{both_as, both_now}
+use Rattle.swreq_derivation.proofs.DerivationLemmas.{continues_anyway, continues_then}
 use Rattle.swreq_births.proofs.pairs.read_inside.Goals as goal
 
 pub join_at-requires-clause-first : goal.join_at-requires-clause-first
@@ -14,7 +14,7 @@ join_at-requires-clause-first c =
     (c.deref.ensures.value ∙ c.in_ok-from.ensures) in
     both_as g s1 (term_at s1.table c.args.subject) _
     (c.args.around.before.now ++ (c.args.sides.from.now ++ c.args.around.after.now)) _ c.args.reduct.now _ refl (sym e) refl
-    (both_now g s s1 c.in_ok-replace.ensures.grows c.args.subject _ _ c.requires.subject c.requires.first)
+    (both_now g s s1 c.in_ok-replace.ensures.continues.grows c.args.subject _ _ c.requires.subject c.requires.first)
 
 pub join_at-requires-clause-second : goal.join_at-requires-clause-second
 join_at-requires-clause-second c =
@@ -27,7 +27,8 @@ join_at-requires-clause-second c =
     (c.deref-2.ensures.value ∙ c.in_ok-to.ensures) in
     both_as g s1 (term_at s.table c.args.subject) _ (c.args.around.before.now ++ (c.args.sides.from.now ++ c.args.around.after.now)) _
     (c.args.around.before.now ++ (c.args.sides.to.now ++ c.args.around.after.now)) _
-    (sym (term_still s s1 c.in_ok-replace.ensures.grows c.args.subject c.requires.subject)) (sym e) (sym f) c.in_ok-replace.ensures.both
+    (sym (term_still s s1 c.in_ok-replace.ensures.continues.grows c.args.subject c.requires.subject)) (sym e) (sym f)
+    c.in_ok-replace.ensures.both
 
 pub returns-clause-both : goal.returns-clause-both
 returns-clause-both c =
@@ -38,10 +39,11 @@ returns-clause-both c =
     (c.deref-2.ensures.value ∙ c.in_ok-to.ensures) in
     both_as g c.join_at.new.derivation _ _ c.args.reduct.now _ _
     (c.args.around.before.now ++ (c.args.sides.to.now ++ c.args.around.after.now))
-    (term_still s s1 c.in_ok-replace.ensures.grows c.args.subject c.requires.subject) refl f c.in_ok-join_at.ensures.both
+    (term_still s s1 c.in_ok-replace.ensures.continues.grows c.args.subject c.requires.subject) refl f c.in_ok-join_at.ensures.both
 
-pub returns-clause-grows : goal.returns-clause-grows
-returns-clause-grows c = grows_then _ _ _ c.in_ok-replace.ensures.grows c.in_ok-join_at.ensures.grows
+pub returns-clause-continues : goal.returns-clause-continues
+returns-clause-continues c = continues_then c.in_ok-replace.ensures.continues (continues_anyway c.in_ok-join_at.ensures.continues)
 
-pub returns-in_err-join_at-clause-grows : goal.returns-in_err-join_at-clause-grows
-returns-in_err-join_at-clause-grows c = grows_then _ _ _ c.in_ok-replace.ensures.grows c.in_err-join_at.ensures.grows
+pub returns-in_err-join_at-clause-continues : goal.returns-in_err-join_at-clause-continues
+returns-in_err-join_at-clause-continues c =
+    continues_then c.in_ok-replace.ensures.continues (continues_anyway c.in_err-join_at.ensures.continues)

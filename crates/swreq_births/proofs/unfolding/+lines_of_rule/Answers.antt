@@ -3,20 +3,23 @@ pub mod Paths
 pub mod Rules
 pub mod Requirements
 pub mod TypeParameters
-use Rattle.std.proofs.Common.{◌≤◌, IfSome, length, refl, sym, subst, arith}
+use Rattle.std.proofs.Common.{◌≤◌, IfSome, length, refl, sym, ap, subst, arith}
 use Rattle.swreq_param.specs.Tables.{term_at}
+use Rattle.swreq_derive.specs.Instances.{HasNumber}
 use Rattle.swreq_pair.specs.Pairs.{IsPair}
-use Rattle.swreq_derivation.proofs.DerivationLemmas.{grows_then}
 use Rattle.swreq_readings.specs.Readable.{IsGiven, read_word}
 use Rattle.swreq_readings.proofs.ReadingLemmas.{is_still}
-use Rattle.swreq_births.specs.Systems.{IsWritten, rules_at}
+use Rattle.swreq_births.specs.Systems.{IsWritten, requirement_by, rules_at}
+use Rattle.swreq_births.specs.Types.{written_by}
 use Rattle.swreq_births.proofs.Alike.{both_as}
 use Rattle.swreq_births.proofs.Equations.{sides_as}
 use Rattle.swreq_births.proofs.Headed.{pair_here, paired_at, within_first}
+use Rattle.swreq_births.proofs.Readings.{placed_now, placed_still}
 use Rattle.swreq_births.proofs.unfolding.+lines_of_rule.Answers.Paths as paths
 use Rattle.swreq_births.proofs.unfolding.+lines_of_rule.Answers.Rules as rules
 use Rattle.swreq_births.proofs.unfolding.+lines_of_rule.Answers.Requirements as requirements
 use Rattle.swreq_births.proofs.unfolding.+lines_of_rule.Answers.TypeParameters as type_parameters
+use Rattle.swreq_derivation.proofs.DerivationLemmas.{continues_anyway, continues_if, continues_then, grows_then}
 use Rattle.swreq_births.proofs.unfolding.+lines_of_rule.Goals as goal
 
 -- ---- along a path
@@ -127,18 +130,14 @@ give_equation-returns-in_ok-give_member-in-Named-clause-both = requirements.give
 pub give_equation-give_required-requires : goal.give_equation-give_required-requires
 give_equation-give_required-requires = requirements.give_equation-give_required-requires
 
-pub give_equation-returns-in_ok-give_required-in-Required-clause-both
-    : goal.give_equation-returns-in_ok-give_required-in-Required-clause-both
-give_equation-returns-in_ok-give_required-in-Required-clause-both t c =
-    both_as c.args.history.now.alphabet c.give_required.new.derivation _ _ _ _ _ _ refl c.sides_of-words.ensures.from
-    c.sides_of-words.ensures.to c.in_ok-give_required-in-Required.ensures.both
-
-pub give_equation-returns-in_ok-give_required-in-Required-clause-derives
-    : goal.give_equation-returns-in_ok-give_required-in-Required-clause-derives
-give_equation-returns-in_ok-give_required-in-Required-clause-derives t c b f d =
+pub give_equation-returns-in-Required-clause-continues : goal.give_equation-returns-in-Required-clause-continues
+give_equation-returns-in-Required-clause-continues t c =
     let there = c.requires.equation.there in
-    c.in_ok-give_required-in-Required.ensures.derives b f (subst (IsWritten b) c.in-Required.is
-    (f.written c.args.system there.0 c.args.equation.now c.requires.equation.system.within there.1)) d
+    continues_if (λ b f. (
+      f,
+      subst (IsWritten b) c.in-Required.is
+          (f.written c.args.system there.0 c.args.equation.now c.requires.equation.system.within there.1),
+    )) c.give_required.ensures.continues
 
 -- ---- requirements
 
@@ -146,19 +145,19 @@ pub give_required-read_type-requires : goal.give_required-read_type-requires
 give_required-read_type-requires t c =
     let shown = sides_as c.args.history.now.alphabet c.args.scope.owner (rules_at c.args.history.now c.args.scope.system) _ _
     c.args.words.from.now c.args.words.to.now c.in-Conf.is c.requires.shown in
-    let now = c.requires.scope in (omega (arith, c.decreases), (now.system, (now.derivation, (now.for_self, (now.owner, shown.0)))))
+    let now = c.requires.scope in (omega (arith, c.decreases), (now.system, (now.for_self, (now.owner, shown.0))))
 
 pub give_required-read_type-requires-in-Layout : goal.give_required-read_type-requires-in-Layout
 give_required-read_type-requires-in-Layout t c =
     let shown = sides_as c.args.history.now.alphabet c.args.scope.owner (rules_at c.args.history.now c.args.scope.system) _ _
     c.args.words.from.now c.args.words.to.now c.in-Layout.is c.requires.shown in
-    let now = c.requires.scope in (omega (arith, c.decreases), (now.system, (now.derivation, (now.for_self, (now.owner, shown.0)))))
+    let now = c.requires.scope in (omega (arith, c.decreases), (now.system, (now.for_self, (now.owner, shown.0))))
 
 pub give_required-read_type-requires-in-Same : goal.give_required-read_type-requires-in-Same
 give_required-read_type-requires-in-Same t c =
     let shown = sides_as c.args.history.now.alphabet c.args.scope.owner (rules_at c.args.history.now c.args.scope.system) _ _
     c.args.words.from.now c.args.words.to.now c.in-Same.is c.requires.shown in
-    let now = c.requires.scope in (omega (arith, c.decreases), (now.system, (now.derivation, (now.for_self, (now.owner, shown.0)))))
+    let now = c.requires.scope in (omega (arith, c.decreases), (now.system, (now.for_self, (now.owner, shown.0))))
 
 pub give_required-read_type-requires-in-Same-2 : goal.give_required-read_type-requires-in-Same-2
 give_required-read_type-requires-in-Same-2 = requirements.give_required-read_type-requires-in-Same-2
@@ -166,20 +165,20 @@ give_required-read_type-requires-in-Same-2 = requirements.give_required-read_typ
 pub give_required-give_conf-requires : goal.give_required-give_conf-requires
 give_required-give_conf-requires = requirements.give_required-give_conf-requires
 
-pub give_required-returns-in_ok-give_conf-in-Conf : goal.give_required-returns-in_ok-give_conf-in-Conf
-give_required-returns-in_ok-give_conf-in-Conf = requirements.give_required-returns-in_ok-give_conf-in-Conf
+pub give_required-returns-in_ok-u-in-Conf-clause-continues : goal.give_required-returns-in_ok-u-in-Conf-clause-continues
+give_required-returns-in_ok-u-in-Conf-clause-continues = requirements.give_required-returns-in_ok-u-in-Conf-clause-continues
 
 pub give_required-give_layout-requires : goal.give_required-give_layout-requires
 give_required-give_layout-requires = requirements.give_required-give_layout-requires
 
-pub give_required-returns-in_ok-give_layout-in-Layout : goal.give_required-returns-in_ok-give_layout-in-Layout
-give_required-returns-in_ok-give_layout-in-Layout = requirements.give_required-returns-in_ok-give_layout-in-Layout
+pub give_required-returns-in_ok-u-in-Layout-clause-continues : goal.give_required-returns-in_ok-u-in-Layout-clause-continues
+give_required-returns-in_ok-u-in-Layout-clause-continues = requirements.give_required-returns-in_ok-u-in-Layout-clause-continues
 
 pub give_required-give_same-requires : goal.give_required-give_same-requires
 give_required-give_same-requires = requirements.give_required-give_same-requires
 
-pub give_required-returns-in_ok-give_same-in-Same : goal.give_required-returns-in_ok-give_same-in-Same
-give_required-returns-in_ok-give_same-in-Same = requirements.give_required-returns-in_ok-give_same-in-Same
+pub give_required-returns-in_ok-v-in-Same-clause-continues : goal.give_required-returns-in_ok-v-in-Same-clause-continues
+give_required-returns-in_ok-v-in-Same-clause-continues = requirements.give_required-returns-in_ok-v-in-Same-clause-continues
 
 -- ---- type parameters
 
@@ -192,12 +191,10 @@ read_type-first_symbols-part-requires = type_parameters.read_type-first_symbols-
 pub read_type-declare-requires : goal.read_type-declare-requires
 read_type-declare-requires = type_parameters.read_type-declare-requires
 
-pub read_type-read_word-requires-clause-subject : goal.read_type-read_word-requires-clause-subject
-read_type-read_word-requires-clause-subject t c =
-    let s0 = c.args.derivation.now in
-    let s1 = c.declare.new.derivation in
-    is_still s0 s1 (grows_then s0 c.loop-k.derivation s1 c.loop-k.invariant.grows c.in_ok-named.ensures.grows) c.args.scope.for_self
-    c.requires.for_self
+pub read_type-read_word-requires : goal.read_type-read_word-requires
+read_type-read_word-requires t c =
+    let grows = grows_then c.loop-k.invariant.continues.grows c.in_ok-named.ensures.continues.grows in
+    record { subject = is_still c.args.derivation.now c.declare.new.derivation grows c.args.scope.for_self c.requires.for_self }
 
 pub read_type-equal_member-requires : goal.read_type-equal_member-requires
 read_type-equal_member-requires = type_parameters.read_type-equal_member-requires
@@ -224,113 +221,116 @@ declare-returns-in-Some-clause-given t c =
     subst (λ z. IsGiven g s1 z c.args.step c.in-Some.named) c.in_ok-last.ensures.stands
     (subst (λ o. IfSome o (IsGiven g s1 last c.args.step)) c.in-Some.is c.in_ok-named.ensures.given)
 
-pub declare-returns-in-Some-clause-grows : goal.declare-returns-in-Some-clause-grows
-declare-returns-in-Some-clause-grows t c = grows_then _ _ _ c.in_ok-last.ensures.grows c.in_ok-named.ensures.grows
+pub declare-returns-in-Some-clause-continues : goal.declare-returns-in-Some-clause-continues
+declare-returns-in-Some-clause-continues t c =
+    continues_then (continues_anyway c.in_ok-last.ensures.continues) c.in_ok-named.ensures.continues
 
 pub declare-returns-in_ok-walk_along-in-None : goal.declare-returns-in_ok-walk_along-in-None
 declare-returns-in_ok-walk_along-in-None = type_parameters.declare-returns-in_ok-walk_along-in-None
 
 -- ---- where memory runs out
 
-pub walk_along-returns-in_err-v-clause-grows : goal.walk_along-returns-in_err-v-clause-grows
-walk_along-returns-in_err-v-clause-grows t c = grows_then _ _ _ c.loop-k.invariant.grows c.in_err-v.ensures.grows
+pub walk_along-returns-in_err-v-clause-continues : goal.walk_along-returns-in_err-v-clause-continues
+walk_along-returns-in_err-v-clause-continues t c =
+    continues_then c.loop-k.invariant.continues (continues_anyway c.in_err-v.ensures.continues)
 
-pub walk_along-returns-in_err-lines_of_rule-clause-grows : goal.walk_along-returns-in_err-lines_of_rule-clause-grows
-walk_along-returns-in_err-lines_of_rule-clause-grows t c =
-    grows_then _ _ _ (grows_then _ _ _ c.loop-k.invariant.grows c.in_ok-v.ensures.grows) c.in_err-lines_of_rule.ensures.grows
+pub walk_along-returns-in_err-lines_of_rule-clause-continues : goal.walk_along-returns-in_err-lines_of_rule-clause-continues
+walk_along-returns-in_err-lines_of_rule-clause-continues t c =
+    continues_then (continues_then c.loop-k.invariant.continues (continues_anyway c.in_ok-v.ensures.continues))
+    c.in_err-lines_of_rule.ensures.continues
 
-pub walk_along-returns-in_err-take_step-clause-grows : goal.walk_along-returns-in_err-take_step-clause-grows
-walk_along-returns-in_err-take_step-clause-grows t c =
-    grows_then _ _ _ (grows_then _ _ _ (grows_then _ _ _ c.loop-k.invariant.grows c.in_ok-v.ensures.grows)
-    c.in_ok-lines_of_rule.ensures.grows) c.in_err-take_step.ensures.grows
+pub walk_along-returns-in_err-take_step-clause-continues : goal.walk_along-returns-in_err-take_step-clause-continues
+walk_along-returns-in_err-take_step-clause-continues t c =
+    continues_then (continues_then (continues_then c.loop-k.invariant.continues (continues_anyway c.in_ok-v.ensures.continues))
+    c.in_ok-lines_of_rule.ensures.continues) (continues_if (λ b f. f.alphabet) c.in_err-take_step.ensures.continues)
 
-pub walk_along-returns-in_err-next-clause-grows : goal.walk_along-returns-in_err-next-clause-grows
-walk_along-returns-in_err-next-clause-grows t c =
-    grows_then _ _ _ (grows_then _ _ _ (grows_then _ _ _ c.loop-k.invariant.grows c.in_ok-v.ensures.grows)
-    c.in_ok-lines_of_rule.ensures.grows) c.in_ok-take_step.ensures.grows
+pub walk_along-returns-in_err-next-clause-continues : goal.walk_along-returns-in_err-next-clause-continues
+walk_along-returns-in_err-next-clause-continues t c =
+    continues_then (continues_then (continues_then c.loop-k.invariant.continues (continues_anyway c.in_ok-v.ensures.continues))
+    c.in_ok-lines_of_rule.ensures.continues) (continues_if (λ b f. f.alphabet) c.in_ok-take_step.ensures.continues)
 
-pub walk_along-returns-in_err-join-clause-grows : goal.walk_along-returns-in_err-join-clause-grows
-walk_along-returns-in_err-join-clause-grows t c =
-    grows_then _ _ _ (grows_then _ _ _ (grows_then _ _ _ (grows_then _ _ _ c.loop-k.invariant.grows c.in_ok-v.ensures.grows)
-    c.in_ok-lines_of_rule.ensures.grows) c.in_ok-take_step.ensures.grows) c.in_err-join.ensures.grows
+pub walk_along-returns-in_err-join-clause-continues : goal.walk_along-returns-in_err-join-clause-continues
+walk_along-returns-in_err-join-clause-continues t c =
+    continues_then (continues_then (continues_then (continues_then c.loop-k.invariant.continues (continues_anyway
+    c.in_ok-v.ensures.continues)) c.in_ok-lines_of_rule.ensures.continues) (continues_if (λ b f. f.alphabet)
+    c.in_ok-take_step.ensures.continues)) (continues_anyway c.in_err-join.ensures.continues)
 
-pub settle-returns-in_err-last-clause-grows : goal.settle-returns-in_err-last-clause-grows
-settle-returns-in_err-last-clause-grows t c = grows_then _ _ _ c.in_ok-first.ensures.grows c.in_err-last.ensures.grows
+pub settle-returns-in_err-last-clause-continues : goal.settle-returns-in_err-last-clause-continues
+settle-returns-in_err-last-clause-continues t c = continues_then c.in_ok-first.ensures.continues c.in_err-last.ensures.continues
 
-pub settle-returns-in_err-close-clause-grows : goal.settle-returns-in_err-close-clause-grows
-settle-returns-in_err-close-clause-grows t c =
-    grows_then _ _ _ (grows_then _ _ _ c.in_ok-first.ensures.grows c.in_ok-last.ensures.grows) c.in_err-close.ensures.grows
+pub settle-returns-in_err-close-clause-continues : goal.settle-returns-in_err-close-clause-continues
+settle-returns-in_err-close-clause-continues t c =
+    continues_then (continues_then c.in_ok-first.ensures.continues c.in_ok-last.ensures.continues) (continues_anyway
+    c.in_err-close.ensures.continues)
 
-pub lines_of_rule-returns-in_err-give_equation-in-Given-clause-grows
-    : goal.lines_of_rule-returns-in_err-give_equation-in-Given-clause-grows
-lines_of_rule-returns-in_err-give_equation-in-Given-clause-grows t c =
-    grows_then _ _ _ c.in_ok-said.ensures.grows c.in_err-give_equation-in-Given.ensures.grows
+pub lines_of_rule-returns-in_err-give_equation-in-Given-clause-continues :
+    goal.lines_of_rule-returns-in_err-give_equation-in-Given-clause-continues
+lines_of_rule-returns-in_err-give_equation-in-Given-clause-continues t c =
+    continues_then (continues_anyway c.in_ok-said.ensures.continues) c.in_err-give_equation-in-Given.ensures.continues
 
-pub lines_of_rule-returns-in_err-settle-in-Given-clause-grows : goal.lines_of_rule-returns-in_err-settle-in-Given-clause-grows
-lines_of_rule-returns-in_err-settle-in-Given-clause-grows t c =
-    grows_then _ _ _ (grows_then _ _ _ c.in_ok-said.ensures.grows c.in_ok-give_equation-in-Given.ensures.grows)
-    c.in_err-settle-in-Given.ensures.grows
+pub lines_of_rule-returns-in_err-settle-in-Given-clause-continues : goal.lines_of_rule-returns-in_err-settle-in-Given-clause-continues
+lines_of_rule-returns-in_err-settle-in-Given-clause-continues t c =
+    continues_then (continues_anyway c.in_ok-said.ensures.continues) (continues_then c.in_ok-give_equation-in-Given.ensures.continues
+    c.in_err-settle-in-Given.ensures.continues)
 
-pub lines_of_rule-returns-in_err-from_pair-in-Pair-clause-grows : goal.lines_of_rule-returns-in_err-from_pair-in-Pair-clause-grows
-lines_of_rule-returns-in_err-from_pair-in-Pair-clause-grows t c =
-    grows_then _ _ _ c.in_ok-said.ensures.grows c.in_err-from_pair-in-Pair.ensures.grows
+pub lines_of_rule-returns-in_err-from_pair-in-Pair-clause-continues : goal.lines_of_rule-returns-in_err-from_pair-in-Pair-clause-continues
+lines_of_rule-returns-in_err-from_pair-in-Pair-clause-continues t c =
+    continues_then (continues_anyway c.in_ok-said.ensures.continues) c.in_err-from_pair-in-Pair.ensures.continues
 
-pub from_pair-returns-in_err-v-clause-grows : goal.from_pair-returns-in_err-v-clause-grows
-from_pair-returns-in_err-v-clause-grows t c = grows_then _ _ _ c.in_ok-lines_of_rule.ensures.grows c.in_err-v.ensures.grows
+pub from_pair-returns-in_err-v-clause-continues : goal.from_pair-returns-in_err-v-clause-continues
+from_pair-returns-in_err-v-clause-continues t c =
+    continues_then c.in_ok-lines_of_rule.ensures.continues (continues_anyway c.in_err-v.ensures.continues)
 
-pub from_pair-returns-in_err-lines_of_rule-2-clause-grows : goal.from_pair-returns-in_err-lines_of_rule-2-clause-grows
-from_pair-returns-in_err-lines_of_rule-2-clause-grows t c =
-    grows_then _ _ _ (grows_then _ _ _ c.in_ok-lines_of_rule.ensures.grows c.in_ok-v.ensures.grows) c.in_err-lines_of_rule-2.ensures.grows
+pub from_pair-returns-in_err-lines_of_rule-2-clause-continues : goal.from_pair-returns-in_err-lines_of_rule-2-clause-continues
+from_pair-returns-in_err-lines_of_rule-2-clause-continues t c =
+    continues_then (continues_then c.in_ok-lines_of_rule.ensures.continues (continues_anyway c.in_ok-v.ensures.continues))
+    c.in_err-lines_of_rule-2.ensures.continues
 
-pub from_pair-returns-in_err-read_pair-clause-grows : goal.from_pair-returns-in_err-read_pair-clause-grows
-from_pair-returns-in_err-read_pair-clause-grows t c =
-    grows_then _ _ _ (grows_then _ _ _ (grows_then _ _ _ c.in_ok-lines_of_rule.ensures.grows c.in_ok-v.ensures.grows)
-    c.in_ok-lines_of_rule-2.ensures.grows) c.in_err-read_pair.ensures.grows
+pub from_pair-returns-in_err-read_pair-clause-continues : goal.from_pair-returns-in_err-read_pair-clause-continues
+from_pair-returns-in_err-read_pair-clause-continues t c =
+    continues_then (continues_then (continues_then c.in_ok-lines_of_rule.ensures.continues (continues_anyway
+    c.in_ok-v.ensures.continues)) c.in_ok-lines_of_rule-2.ensures.continues) (continues_if (λ b f. f.alphabet)
+    c.in_err-read_pair.ensures.continues)
 
-pub from_pair-returns-in_err-left-clause-grows : goal.from_pair-returns-in_err-left-clause-grows
-from_pair-returns-in_err-left-clause-grows t c =
-    grows_then _ _ _ (grows_then _ _ _ (grows_then _ _ _ c.in_ok-lines_of_rule.ensures.grows c.in_ok-v.ensures.grows)
-    c.in_ok-lines_of_rule-2.ensures.grows) c.in_ok-read_pair.ensures.grows
+pub from_pair-returns-in_err-left-clause-continues : goal.from_pair-returns-in_err-left-clause-continues
+from_pair-returns-in_err-left-clause-continues t c =
+    continues_then (continues_then (continues_then c.in_ok-lines_of_rule.ensures.continues (continues_anyway
+    c.in_ok-v.ensures.continues)) c.in_ok-lines_of_rule-2.ensures.continues) (continues_if (λ b f. f.alphabet)
+    c.in_ok-read_pair.ensures.continues)
 
-pub from_pair-returns-in_err-settle-clause-grows : goal.from_pair-returns-in_err-settle-clause-grows
-from_pair-returns-in_err-settle-clause-grows t c =
-    grows_then _ _ _ (grows_then _ _ _ (grows_then _ _ _ (grows_then _ _ _ c.in_ok-lines_of_rule.ensures.grows c.in_ok-v.ensures.grows)
-    c.in_ok-lines_of_rule-2.ensures.grows) c.in_ok-read_pair.ensures.grows) c.in_err-settle.ensures.grows
+pub from_pair-returns-in_err-settle-clause-continues : goal.from_pair-returns-in_err-settle-clause-continues
+from_pair-returns-in_err-settle-clause-continues t c =
+    continues_then (continues_then (continues_then (continues_then c.in_ok-lines_of_rule.ensures.continues (continues_anyway
+    c.in_ok-v.ensures.continues)) c.in_ok-lines_of_rule-2.ensures.continues) (continues_if (λ b f. f.alphabet)
+    c.in_ok-read_pair.ensures.continues)) c.in_err-settle.ensures.continues
 
-pub give_required-returns-in_err-give_conf-in-Conf-clause-grows : goal.give_required-returns-in_err-give_conf-in-Conf-clause-grows
-give_required-returns-in_err-give_conf-in-Conf-clause-grows t c =
-    grows_then _ _ _ c.in_ok-u-in-Conf.ensures.grows c.in_err-give_conf-in-Conf.ensures.grows
+pub give_required-returns-in_err-v-in-Same-clause-continues : goal.give_required-returns-in_err-v-in-Same-clause-continues
+give_required-returns-in_err-v-in-Same-clause-continues t c =
+    continues_then (continues_if (λ b f. f.0) c.in_ok-u-in-Same.ensures.continues) (continues_if (λ b f. f.0)
+    c.in_err-v-in-Same.ensures.continues)
 
-pub give_required-returns-in_err-give_layout-in-Layout-clause-grows : goal.give_required-returns-in_err-give_layout-in-Layout-clause-grows
-give_required-returns-in_err-give_layout-in-Layout-clause-grows t c =
-    grows_then _ _ _ c.in_ok-u-in-Layout.ensures.grows c.in_err-give_layout-in-Layout.ensures.grows
+pub read_type-returns-in_err-named-clause-continues : goal.read_type-returns-in_err-named-clause-continues
+read_type-returns-in_err-named-clause-continues t c = continues_then c.loop-k.invariant.continues c.in_err-named.ensures.continues
 
-pub give_required-returns-in_err-v-in-Same-clause-grows : goal.give_required-returns-in_err-v-in-Same-clause-grows
-give_required-returns-in_err-v-in-Same-clause-grows t c = grows_then _ _ _ c.in_ok-u-in-Same.ensures.grows c.in_err-v-in-Same.ensures.grows
+pub read_type-returns-in_err-last-clause-continues : goal.read_type-returns-in_err-last-clause-continues
+read_type-returns-in_err-last-clause-continues t c =
+    continues_then (continues_then c.loop-k.invariant.continues c.in_ok-named.ensures.continues) (continues_anyway
+    c.in_err-last.ensures.continues)
 
-pub give_required-returns-in_err-give_same-in-Same-clause-grows : goal.give_required-returns-in_err-give_same-in-Same-clause-grows
-give_required-returns-in_err-give_same-in-Same-clause-grows t c =
-    grows_then _ _ _ (grows_then _ _ _ c.in_ok-u-in-Same.ensures.grows c.in_ok-v-in-Same.ensures.grows)
-    c.in_err-give_same-in-Same.ensures.grows
+pub read_type-returns-in_err-at-2-clause-continues : goal.read_type-returns-in_err-at-2-clause-continues
+read_type-returns-in_err-at-2-clause-continues t c =
+    continues_then (continues_then (continues_then c.loop-k.invariant.continues c.in_ok-named.ensures.continues)
+    (continues_anyway c.in_ok-last.ensures.continues)) (continues_if (λ b f. f.alphabet) c.in_err-at-2.ensures.continues)
 
-pub read_type-returns-in_err-named-clause-grows : goal.read_type-returns-in_err-named-clause-grows
-read_type-returns-in_err-named-clause-grows t c = grows_then _ _ _ c.loop-k.invariant.grows c.in_err-named.ensures.grows
+pub declare-returns-in_err-walk_along-in-None-clause-continues : goal.declare-returns-in_err-walk_along-in-None-clause-continues
+declare-returns-in_err-walk_along-in-None-clause-continues t c =
+    continues_then (continues_anyway c.in_ok-last.ensures.continues) (continues_then c.in_ok-named.ensures.continues
+    c.in_err-walk_along-in-None.ensures.continues)
 
-pub read_type-returns-in_err-last-clause-grows : goal.read_type-returns-in_err-last-clause-grows
-read_type-returns-in_err-last-clause-grows t c =
-    grows_then _ _ _ (grows_then _ _ _ c.loop-k.invariant.grows c.in_ok-named.ensures.grows) c.in_err-last.ensures.grows
+pub declare-returns-in_err-named-clause-continues : goal.declare-returns-in_err-named-clause-continues
+declare-returns-in_err-named-clause-continues t c =
+    continues_then (continues_anyway c.in_ok-last.ensures.continues) c.in_err-named.ensures.continues
 
-pub read_type-returns-in_err-at-2-clause-grows : goal.read_type-returns-in_err-at-2-clause-grows
-read_type-returns-in_err-at-2-clause-grows t c =
-    grows_then _ _ _ (grows_then _ _ _ (grows_then _ _ _ c.loop-k.invariant.grows c.in_ok-named.ensures.grows)
-    c.in_ok-last.ensures.grows) c.in_err-at-2.ensures.grows
-
-pub declare-returns-in_err-walk_along-in-None-clause-grows : goal.declare-returns-in_err-walk_along-in-None-clause-grows
-declare-returns-in_err-walk_along-in-None-clause-grows t c =
-    grows_then _ _ _ (grows_then _ _ _ c.in_ok-last.ensures.grows c.in_ok-named.ensures.grows) c.in_err-walk_along-in-None.ensures.grows
-
-pub declare-returns-in_err-named-clause-grows : goal.declare-returns-in_err-named-clause-grows
-declare-returns-in_err-named-clause-grows t c = grows_then _ _ _ c.in_ok-last.ensures.grows c.in_err-named.ensures.grows
-
-pub declare-returns-in_err-shown-in-None-clause-grows : goal.declare-returns-in_err-shown-in-None-clause-grows
-declare-returns-in_err-shown-in-None-clause-grows t c = grows_then _ _ _ c.in_ok-last.ensures.grows c.in_ok-named.ensures.grows
+pub declare-returns-in_err-shown-in-None-clause-continues : goal.declare-returns-in_err-shown-in-None-clause-continues
+declare-returns-in_err-shown-in-None-clause-continues t c =
+    continues_then (continues_anyway c.in_ok-last.ensures.continues) c.in_ok-named.ensures.continues

@@ -4,7 +4,7 @@ use Rattle.swreq_param.specs.Terms.{with_steps}
 use Rattle.swreq_param.specs.Terms.Term.{Generic}
 use Rattle.swreq_word.specs.declared.symbols.Symbol.{Symbol}
 use Rattle.swreq_path.specs.Paths.{StepsLead}
-use Rattle.swreq_derivation.specs.UnderWay.{AddsLines, AreStatedEqual, Assumptions, StaysDerived}
+use Rattle.swreq_derivation.specs.UnderWay.{AreStatedEqual, ContinuesFrom}
 use Rattle.swreq_births.specs.Systems.{FitsHistory}
 use Rattle.swreq_readings.specs.Readable.{AllowsWord, AreReadEqual, read_word}
 use Rattle.swreq_births.specs.Types.{placed}
@@ -22,8 +22,7 @@ invariant-walk_along-loop-k l = record {
   both : AreReadEqual l.history.alphabet l.derivation (term_at l.fn.derivation.table l.subject) l.path.start l.word;
   left : (b : List Symbol) → StepsLead l.rules l.path.steps l.path.start b → StepsLead l.rules (drop l.k l.path.steps) l.word b;
   done : (b : List Symbol) → StepsLead l.rules (drop l.k l.path.steps) l.word b → StepsLead l.rules l.path.steps l.path.start b;
-  grows : AddsLines l.fn.derivation l.derivation;
-  derives : (b : Assumptions) → FitsHistory l.history b → StaysDerived b l.fn.derivation l.derivation;
+  continues : ContinuesFrom (FitsHistory l.history) l.fn.derivation l.derivation;
 }
 
 abbrev pub decreases-settle : goal.decreases-settle
@@ -54,6 +53,5 @@ invariant-read_type-loop-k l = record {
   equal : AreStatedEqual l.derivation (placed l.scope.owner (term_at l.fn.derivation.table l.scope.for_self)
       (with_steps (Generic l.param.head) (take l.k l.param.steps)))
       (read_word l.history.alphabet (term_at l.fn.derivation.table l.scope.for_self) (take (l.k + 1) l.word));
-  grows : AddsLines l.fn.derivation l.derivation;
-  derives : (b : Assumptions) → FitsHistory l.history b → StaysDerived b l.fn.derivation l.derivation;
+  continues : ContinuesFrom (FitsHistory l.history) l.fn.derivation l.derivation;
 }

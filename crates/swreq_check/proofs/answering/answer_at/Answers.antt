@@ -8,8 +8,8 @@ use Rattle.swreq_check.proofs.answering.answer_at.Goals as goal
 abbrev any : Query
 any = Signature (record { place = 0 })
 
-pub piece-requires-clause-query : goal.piece-requires-clause-query
-piece-requires-clause-query c =
+pub piece_for-requires-clause-query : goal.piece_for-requires-clause-query
+piece_for-requires-clause-query c =
     let q = get_or c.queries.result.now c.args.place any in
     c.requires.place.query q (ap (λ (qs : List Query). get_or qs c.args.place any) c.queries.ensures
     ∙ get_or_default c.args.s.now.world.now.queries c.args.place any q c.requires.place.below)

@@ -4,12 +4,12 @@ use Rattle.std.specs.declared.alloc.Global.{Global}
 use Rattle.swreq_lowering.specs.declared.ids.FuncId.{FuncId}
 use Rattle.swreq_param.specs.Tables.{Extends}
 use Rattle.swreq_param.specs.Terms.{Term}
-use Rattle.swreq_print.specs.Names.{Text}
 use Rattle.swreq_subst.specs.declared.calls.Call.{Call}
 use Rattle.swreq_symbols.specs.Known.{IsTextOver}
 use Rattle.swreq_world.specs.Worlds.{TextWorld}
 use Rattle.swreq_subst.proofs.Staying.{calls_stay}
 use Rattle.swreq_check.specs.declared.passed.Passed.{Passed}
+use Rattle.swreq_check.specs.declared.piece.Piece.{Piece}
 use Rattle.swreq_check.specs.Checks.{HavePassed}
 use Rattle.swreq_check.specs.Made.{AreMade}
 use Rattle.swreq_param.proofs.Growing.{onward, unchanged}
@@ -21,7 +21,7 @@ use Rattle.swreq_check.proofs.PiecesMade.{none_made}
 use Rattle.swreq_check.proofs.calling.all_lines.Goals as goal
 
 -- the lines are those of the calls over a table as over one that it has grown to
-module _ (old new : List Term) (more : Extends old new) (p : Passed) (calls : List Call) (n : ℕ) (lines : List (Option Text))
+module _ (old new : List Term) (more : Extends old new) (p : Passed) (calls : List Call) (n : ℕ) (lines : List (Option Piece))
     (text : IsTextOver old p.world.now) (known : All (IsCallIn old p.world.now) calls) where
   alike : AreCallLines (world_of new p) new calls n lines ≡ AreCallLines (world_of old p) old calls n lines
   alike = ap (λ (w : TextWorld). AreCallLines w new calls n lines) (world_stays old new more p.world.now text.table)

@@ -1,4 +1,4 @@
-use Rattle.std.proofs.Common.{◌≡◌, ◌∙◌, ◌++◌, Some, ap, map, refl, slice_get, subst, sym}
+use Rattle.std.proofs.Common.{◌≡◌, ◌∙◌, ◌++◌, None, Some, ap, map, refl, slice_get, subst, sym}
 use Rattle.std.proofs.lemmas.Option.{same_Some, slice_get-get_or}
 use Rattle.swreq_lemmas.proofs.Elements.{get_map}
 use Rattle.swreq_subst.specs.Calls.{call_by}
@@ -18,7 +18,7 @@ returns-clause-line c =
     let at : slice_get calls place ≡ Some call
     = slice_get-get_or calls place call c.requires.place ∙ ap Some (sym c.index-calls-place.is) in
     let there : slice_get (map (call_by terms) calls) place ≡ Some (call_by terms call) = get_map (call_by terms) calls place call at in (
-      c.new.result,
+      record { text = c.new.result; verdict = None },
       (λ d e. subst (λ z. IsLineOf w z c.new.result) (same_Some (call_by terms call) d (sym there ∙ e))
           (subst (IsLineOf w (call_by terms call)) (sym same) is)),
       refl,

@@ -26,15 +26,17 @@ returns-in_err-machine-clause-check g c =
 pub make_pieces-requires-clause-machine : goal.make_pieces-requires-clause-machine
 make_pieces-requires-clause-machine g c = machine_for g (goal.at.make_pieces-requires-clause-machine g c).In_ok-machine
 
-pub returns-in-Ok-clause-check : goal.returns-in-Ok-clause-check
-returns-in-Ok-clause-check g c =
-    let (told, comes, grew) = c.in_ok-machine.ensures.answer in (told, (last_rules c.in_ok-machine.machine.rounds, comes), grew)
+pub returns-in_err-make_pieces-clause-check : goal.returns-in_err-make_pieces-clause-check
+returns-in_err-make_pieces-clause-check g c =
+    let (told, comes, grew) = c.in_ok-machine.ensures.answer in
+    rw (err_is c.from_residual-in_err-make_pieces.result _ c.from_residual-in_err-make_pieces.ensures.1)
+    (told, inr (last_rules c.in_ok-machine.machine.rounds, comes), grew)
 
-pub returns-in-Ok-clause-kept : goal.returns-in-Ok-clause-kept
-returns-in-Ok-clause-kept g c =
-    machine_on c.args.table.now c.make_pieces.new.table c.args.s.now c.in-Ok.ensures.extends c.requires.ready c.args.f
-    c.in_ok-machine.machine (machine_for g (goal.at.returns-in-Ok-clause-kept g c).In_ok-machine)
+pub returns-clause-kept : goal.returns-clause-kept
+returns-clause-kept g c =
+    machine_on c.args.table.now c.make_pieces.new.table c.args.s.now c.in_ok-make_pieces.ensures.extends c.requires.ready c.args.f
+    c.in_ok-machine.machine (machine_for g (goal.at.returns-clause-kept g c).In_ok-machine)
 
 pub returns-clause-check : goal.returns-clause-check
 returns-clause-check g c =
-    let (told, comes, grew) = c.in_ok-machine.ensures.answer in (told, inr (last_rules c.in_ok-machine.machine.rounds, comes), grew)
+    let (told, comes, grew) = c.in_ok-machine.ensures.answer in (told, (last_rules c.in_ok-machine.machine.rounds, comes), grew)

@@ -1,10 +1,11 @@
-use Rattle.std.proofs.Common.{◌∙◌, ◌++◌, ◌+◌, List, Some, ap, set, subst, sym, ℕ}
+use Rattle.std.proofs.Common.{◌∙◌, ◌++◌, ◌+◌, List, None, Some, ap, set, subst, sym, ℕ}
 use Rattle.std.proofs.lemmas.Option.{same_Some}
 use Rattle.swreq_lowering.specs.declared.ids.FuncId.{FuncId}
 use Rattle.swreq_query.specs.Systems.{IsSystemText}
 use Rattle.swreq_world.specs.Worlds.{signature_at}
 use Rattle.swreq_check.specs.declared.content.Made.{Made}
 use Rattle.swreq_check.specs.declared.content.Made.TheVariants.{Systems}
+use Rattle.swreq_check.specs.declared.piece.Piece.{Piece}
 use Rattle.swreq_check.specs.Contents.{backing_of}
 use Rattle.swreq_check.specs.Made.{AreMade, IsMadeAt}
 use Rattle.swreq_check.specs.Settings.{world_in}
@@ -18,13 +19,14 @@ returns c =
     let ids = c.args.s.now.world.now in
     let f = c.args.own.now.f in
     let b = backing_of c.args.s.now.content in
+    let piece : Piece = record { text = c.new.result; verdict = None } in
     let (text, is, e) = c.in_ok-system_text.ensures.ok in
     subst (λ (a : Made).
-    AreMade (IsMadeAt w a b) (made_by ids a) (places_of ids a) (f.place + 1) (set c.args.pieces.now.items f.place (Some c.new.result)))
+    AreMade (IsMadeAt w a b) (made_by ids a) (places_of ids a) (f.place + 1) (set c.args.pieces.now.items f.place (Some piece)))
     (sym c.requires.systems)
     (only_one (IsMadeAt w Systems b) (made_by ids Systems) (places_of ids Systems) f.place c.args.pieces.now.items
     (subst (λ (a : Made). AreMade (IsMadeAt w a b) (made_by ids a) (places_of ids a) f.place c.args.pieces.now.items)
     c.requires.systems c.requires.pieces)
-    f.place c.requires.machine.signature c.new.result
-    (subst (IsSystemText w (signature_at w f)) (sym (c.new.ensures ∙ e ∙ ap (λ (t : List ℕ). t ++ text) c.new-piece.ensures.items)) is)
+    f.place c.requires.machine.signature piece
+    (subst (IsSystemText w (signature_at w f)) (sym (c.new.ensures ∙ e ∙ ap (λ (t : List ℕ). t ++ text) c.new-text.ensures.items)) is)
     (λ k g below by same. ap (λ (x : FuncId). x.place) (same_Some (record { place = k }) g by) ∙ same))

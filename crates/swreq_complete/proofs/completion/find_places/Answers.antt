@@ -1,5 +1,4 @@
 use Rattle.std.proofs.Common.{◌-◌, arith}
-use Rattle.std.proofs.lemmas.Result.{on_ok_weaker}
 use Rattle.swreq_complete.proofs.AllPlaces.{are_all}
 use Rattle.swreq_complete.proofs.completion.find_places.Goals as goal
 

@@ -1,14 +1,9 @@
-use Rattle.std.proofs.Common.{sym, subst, []}
+use Rattle.std.proofs.Common.{subst, sym, []}
 use Rattle.swreq_derive.specs.Instances.{AreStated}
 use Rattle.swreq_derivation.specs.UnderWay.{statements_in}
-use Rattle.swreq_derivation.proofs.DerivationLemmas.{kept_by_line, says_line}
 use Rattle.swreq_derivation.proofs.adding.from_none.Goals as goal
 
-pub returns-clause-says : goal.returns-clause-says
-returns-clause-says c = says_line c.args.derivation.now c.add.new.derivation _ c.add.ensures.table c.in_ok-add.ensures.lines
-
-pub returns-clause-derives : goal.returns-clause-derives
-returns-clause-derives c b i =
+pub returns-clause-continues : goal.returns-clause-continues
+returns-clause-continues c =
     let s = c.args.derivation.now in
-    kept_by_line b s c.add.new.derivation c.args.rule _ [] c.args.gives c.add.ensures.table c.in_ok-add.ensures.lines
-    (subst (λ z. AreStated (statements_in s) z []) (sym c.new-premises.ensures.items) tt) i
+    c.push.ensures.continues [] (subst (λ z. AreStated (statements_in s) z []) (sym c.new-premises.ensures.items) tt)

@@ -1,14 +1,11 @@
 use Rattle.std.proofs.Common.{ap, ap₂, [], ◌∷◌}
-use Rattle.swreq_param.specs.Tables.{term_at}
 use Rattle.swreq_derive.specs.Facts.{statement_of}
+use Rattle.swreq_derivation.proofs.DerivationLemmas.{continues_if}
 use Rattle.swreq_derivation.proofs.equalities.add_same_conf.Goals as goal
 
-pub returns-clause-derives : goal.returns-clause-derives
-returns-clause-derives c b =
+pub returns-clause-continues : goal.returns-clause-continues
+returns-clause-continues c =
     let terms = c.args.derivation.now.table in
-    c.in_ok-from_two.ensures.derives b (
-      term_at terms c.args.subject,
-      term_at terms c.args.other,
-      ap₂ (λ y z. statement_of terms y ∷ statement_of terms z ∷ []) c.conf_statement.ensures c.same_statement.ensures,
-      ap (statement_of terms) c.conf_statement-2.ensures,
-    )
+    let from = ap₂ (λ y z. statement_of terms y ∷ statement_of terms z ∷ []) c.conf_statement.ensures c.same_statement.ensures in
+    let gives = ap (statement_of terms) c.conf_statement-2.ensures in
+    continues_if (λ b w. (_, _, from, gives)) c.from_two.ensures.continues

@@ -1,15 +1,11 @@
 use Rattle.std.proofs.Common.{ap, [], ◌∷◌}
-use Rattle.swreq_param.specs.Tables.{term_at}
 use Rattle.swreq_derive.specs.Facts.{statement_of}
+use Rattle.swreq_derivation.proofs.DerivationLemmas.{continues_if}
 use Rattle.swreq_derivation.proofs.equalities.add_symm.Goals as goal
 
-pub returns-clause-derives : goal.returns-clause-derives
-returns-clause-derives c b =
+pub returns-clause-continues : goal.returns-clause-continues
+returns-clause-continues c =
     let terms = c.args.derivation.now.table in
-    c.in_ok-from_one.ensures.derives b (
-      term_at terms c.args.left,
-      term_at terms c.args.right,
-      ap
-          (λ z. statement_of terms z ∷ []) c.same_statement.ensures,
-      ap (statement_of terms) c.same_statement-2.ensures,
-    )
+    let from = ap (λ y. statement_of terms y ∷ []) c.same_statement.ensures in
+    let gives = ap (statement_of terms) c.same_statement-2.ensures in
+    continues_if (λ b w. (_, _, from, gives)) c.from_one.ensures.continues

@@ -1,9 +1,9 @@
 use Rattle.std.proofs.Common.{ap, refl}
-use Rattle.swreq_param.specs.Tables.{term_at}
 use Rattle.swreq_derive.specs.Facts.{statement_of}
+use Rattle.swreq_derivation.proofs.DerivationLemmas.{continues_if}
 use Rattle.swreq_derivation.proofs.requirements.add_written_layout.Goals as goal
 
-pub returns-clause-derives : goal.returns-clause-derives
-returns-clause-derives c b h =
+pub returns-clause-continues : goal.returns-clause-continues
+returns-clause-continues c =
     let terms = c.args.derivation.now.table in
-    c.in_ok-from_none.ensures.derives b (term_at terms c.args.subject, refl, ap (statement_of terms) c.layout_statement.ensures, h)
+    continues_if (λ b w. (_, refl, ap (statement_of terms) c.layout_statement.ensures, w)) c.from_none.ensures.continues

@@ -1,12 +1,11 @@
-use Rattle.std.proofs.Common.{ap, [], ◌∷◌, ◌∙◌}
-use Rattle.swreq_param.specs.Tables.{term_at}
+use Rattle.std.proofs.Common.{ap, refl, ◌∙◌}
 use Rattle.swreq_derive.specs.Derivation.TermStatement.{IsValid}
 use Rattle.swreq_derive.specs.Facts.{statement_of}
+use Rattle.swreq_derivation.proofs.DerivationLemmas.{continues_if}
 use Rattle.swreq_derivation.proofs.validity.add_assoc_decl.Goals as goal
 
-pub returns-clause-derives : goal.returns-clause-derives
-returns-clause-derives c b d h e =
+pub returns-clause-continues : goal.returns-clause-continues
+returns-clause-continues c =
     let terms = c.args.derivation.now.table in
-    let conforms = ap (λ y. statement_of terms y ∷ []) c.conf_statement.ensures in
-    let valid = ap (statement_of terms) c.valid_statement.ensures ∙ ap IsValid e in
-    c.in_ok-from_one.ensures.derives b (term_at terms c.args.subject, d, conforms, valid, h)
+    let gives = ap (statement_of terms) c.valid_statement.ensures in
+    continues_if (λ b w. (_, w.0, refl, gives ∙ ap IsValid w.2, w.1)) c.from_conformance.ensures.continues

@@ -1,52 +1,48 @@
-use Rattle.std.proofs.Common.{◌∙◌, sym, subst, true≢false}
+use Rattle.std.proofs.Common.{◌∙◌, sym, true≢false}
 use Rattle.swreq_derive.specs.declared.requirements.Requirement.TheVariants.{Conf}
-use Rattle.swreq_derive.specs.Instances.{HasNumber}
-use Rattle.swreq_derive.proofs.ProtocolLemmas.{assoc_conf_given, used_is_of, number_used, no_requirement, no_conf}
+use Rattle.swreq_derive.proofs.ProtocolLemmas.{assoc_conf_given, no_conf, no_requirement, number_read, number_used, used_is_of}
 use Rattle.swreq_derive.proofs.required.assoc_conf.Goals as goal
 
 pub returns-in-None-requirement_at : goal.returns-in-None-requirement_at
-returns-in-None-requirement_at g c = (
-  (λ e. absurd (true≢false (sym e))),
-  λ w. absurd (no_requirement c.args.table.now (g.F.Facts.meaning c.args.facts.now) c.args.p c.args.n
-      (λ r h. c.in-None-requirement_at.ensures r (subst (λ z. HasNumber c.args.n z r) (sym c.of_protocol.ensures) h)) _ w.5),
-)
+returns-in-None-requirement_at g c =
+    let none = no_requirement c.args.table.now (g.F.Facts.meaning c.args.facts.now) c.args.p c.args.n c.of_protocol.ensures
+    c.in-None-requirement_at.ensures in
+    ((λ e. absurd (true≢false (sym e))), λ w. absurd (none _ w.5))
 
 pub returns-in-None-as_conf-2 : goal.returns-in-None-as_conf-2
-returns-in-None-as_conf-2 g c = (
-  (λ e. absurd (true≢false (sym e))),
-  λ w. absurd (no_conf c.args.table.now (g.F.Facts.meaning c.args.facts.now) c.args.p c.args.n c.in-Some-requirement_at.r
-      c.args.first c.args.conclusion
-      (subst (λ z. HasNumber c.args.n z c.in-Some-requirement_at.r) c.of_protocol.ensures c.in-Some-requirement_at.ensures)
-      c.in-None-as_conf-2.ensures w),
-)
+returns-in-None-as_conf-2 g c =
+    let m = g.F.Facts.meaning c.args.facts.now in
+    let r = c.in-Some-requirement_at.r in
+    let read = number_read m c.args.p c.args.n r c.of_protocol.ensures c.in-Some-requirement_at.ensures in (
+      (λ e. absurd (true≢false (sym e))),
+      λ w. absurd (no_conf c.args.table.now m c.args.p c.args.n r c.args.first c.args.conclusion read c.in-None-as_conf-2.ensures w),
+    )
 
 pub is_for_self-requires-clause-from : goal.is_for_self-requires-clause-from
-is_for_self-requires-clause-from g c = (used_is_of c.args.table.now (g.F.Facts.meaning c.args.facts.now) c.args.p c.args.n
-    c.in-Some-requirement_at.r (Conf c.in-Some-as_conf-2.u c.in-Some-as_conf-2.w) c.requires.facts c.requires.proto
-    (subst (λ z. HasNumber c.args.n z c.in-Some-requirement_at.r) c.of_protocol.ensures c.in-Some-requirement_at.ensures)
-    c.in-Some-as_conf-2.ensures).0
+is_for_self-requires-clause-from g c =
+    let m = g.F.Facts.meaning c.args.facts.now in
+    let used = number_used m c.args.p c.args.n c.in-Some-requirement_at.r (Conf c.in-Some-as_conf-2.u c.in-Some-as_conf-2.w)
+    c.of_protocol.ensures c.in-Some-requirement_at.ensures c.in-Some-as_conf-2.ensures in
+    (used_is_of c.args.table.now m c.args.p c.args.n (Conf c.in-Some-as_conf-2.u c.in-Some-as_conf-2.w) c.requires.facts c.requires.proto
+    used).0
 
 pub returns-then-are_same_protocols : goal.returns-then-are_same_protocols
 returns-then-are_same_protocols g c =
-    let w = assoc_conf_given c.args.table.now
-    (g.F.Facts.meaning c.args.facts.now) c.args.p c.in-Some.q c.in-Some-as_conf.s c.in-Some-as_conf-2.w c.args.n c.args.first
-    c.args.conclusion c.in-Some.t c.in-Some-as_conf-2.u c.in-Some-as_conf.v c.in-Some.ensures c.in-Some-as_conf.ensures
-    (number_used (g.F.Facts.meaning c.args.facts.now) c.args.p c.args.n c.in-Some-requirement_at.r
-    (Conf c.in-Some-as_conf-2.u c.in-Some-as_conf-2.w)
-    (subst (λ z. HasNumber c.args.n z c.in-Some-requirement_at.r) c.of_protocol.ensures c.in-Some-requirement_at.ensures)
-    c.in-Some-as_conf-2.ensures) in
+    let m = g.F.Facts.meaning c.args.facts.now in
+    let used = number_used m c.args.p c.args.n c.in-Some-requirement_at.r (Conf c.in-Some-as_conf-2.u c.in-Some-as_conf-2.w)
+    c.of_protocol.ensures c.in-Some-requirement_at.ensures c.in-Some-as_conf-2.ensures in
+    let w = assoc_conf_given c.args.table.now m c.args.p c.in-Some.q c.in-Some-as_conf.s c.in-Some-as_conf-2.w c.args.n c.args.first
+    c.args.conclusion c.in-Some.t c.in-Some-as_conf-2.u c.in-Some-as_conf.v c.in-Some.ensures c.in-Some-as_conf.ensures used in
     let e = c.are_same_protocols.ensures.0 c.if-are_same_protocols.true in
     ((λ i. w.0 (e.0, e.1, c.is_for_self.ensures.0 i)), λ i. c.is_for_self.ensures.1 (w.1 i).2)
 
 pub returns-else-are_same_protocols : goal.returns-else-are_same_protocols
 returns-else-are_same_protocols g c =
-    let w = assoc_conf_given c.args.table.now
-    (g.F.Facts.meaning c.args.facts.now) c.args.p c.in-Some.q c.in-Some-as_conf.s c.in-Some-as_conf-2.w c.args.n c.args.first
-    c.args.conclusion c.in-Some.t c.in-Some-as_conf-2.u c.in-Some-as_conf.v c.in-Some.ensures c.in-Some-as_conf.ensures
-    (number_used (g.F.Facts.meaning c.args.facts.now) c.args.p c.args.n c.in-Some-requirement_at.r
-    (Conf c.in-Some-as_conf-2.u c.in-Some-as_conf-2.w)
-    (subst (λ z. HasNumber c.args.n z c.in-Some-requirement_at.r) c.of_protocol.ensures c.in-Some-requirement_at.ensures)
-    c.in-Some-as_conf-2.ensures) in (
+    let m = g.F.Facts.meaning c.args.facts.now in
+    let used = number_used m c.args.p c.args.n c.in-Some-requirement_at.r (Conf c.in-Some-as_conf-2.u c.in-Some-as_conf-2.w)
+    c.of_protocol.ensures c.in-Some-requirement_at.ensures c.in-Some-as_conf-2.ensures in
+    let w = assoc_conf_given c.args.table.now m c.args.p c.in-Some.q c.in-Some-as_conf.s c.in-Some-as_conf-2.w c.args.n c.args.first
+    c.args.conclusion c.in-Some.t c.in-Some-as_conf-2.u c.in-Some-as_conf.v c.in-Some.ensures c.in-Some-as_conf.ensures used in (
       (λ i. absurd (true≢false (sym i ∙ c.if-are_same_protocols.false))),
       λ i. absurd (true≢false (sym (c.are_same_protocols.ensures.1 ((w.1 i).0, (w.1 i).1)) ∙ c.if-are_same_protocols.false)),
     )

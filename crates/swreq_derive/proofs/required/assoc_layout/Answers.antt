@@ -1,48 +1,44 @@
-use Rattle.std.proofs.Common.{◌∙◌, sym, subst, true≢false}
+use Rattle.std.proofs.Common.{◌∙◌, sym, true≢false}
 use Rattle.swreq_derive.specs.declared.requirements.Requirement.TheVariants.{Layout}
-use Rattle.swreq_derive.specs.Instances.{HasNumber}
 use Rattle.swreq_derive.proofs.InstanceLemmas.{same_proto, proto_same}
-use Rattle.swreq_derive.proofs.ProtocolLemmas.{assoc_layout_given, used_is_of, number_used, no_requirement, no_layout}
+use Rattle.swreq_derive.proofs.ProtocolLemmas.{assoc_layout_given, no_layout, no_requirement, number_read, number_used, same_protocol, used_is_of}
 use Rattle.swreq_derive.proofs.required.assoc_layout.Goals as goal
 
 pub returns-in-None-requirement_at : goal.returns-in-None-requirement_at
-returns-in-None-requirement_at g c = (
-  (λ e. absurd (true≢false (sym e))),
-  λ w. absurd (no_requirement c.args.table.now (g.F.Facts.meaning c.args.facts.now) c.args.p c.args.n
-      (λ r h. c.in-None-requirement_at.ensures r (subst (λ z. HasNumber c.args.n z r) (sym c.of_protocol.ensures) h)) _ w.4),
-)
+returns-in-None-requirement_at g c =
+    let none = no_requirement c.args.table.now (g.F.Facts.meaning c.args.facts.now) c.args.p c.args.n c.of_protocol.ensures
+    c.in-None-requirement_at.ensures in
+    ((λ e. absurd (true≢false (sym e))), λ w. absurd (none _ w.4))
 
 pub returns-in-None-as_layout-2 : goal.returns-in-None-as_layout-2
-returns-in-None-as_layout-2 g c = (
-  (λ e. absurd (true≢false (sym e))),
-  λ w. absurd (no_layout c.args.table.now
-      (g.F.Facts.meaning c.args.facts.now) c.args.p c.args.n c.in-Some-requirement_at.r c.args.first c.args.conclusion
-      (subst (λ z. HasNumber c.args.n z c.in-Some-requirement_at.r) c.of_protocol.ensures c.in-Some-requirement_at.ensures)
-      c.in-None-as_layout-2.ensures w),
-)
+returns-in-None-as_layout-2 g c =
+    let m = g.F.Facts.meaning c.args.facts.now in
+    let r = c.in-Some-requirement_at.r in
+    let read = number_read m c.args.p c.args.n r c.of_protocol.ensures c.in-Some-requirement_at.ensures in (
+      (λ e. absurd (true≢false (sym e))),
+      λ w. absurd (no_layout c.args.table.now m c.args.p c.args.n r c.args.first c.args.conclusion read c.in-None-as_layout-2.ensures w),
+    )
 
 pub is_for_self-requires-clause-from : goal.is_for_self-requires-clause-from
-is_for_self-requires-clause-from g c = (used_is_of c.args.table.now (g.F.Facts.meaning c.args.facts.now) c.args.p c.args.n
-    c.in-Some-requirement_at.r (Layout c.in-Some-as_layout-2.u) c.requires.facts c.requires.proto
-    (subst (λ z. HasNumber c.args.n z c.in-Some-requirement_at.r) c.of_protocol.ensures c.in-Some-requirement_at.ensures)
-    c.in-Some-as_layout-2.ensures)
+is_for_self-requires-clause-from g c =
+    let m = g.F.Facts.meaning c.args.facts.now in
+    let used = number_used m c.args.p c.args.n c.in-Some-requirement_at.r (Layout c.in-Some-as_layout-2.u)
+    c.of_protocol.ensures c.in-Some-requirement_at.ensures c.in-Some-as_layout-2.ensures in
+    used_is_of c.args.table.now m c.args.p c.args.n (Layout c.in-Some-as_layout-2.u) c.requires.facts c.requires.proto used
 
 pub returns-then-eq : goal.returns-then-eq
 returns-then-eq g c =
-    let w = assoc_layout_given c.args.table.now (g.F.Facts.meaning c.args.facts.now) c.args.p c.in-Some.q c.args.n c.args.first
-    c.args.conclusion c.in-Some.t c.in-Some-as_layout-2.u c.in-Some-as_layout.v c.in-Some.ensures c.in-Some-as_layout.ensures
-    (number_used (g.F.Facts.meaning c.args.facts.now) c.args.p c.args.n c.in-Some-requirement_at.r (Layout c.in-Some-as_layout-2.u)
-    (subst (λ z. HasNumber c.args.n z c.in-Some-requirement_at.r) c.of_protocol.ensures c.in-Some-requirement_at.ensures)
-    c.in-Some-as_layout-2.ensures) in
+    let m = g.F.Facts.meaning c.args.facts.now in
+    let used = number_used m c.args.p c.args.n c.in-Some-requirement_at.r (Layout c.in-Some-as_layout-2.u)
+    c.of_protocol.ensures c.in-Some-requirement_at.ensures c.in-Some-as_layout-2.ensures in
+    let w = assoc_layout_given c.args.table.now m c.args.p c.in-Some.q c.args.n c.args.first c.args.conclusion c.in-Some.t
+    c.in-Some-as_layout-2.u c.in-Some-as_layout.v c.in-Some.ensures c.in-Some-as_layout.ensures used in
     ((λ i. w.0 (same_proto _ _ (sym c.eq.ensures ∙ c.if-eq.true), c.is_for_self.ensures.0 i)), λ i. c.is_for_self.ensures.1 (w.1 i).1)
 
 pub returns-else-eq : goal.returns-else-eq
-returns-else-eq g c =
-    let w = assoc_layout_given c.args.table.now (g.F.Facts.meaning c.args.facts.now) c.args.p c.in-Some.q c.args.n c.args.first
-    c.args.conclusion c.in-Some.t c.in-Some-as_layout-2.u c.in-Some-as_layout.v c.in-Some.ensures c.in-Some-as_layout.ensures
-    (number_used (g.F.Facts.meaning c.args.facts.now) c.args.p c.args.n c.in-Some-requirement_at.r (Layout c.in-Some-as_layout-2.u)
-    (subst (λ z. HasNumber c.args.n z c.in-Some-requirement_at.r) c.of_protocol.ensures c.in-Some-requirement_at.ensures)
-    c.in-Some-as_layout-2.ensures) in (
-      (λ i. absurd (true≢false (sym i ∙ c.if-eq.false))),
-      λ i. absurd (true≢false (sym (proto_same _ _ (w.1 i).0) ∙ sym c.eq.ensures ∙ c.if-eq.false)),
-    )
+returns-else-eq g c = (
+  (λ i. absurd (true≢false (sym i ∙ c.if-eq.false))),
+  λ i.
+      let same = same_protocol c.args.table.now c.args.p c.in-Some.q c.in-Some.t c.args.first i.0 c.in-Some.ensures i.2 in
+      absurd (true≢false (sym (proto_same _ _ same) ∙ sym c.eq.ensures ∙ c.if-eq.false)),
+)

@@ -1,10 +1,10 @@
 use Rattle.std.proofs.Common.{◌≡◌, ◌∙◌, ap, sym}
 use Rattle.swreq_param.specs.Tables.{term_at}
-use Rattle.swreq_derivation.proofs.DerivationLemmas.{grows_then}
 use Rattle.swreq_readings.specs.Readable.{read_word}
 use Rattle.swreq_readings.proofs.ReadingLemmas.{equal_as, equal_ids_now, equal_now, is_still, term_still}
 use Rattle.swreq_explain.specs.Stating.{alphabet_at}
 use Rattle.swreq_explain.proofs.SideLemmas.{read_ids, read_still}
+use Rattle.swreq_derivation.proofs.DerivationLemmas.{continues_anyway, continues_then, grows_then}
 use Rattle.swreq_explain.proofs.stating.equate.Goals as goal
 
 pub add_trans-requires-clause-first : goal.add_trans-requires-clause-first
@@ -14,7 +14,7 @@ add_trans-requires-clause-first c =
     let s3 = c.link.new.derivation in
     let t = term_at c.read_side.new.derivation.table d.t in
     read_ids d c.args.right t s3 c.in_ok-last.last
-    (read_still d c.args.right t s2 s3 c.in_ok-link.ensures.grows c.in_ok-last.last c.in_ok-last.ensures.read)
+    (read_still d c.args.right t s2 s3 c.in_ok-link.ensures.continues.grows c.in_ok-last.last c.in_ok-last.ensures.read)
 
 pub add_trans-requires-clause-second : goal.add_trans-requires-clause-second
 add_trans-requires-clause-second c =
@@ -26,21 +26,20 @@ add_trans-requires-clause-second c =
     let s1 = c.read_side.new.derivation in
     let s2 = c.read_side-2.new.derivation in
     let s3 = c.link.new.derivation in
-    let g1 = c.in_ok-first.ensures.grows in
-    let g2 = c.in_ok-last.ensures.grows in
-    let g3 = c.in_ok-link.ensures.grows in
+    let g1 = c.in_ok-first.ensures.continues.grows in
+    let g2 = c.in_ok-last.ensures.continues.grows in
+    let g3 = c.in_ok-link.ensures.continues.grows in
     let term_0 = term_at s0.table d.t in
     let term_1 = term_at s1.table d.t in
     let term_2 = term_at s2.table d.t in
-    let first = read_still d c.args.left term_0 s1 s3 (grows_then s1 s2 s3 g2 g3) c.in_ok-first.first c.in_ok-first.ensures.read in
+    let first = read_still d c.args.left term_0 s1 s3 (grows_then g2 g3) c.in_ok-first.first c.in_ok-first.ensures.read in
     let last = read_still d c.args.right term_1 s2 s3 g3 c.in_ok-last.last c.in_ok-last.ensures.read in
     let same_1 : term_1 ≡ term_0 = term_still s0 s1 g1 d.t c.requires.ready.t in
     let same_2 : term_2 ≡ term_1 = term_still s1 s2 g2 d.t (is_still s0 s1 g1 d.t c.requires.ready.t) in (
       last.word_of,
       first.word_of,
       equal_as s3 _ _ _ _ (last.word ∙ ap (λ z. read_word g z v) (sym same_2))
-          (first.word ∙ ap (λ z. read_word g z u) (sym (same_2 ∙ same_1)))
-          c.in_ok-link.ensures.both.equal,
+          (first.word ∙ ap (λ z. read_word g z u) (sym (same_2 ∙ same_1))) c.in_ok-link.ensures.both.equal,
     )
 
 pub add_symm-requires-clause-equal : goal.add_symm-requires-clause-equal
@@ -48,11 +47,11 @@ add_symm-requires-clause-equal c =
     let s1 = c.read_side.new.derivation in
     let s2 = c.read_side-2.new.derivation in
     let s3 = c.link.new.derivation in
-    let g2 = c.in_ok-last.ensures.grows in
-    let g3 = c.in_ok-link.ensures.grows in
-    equal_now s3 c.add_trans.new.derivation c.in_ok-add_trans.ensures.grows c.in_ok-last.last.itself c.in_ok-first.first.word
+    let g2 = c.in_ok-last.ensures.continues.grows in
+    let g3 = c.in_ok-link.ensures.continues.grows in
+    equal_now s3 c.add_trans.new.derivation c.in_ok-add_trans.ensures.continues.grows c.in_ok-last.last.itself c.in_ok-first.first.word
     (is_still s2 s3 g3 c.in_ok-last.last.itself c.in_ok-last.ensures.read.itself_of)
-    (is_still s1 s3 (grows_then s1 s2 s3 g2 g3) c.in_ok-first.first.word c.in_ok-first.ensures.read.word_of) c.in_ok-add_trans.ensures.equal
+    (is_still s1 s3 (grows_then g2 g3) c.in_ok-first.first.word c.in_ok-first.ensures.read.word_of) c.in_ok-add_trans.ensures.equal
 
 pub add_trans-requires-2-clause-first : goal.add_trans-requires-2-clause-first
 add_trans-requires-2-clause-first c =
@@ -62,8 +61,8 @@ add_trans-requires-2-clause-first c =
     let s3 = c.link.new.derivation in
     let s4 = c.add_trans.new.derivation in
     let s5 = c.add_symm.new.derivation in
-    let g = grows_then s1 s3 s5 (grows_then s1 s2 s3 c.in_ok-last.ensures.grows c.in_ok-link.ensures.grows)
-    (grows_then s3 s4 s5 c.in_ok-add_trans.ensures.grows c.in_ok-add_symm.ensures.grows) in
+    let g = grows_then (grows_then c.in_ok-last.ensures.continues.grows c.in_ok-link.ensures.continues.grows)
+    (grows_then c.in_ok-add_trans.ensures.continues.grows c.in_ok-add_symm.ensures.continues.grows) in
     let t = term_at c.args.derivation.now.table d.t in
     read_ids d c.args.left t s5 c.in_ok-first.first (read_still d c.args.left t s1 s5 g c.in_ok-first.first c.in_ok-first.ensures.read)
 
@@ -73,10 +72,10 @@ add_trans-requires-2-clause-second c =
     let s2 = c.read_side-2.new.derivation in
     let s3 = c.link.new.derivation in
     let s4 = c.add_trans.new.derivation in
-    let g2 = c.in_ok-last.ensures.grows in
-    let g34 = grows_then s2 s3 s4 c.in_ok-link.ensures.grows c.in_ok-add_trans.ensures.grows in
-    equal_ids_now s4 c.add_symm.new.derivation c.in_ok-add_symm.ensures.grows c.in_ok-first.first.word c.in_ok-last.last.itself
-    (is_still s1 s4 (grows_then s1 s2 s4 g2 g34) c.in_ok-first.first.word c.in_ok-first.ensures.read.word_of)
+    let g2 = c.in_ok-last.ensures.continues.grows in
+    let g34 = grows_then c.in_ok-link.ensures.continues.grows c.in_ok-add_trans.ensures.continues.grows in
+    equal_ids_now s4 c.add_symm.new.derivation c.in_ok-add_symm.ensures.continues.grows c.in_ok-first.first.word c.in_ok-last.last.itself
+    (is_still s1 s4 (grows_then g2 g34) c.in_ok-first.first.word c.in_ok-first.ensures.read.word_of)
     (is_still s2 s4 g34 c.in_ok-last.last.itself c.in_ok-last.ensures.read.itself_of) c.in_ok-add_symm.ensures.equal
 
 pub returns : goal.returns
@@ -89,14 +88,13 @@ returns c =
     let s4 = c.add_trans.new.derivation in
     let s5 = c.add_symm.new.derivation in
     let s6 = c.add_trans-2.new.derivation in
-    let g1 = c.in_ok-first.ensures.grows in
-    let g2 = c.in_ok-last.ensures.grows in
-    let g6 = c.in_ok-add_trans-2.ensures.grows in
-    let g25 = grows_then s2 s4 s5 (grows_then s2 s3 s4 c.in_ok-link.ensures.grows c.in_ok-add_trans.ensures.grows)
-    c.in_ok-add_symm.ensures.grows in
+    let g2 = c.in_ok-last.ensures.continues.grows in
+    let g6 = c.in_ok-add_trans-2.ensures.continues.grows in
+    let g25 = grows_then (grows_then c.in_ok-link.ensures.continues.grows c.in_ok-add_trans.ensures.continues.grows)
+    c.in_ok-add_symm.ensures.continues.grows in
     let term_0 = term_at s0.table d.t in
     let term_1 = term_at s1.table d.t in
-    let first = read_still d c.args.left term_0 s1 s5 (grows_then s1 s2 s5 g2 g25) c.in_ok-first.first c.in_ok-first.ensures.read in
+    let first = read_still d c.args.left term_0 s1 s5 (grows_then g2 g25) c.in_ok-first.first c.in_ok-first.ensures.read in
     let last = read_still d c.args.right term_1 s2 s5 g25 c.in_ok-last.last c.in_ok-last.ensures.read in
     let first_now = read_still d c.args.left term_0 s5 s6 g6 c.in_ok-first.first first in
     let last_now = read_still d c.args.right term_1 s5 s6 g6 c.in_ok-last.last last in
@@ -105,30 +103,31 @@ returns c =
       first = first_now.itself;
       last = last_now.itself;
       equal = equal_as s6 _ _ _ _ (sym first.itself) (sym last.itself) c.in_ok-add_trans-2.ensures.equal;
-      grows = grows_then s0 s5 s6 (grows_then s0 s1 s5 g1 (grows_then s1 s2 s5 g2 g25)) g6;
-      derives = λ b f k. c.in_ok-add_trans-2.ensures.derives b (c.in_ok-add_symm.ensures.derives b (c.in_ok-add_trans.ensures.derives b
-          (c.in_ok-link.ensures.derives b f (c.in_ok-last.ensures.derives b f (c.in_ok-first.ensures.derives b f k)))));
+      continues = continues_then (continues_then (continues_then c.in_ok-first.ensures.continues c.in_ok-last.ensures.continues)
+          c.in_ok-link.ensures.continues) (continues_anyway (continues_then (continues_then c.in_ok-add_trans.ensures.continues
+          c.in_ok-add_symm.ensures.continues) c.in_ok-add_trans-2.ensures.continues));
     }
 
-pub returns-in_err-last-clause-grows : goal.returns-in_err-last-clause-grows
-returns-in_err-last-clause-grows c = grows_then _ _ _ c.in_ok-first.ensures.grows c.in_err-last.ensures.grows
+pub returns-in_err-last-clause-continues : goal.returns-in_err-last-clause-continues
+returns-in_err-last-clause-continues c = continues_then c.in_ok-first.ensures.continues c.in_err-last.ensures.continues
 
-pub returns-in_err-link-clause-grows : goal.returns-in_err-link-clause-grows
-returns-in_err-link-clause-grows c =
-    grows_then _ _ _ (grows_then _ _ _ c.in_ok-first.ensures.grows c.in_ok-last.ensures.grows) c.in_err-link.ensures.grows
+pub returns-in_err-link-clause-continues : goal.returns-in_err-link-clause-continues
+returns-in_err-link-clause-continues c =
+    continues_then (continues_then c.in_ok-first.ensures.continues c.in_ok-last.ensures.continues) c.in_err-link.ensures.continues
 
-pub returns-in_err-add_trans-clause-grows : goal.returns-in_err-add_trans-clause-grows
-returns-in_err-add_trans-clause-grows c =
-    grows_then _ _ _ (grows_then _ _ _ (grows_then _ _ _ c.in_ok-first.ensures.grows c.in_ok-last.ensures.grows)
-    c.in_ok-link.ensures.grows) c.in_err-add_trans.ensures.grows
+pub returns-in_err-add_trans-clause-continues : goal.returns-in_err-add_trans-clause-continues
+returns-in_err-add_trans-clause-continues c =
+    continues_then (continues_then (continues_then c.in_ok-first.ensures.continues c.in_ok-last.ensures.continues)
+    c.in_ok-link.ensures.continues) (continues_anyway c.in_err-add_trans.ensures.continues)
 
-pub returns-in_err-add_symm-clause-grows : goal.returns-in_err-add_symm-clause-grows
-returns-in_err-add_symm-clause-grows c =
-    grows_then _ _ _ (grows_then _ _ _ (grows_then _ _ _ (grows_then _ _ _ c.in_ok-first.ensures.grows c.in_ok-last.ensures.grows)
-    c.in_ok-link.ensures.grows) c.in_ok-add_trans.ensures.grows) c.in_err-add_symm.ensures.grows
+pub returns-in_err-add_symm-clause-continues : goal.returns-in_err-add_symm-clause-continues
+returns-in_err-add_symm-clause-continues c =
+    continues_then (continues_then (continues_then c.in_ok-first.ensures.continues c.in_ok-last.ensures.continues)
+    c.in_ok-link.ensures.continues) (continues_anyway (continues_then c.in_ok-add_trans.ensures.continues
+    c.in_err-add_symm.ensures.continues))
 
-pub returns-in_err-add_trans-2-clause-grows : goal.returns-in_err-add_trans-2-clause-grows
-returns-in_err-add_trans-2-clause-grows c =
-    grows_then _ _ _ (grows_then _ _ _ (grows_then _ _ _ (grows_then _ _ _ (grows_then _ _ _ c.in_ok-first.ensures.grows
-    c.in_ok-last.ensures.grows) c.in_ok-link.ensures.grows) c.in_ok-add_trans.ensures.grows) c.in_ok-add_symm.ensures.grows)
-    c.in_err-add_trans-2.ensures.grows
+pub returns-in_err-add_trans-2-clause-continues : goal.returns-in_err-add_trans-2-clause-continues
+returns-in_err-add_trans-2-clause-continues c =
+    continues_then (continues_then (continues_then c.in_ok-first.ensures.continues c.in_ok-last.ensures.continues)
+    c.in_ok-link.ensures.continues) (continues_anyway (continues_then (continues_then c.in_ok-add_trans.ensures.continues
+    c.in_ok-add_symm.ensures.continues) c.in_err-add_trans-2.ensures.continues))

@@ -4,75 +4,54 @@ use Rattle.swreq_derive.specs.Derivation.TermRequirement.{Conforms}
 use Rattle.swreq_derive.specs.Derivation.TermStatement.{Requires}
 use Rattle.swreq_word.specs.declared.symbols.Symbol.TheVariants.{Proto}
 use Rattle.swreq_derivation.specs.UnderWay.{States}
-use Rattle.swreq_derivation.proofs.DerivationLemmas.{grows_then}
-use Rattle.swreq_readings.specs.Readable.{AllowsWord}
-use Rattle.swreq_readings.proofs.ReadingLemmas.{term_still}
-use Rattle.swreq_explain.specs.Stating.{alphabet_at}
-use Rattle.swreq_explain.proofs.SideLemmas.{read_equal, read_still, vanished}
+use Rattle.swreq_derivation.proofs.DerivationLemmas.{continues_anyway, continues_then}
+use Rattle.swreq_explain.proofs.SideLemmas.{linked, read_equal}
 use Rattle.swreq_explain.proofs.stating.state_conformance.Goals as goal
 
 pub add_same_conf-requires-clause-conforms : goal.add_same_conf-requires-clause-conforms
 add_same_conf-requires-clause-conforms c =
-    let d = c.args.reader in
-    let s0 = c.args.derivation.now in
-    let s1 = c.read_side.new.derivation in
-    let sm = c.conform_by_member.new.derivation in
-    let s2 = c.link.new.derivation in
-    let gm = c.in_ok-conform_by_member.ensures.grows in
-    let g1 = grows_then s0 s1 sm c.in_ok-ids.ensures.grows gm in
-    let g2 = grows_then s1 sm s2 gm c.in_ok-link.ensures.grows in
-    let t = term_at s0.table d.t in
-    let same = term_still s0 sm g1 d.t c.requires.ready.t in
-    vanished d c.args.side t s2 c.in_ok-ids.ids (Proto c.args.p.rank) c.args.longer.now
-    (read_still d c.args.side t s1 s2 g2 c.in_ok-ids.ids c.in_ok-ids.ensures.read) c.requires.vanishes.0
-    (subst (λ z. AllowsWord (alphabet_at d) s2 z c.args.longer.now) same c.in_ok-link.ensures.both.right)
+    (linked c.args.reader c.args.side c.args.derivation.now _ _ _ c.in_ok-ids.ensures.continues.grows
+    c.in_ok-conform_by_member.ensures.continues.grows c.in_ok-link.ensures.continues.grows c.requires.ready.t c.in_ok-ids.ids (Proto
+    c.args.p.rank) _
+    c.in_ok-ids.ensures.read c.requires.vanishes.0 c.in_ok-link.ensures.both.right).allows
 
 pub add_same_conf-requires-clause-equal : goal.add_same_conf-requires-clause-equal
 add_same_conf-requires-clause-equal c =
-    let d = c.args.reader in
-    let s1 = c.read_side.new.derivation in
-    let s2 = c.link.new.derivation in
-    let t = term_at c.args.derivation.now.table d.t in
-    read_equal d c.args.side t s2 c.in_ok-ids.ids
-    (read_still d c.args.side t s1 s2 (grows_then s1 c.conform_by_member.new.derivation s2 c.in_ok-conform_by_member.ensures.grows
-    c.in_ok-link.ensures.grows) c.in_ok-ids.ids c.in_ok-ids.ensures.read)
+    read_equal c.args.reader c.args.side (term_at c.args.derivation.now.table c.args.reader.t) c.link.new.derivation c.in_ok-ids.ids
+    (linked c.args.reader c.args.side c.args.derivation.now _ _ _ c.in_ok-ids.ensures.continues.grows
+    c.in_ok-conform_by_member.ensures.continues.grows c.in_ok-link.ensures.continues.grows c.requires.ready.t c.in_ok-ids.ids (Proto
+    c.args.p.rank) _
+    c.in_ok-ids.ensures.read c.requires.vanishes.0 c.in_ok-link.ensures.both.right).read
 
 pub returns-clause-says : goal.returns-clause-says
 returns-clause-says c =
-    let d = c.args.reader in
-    let s1 = c.read_side.new.derivation in
-    let s2 = c.link.new.derivation in
-    let t = term_at c.args.derivation.now.table d.t in
-    let r = read_still d c.args.side t s1 s2 (grows_then s1 c.conform_by_member.new.derivation s2 c.in_ok-conform_by_member.ensures.grows
-    c.in_ok-link.ensures.grows) c.in_ok-ids.ids c.in_ok-ids.ensures.read in
-    subst (λ z. States c.add_same_conf.new.derivation (Requires (Conforms z c.args.p))) r.itself c.in_ok-add_same_conf.ensures.conforms
+    subst (λ z. States c.add_same_conf.new.derivation (Requires (Conforms z c.args.p)))
+    (linked c.args.reader c.args.side c.args.derivation.now _ _ _ c.in_ok-ids.ensures.continues.grows
+    c.in_ok-conform_by_member.ensures.continues.grows c.in_ok-link.ensures.continues.grows c.requires.ready.t c.in_ok-ids.ids (Proto
+    c.args.p.rank) _
+    c.in_ok-ids.ensures.read c.requires.vanishes.0 c.in_ok-link.ensures.both.right).read.itself
+    c.in_ok-add_same_conf.ensures.conforms
 
-pub returns-clause-grows : goal.returns-clause-grows
-returns-clause-grows c =
-    let s0 = c.args.derivation.now in
-    let s1 = c.read_side.new.derivation in
-    let s2 = c.link.new.derivation in
-    grows_then s0 s2 c.add_same_conf.new.derivation
-    (grows_then s0 s1 s2 c.in_ok-ids.ensures.grows
-    (grows_then s1 c.conform_by_member.new.derivation s2 c.in_ok-conform_by_member.ensures.grows c.in_ok-link.ensures.grows))
-    c.in_ok-add_same_conf.ensures.grows
+pub returns-clause-continues : goal.returns-clause-continues
+returns-clause-continues c =
+    continues_then (continues_then (continues_then c.in_ok-ids.ensures.continues c.in_ok-conform_by_member.ensures.continues)
+    c.in_ok-link.ensures.continues)
+    (continues_anyway c.in_ok-add_same_conf.ensures.continues)
 
-pub returns-clause-derives : goal.returns-clause-derives
-returns-clause-derives c b f k =
-    c.in_ok-add_same_conf.ensures.derives b (c.in_ok-link.ensures.derives b f
-    (c.in_ok-conform_by_member.ensures.derives b f (c.in_ok-ids.ensures.derives b f k)))
+pub returns-in_err-link-clause-continues : goal.returns-in_err-link-clause-continues
+returns-in_err-link-clause-continues c =
+    continues_then (continues_then c.in_ok-ids.ensures.continues c.in_ok-conform_by_member.ensures.continues)
+    c.in_err-link.ensures.continues
 
-pub returns-in_err-link-clause-grows : goal.returns-in_err-link-clause-grows
-returns-in_err-link-clause-grows c =
-    grows_then _ _ _ (grows_then _ _ _ c.in_ok-ids.ensures.grows c.in_ok-conform_by_member.ensures.grows) c.in_err-link.ensures.grows
+pub returns-in_err-add_same_conf-clause-continues : goal.returns-in_err-add_same_conf-clause-continues
+returns-in_err-add_same_conf-clause-continues c =
+    continues_then (continues_then (continues_then c.in_ok-ids.ensures.continues c.in_ok-conform_by_member.ensures.continues)
+    c.in_ok-link.ensures.continues)
+    (continues_anyway c.in_err-add_same_conf.ensures.continues)
 
-pub returns-in_err-add_same_conf-clause-grows : goal.returns-in_err-add_same_conf-clause-grows
-returns-in_err-add_same_conf-clause-grows c =
-    grows_then _ _ _ (grows_then _ _ _ (grows_then _ _ _ c.in_ok-ids.ensures.grows c.in_ok-conform_by_member.ensures.grows)
-    c.in_ok-link.ensures.grows) c.in_err-add_same_conf.ensures.grows
+pub returns-then-branch-clause-continues : goal.returns-then-branch-clause-continues
+returns-then-branch-clause-continues c = continues_then c.in_ok-ids.ensures.continues c.in_ok-conform_by_member.ensures.continues
 
-pub returns-then-branch-clause-grows : goal.returns-then-branch-clause-grows
-returns-then-branch-clause-grows c = grows_then _ _ _ c.in_ok-ids.ensures.grows c.in_ok-conform_by_member.ensures.grows
-
-pub returns-in_err-conform_by_member-clause-grows : goal.returns-in_err-conform_by_member-clause-grows
-returns-in_err-conform_by_member-clause-grows c = grows_then _ _ _ c.in_ok-ids.ensures.grows c.in_err-conform_by_member.ensures.grows
+pub returns-in_err-conform_by_member-clause-continues : goal.returns-in_err-conform_by_member-clause-continues
+returns-in_err-conform_by_member-clause-continues c =
+    continues_then c.in_ok-ids.ensures.continues c.in_err-conform_by_member.ensures.continues

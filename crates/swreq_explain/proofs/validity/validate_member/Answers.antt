@@ -1,57 +1,79 @@
-use Rattle.std.proofs.Common.{◌≡◌, ◌∙◌, List, ap, subst, sym}
+use Rattle.std.proofs.Common.{◌≡◌, ◌∙◌, List, ap, ap₂, subst, sym}
 use Rattle.swreq_param.specs.declared.ids.AssocId.{AssocId}
 use Rattle.swreq_param.specs.declared.ids.NameId.{NameId}
 use Rattle.swreq_param.specs.declared.ids.Step.{Step}
 use Rattle.swreq_param.specs.declared.ids.Step.TheVariants.{Bound, Name}
-use Rattle.swreq_param.specs.Tables.{term_at}
+use Rattle.swreq_param.specs.declared.ids.TermId.{TermId}
+use Rattle.swreq_param.specs.Tables.{IsOf, term_at}
 use Rattle.swreq_param.specs.Terms.{Term}
 use Rattle.swreq_param.specs.Terms.Term.{Member}
-use Rattle.swreq_readings.specs.Readable.{IsOfStep}
+use Rattle.swreq_derive.specs.Derivation.{Declares}
+use Rattle.swreq_derivation.specs.declared.derivation.Derivation.{Derivation}
+use Rattle.swreq_derivation.specs.UnderWay.{AddsLines, Assumptions}
+use Rattle.swreq_readings.specs.declared.alphabet.Named.{Named}
+use Rattle.swreq_readings.specs.Readable.{IsGiven, IsOfStep}
 use Rattle.swreq_readings.proofs.ReadingLemmas.{term_still}
-use Rattle.swreq_derivation.proofs.DerivationLemmas.{grows_then}
+use Rattle.swreq_derivation.proofs.DerivationLemmas.{continues_anyway, continues_if, continues_then}
+use Rattle.swreq_births.specs.Systems.{FitsHistory}
+use Rattle.swreq_explain.specs.declared.sides.ReadAs.{ReadAs}
+use Rattle.swreq_explain.specs.declared.sides.RoundReader.{RoundReader}
+use Rattle.swreq_explain.specs.Stating.{alphabet_at}
 use Rattle.swreq_explain.proofs.validity.validate_member.Goals as goal
 
-pub returns-in_ok-add_assoc_name-in-Name-clause-derives : goal.returns-in_ok-add_assoc_name-in-Name-clause-derives
-returns-in_ok-add_assoc_name-in-Name-clause-derives c b f k =
-    let w = c.requires.given in
-    let s0 = c.args.derivation.now in
-    let s1 = c.member.new.derivation in
-    let table = c.in_ok-add_same_conf.ensures.table in
-    let same : IsOfStep (Name c.in-Name.field-0) w.0 c.args.named = subst (λ (z : Step). IsOfStep z w.0 c.args.named) c.in-Name.is w.1.1 in
-    let step : c.args.step ≡ Name c.args.named.name = c.in-Name.is ∙ ap (λ (z : NameId). Name z) (sym same) in
-    let stands = ap (λ (z : List Term). term_at z c.in_ok-v.v) table ∙ c.in_ok-v.ensures.stands in
-    let base = ap (λ (z : List Term). term_at z c.args.base.itself) table
-    ∙ term_still s0 s1 c.in_ok-v.ensures.grows c.args.base.itself c.requires.ids.0 in
-    c.in_ok-add_assoc_name-in-Name.ensures.derives b (record { rank = w.0 }) (f.alphabet.associated w.0 c.args.named w.1.0)
-    (stands ∙ ap (Member (term_at s0.table c.args.base.itself)) step ∙ ap (λ z. Member z (Name c.args.named.name)) (sym base))
-    (c.in_ok-add_same_conf.ensures.derives b (c.in_ok-v.ensures.derives b k))
+-- The protocol declares the associated type that the step names, and the id stands for the member by the step.
+module _ (d : RoundReader) (s u v : Derivation) (grows : AddsLines s u) (table : v.table ≡ u.table) (base : ReadAs) (id : TermId) (x : Step)
+    (n : Named) (t : Term) (h : IsOf s.table base.itself) (w : IsGiven (alphabet_at d) s t x n)
+    (stands : term_at u.table id ≡ Member (term_at s.table base.itself) x) where
+  member_by : (y : Step) → x ≡ y → term_at v.table id ≡ Member (term_at v.table base.itself) y
+  member_by y e =
+      let itself = ap (λ (z : List Term). term_at z base.itself) table ∙ term_still s u grows base.itself h in
+      ap (λ (z : List Term). term_at z id) table ∙ stands ∙ ap₂ Member (sym itself) e
 
-pub returns-in_ok-add_assoc_decl-in-Bound-clause-derives : goal.returns-in_ok-add_assoc_decl-in-Bound-clause-derives
-returns-in_ok-add_assoc_decl-in-Bound-clause-derives c b f k =
-    let w = c.requires.given in
-    let s0 = c.args.derivation.now in
-    let s1 = c.member.new.derivation in
-    let table = c.in_ok-add_same_conf.ensures.table in
-    let same : IsOfStep (Bound c.in-Bound.field-0) w.0 c.args.named =
-    subst (λ (z : Step). IsOfStep z w.0 c.args.named) c.in-Bound.is w.1.1 in
-    let assoc : AssocId = record { rank = w.0 } in
-    let step : c.args.step ≡ Bound assoc = c.in-Bound.is ∙ (λ i. Bound (record { rank = same i })) in
-    let stands = ap (λ (z : List Term). term_at z c.in_ok-v.v) table ∙ c.in_ok-v.ensures.stands in
-    let base = ap (λ (z : List Term). term_at z c.args.base.itself) table
-    ∙ term_still s0 s1 c.in_ok-v.ensures.grows c.args.base.itself c.requires.ids.0 in
-    c.in_ok-add_assoc_decl-in-Bound.ensures.derives b assoc (f.alphabet.associated w.0 c.args.named w.1.0)
-    (stands ∙ ap (Member (term_at s0.table c.args.base.itself)) step ∙ ap (λ z. Member z (Bound assoc)) (sym base))
-    (c.in_ok-add_same_conf.ensures.derives b (c.in_ok-v.ensures.derives b k))
+  named : (a : NameId) → x ≡ Name a → (b : Assumptions) → FitsHistory d.history.now b
+      → (e : AssocId) × Declares b.facts n.proto n.name e × (term_at v.table id ≡ Member (term_at v.table base.itself) (Name n.name))
+  named a is b f =
+      let same : IsOfStep (Name a) w.0 n = subst (λ (z : Step). IsOfStep z w.0 n) is w.1.1 in
+      (record { rank = w.0 }, f.alphabet.associated w.0 n w.1.0, member_by (Name n.name) (is ∙ ap (λ (z : NameId). Name z) (sym same)))
 
-pub returns-in_err-add_same_conf-clause-grows : goal.returns-in_err-add_same_conf-clause-grows
-returns-in_err-add_same_conf-clause-grows c = grows_then _ _ _ c.in_ok-v.ensures.grows c.in_err-add_same_conf.ensures.grows
+  bound : (a : AssocId) → x ≡ Bound a → (b : Assumptions) → FitsHistory d.history.now b
+      → (e : AssocId) × Declares b.facts n.proto n.name e × (term_at v.table id ≡ Member (term_at v.table base.itself) (Bound e))
+  bound a is b f =
+      let same : IsOfStep (Bound a) w.0 n = subst (λ (z : Step). IsOfStep z w.0 n) is w.1.1 in
+      let e : AssocId = record { rank = w.0 } in
+      (e, f.alphabet.associated w.0 n w.1.0, member_by (Bound e) (is ∙ (λ i. Bound (record { rank = same i }))))
 
-pub returns-in_err-add_assoc_name-in-Name-clause-grows : goal.returns-in_err-add_assoc_name-in-Name-clause-grows
-returns-in_err-add_assoc_name-in-Name-clause-grows c =
-    grows_then _ _ _ (grows_then _ _ _ c.in_ok-v.ensures.grows c.in_ok-add_same_conf.ensures.grows)
-    c.in_err-add_assoc_name-in-Name.ensures.grows
+pub returns-in_ok-add_assoc_name-in-Name-clause-continues : goal.returns-in_ok-add_assoc_name-in-Name-clause-continues
+returns-in_ok-add_assoc_name-in-Name-clause-continues c =
+    let first = continues_then c.in_ok-v.ensures.continues c.in_ok-add_same_conf.ensures.continues in
+    let fits = named c.args.reader _ _ c.add_same_conf.new.derivation c.in_ok-v.ensures.continues.grows
+    c.in_ok-add_same_conf.ensures.table c.args.base c.in_ok-v.v c.args.step c.args.named _
+    c.requires.ids.0 c.requires.given c.in_ok-v.ensures.stands c.in-Name.field-0 c.in-Name.is in
+    continues_then (continues_anyway first) (continues_if fits c.in_ok-add_assoc_name-in-Name.ensures.continues)
 
-pub returns-in_err-add_assoc_decl-in-Bound-clause-grows : goal.returns-in_err-add_assoc_decl-in-Bound-clause-grows
-returns-in_err-add_assoc_decl-in-Bound-clause-grows c =
-    grows_then _ _ _ (grows_then _ _ _ c.in_ok-v.ensures.grows c.in_ok-add_same_conf.ensures.grows)
-    c.in_err-add_assoc_decl-in-Bound.ensures.grows
+pub returns-in_ok-add_assoc_decl-in-Bound-clause-continues : goal.returns-in_ok-add_assoc_decl-in-Bound-clause-continues
+returns-in_ok-add_assoc_decl-in-Bound-clause-continues c =
+    let first = continues_then c.in_ok-v.ensures.continues c.in_ok-add_same_conf.ensures.continues in
+    let fits = bound c.args.reader _ _ c.add_same_conf.new.derivation c.in_ok-v.ensures.continues.grows
+    c.in_ok-add_same_conf.ensures.table c.args.base c.in_ok-v.v c.args.step c.args.named _
+    c.requires.ids.0 c.requires.given c.in_ok-v.ensures.stands c.in-Bound.field-0 c.in-Bound.is in
+    continues_then (continues_anyway first) (continues_if fits c.in_ok-add_assoc_decl-in-Bound.ensures.continues)
+
+pub returns-in_err-add_assoc_name-in-Name-clause-continues : goal.returns-in_err-add_assoc_name-in-Name-clause-continues
+returns-in_err-add_assoc_name-in-Name-clause-continues c =
+    let first = continues_then c.in_ok-v.ensures.continues c.in_ok-add_same_conf.ensures.continues in
+    let fits = named c.args.reader _ _ c.add_same_conf.new.derivation c.in_ok-v.ensures.continues.grows
+    c.in_ok-add_same_conf.ensures.table c.args.base c.in_ok-v.v c.args.step c.args.named _
+    c.requires.ids.0 c.requires.given c.in_ok-v.ensures.stands c.in-Name.field-0 c.in-Name.is in
+    continues_then (continues_anyway first) (continues_if fits c.in_err-add_assoc_name-in-Name.ensures.continues)
+
+pub returns-in_err-add_assoc_decl-in-Bound-clause-continues : goal.returns-in_err-add_assoc_decl-in-Bound-clause-continues
+returns-in_err-add_assoc_decl-in-Bound-clause-continues c =
+    let first = continues_then c.in_ok-v.ensures.continues c.in_ok-add_same_conf.ensures.continues in
+    let fits = bound c.args.reader _ _ c.add_same_conf.new.derivation c.in_ok-v.ensures.continues.grows
+    c.in_ok-add_same_conf.ensures.table c.args.base c.in_ok-v.v c.args.step c.args.named _
+    c.requires.ids.0 c.requires.given c.in_ok-v.ensures.stands c.in-Bound.field-0 c.in-Bound.is in
+    continues_then (continues_anyway first) (continues_if fits c.in_err-add_assoc_decl-in-Bound.ensures.continues)
+
+pub returns-in_err-add_same_conf-clause-continues : goal.returns-in_err-add_same_conf-clause-continues
+returns-in_err-add_same_conf-clause-continues c =
+    continues_anyway (continues_then c.in_ok-v.ensures.continues c.in_err-add_same_conf.ensures.continues)

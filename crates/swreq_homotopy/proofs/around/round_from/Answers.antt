@@ -1,18 +1,20 @@
-use Rattle.std.proofs.Common.{◌≡◌, ◌-◌, ◌<◌, ℕ, List, Some, get_or, refl, slice_get, sym, ◌∙◌, ap, subst, subst₂, arith, length}
+use Rattle.std.proofs.Common.{◌≡◌, ◌-◌, ◌<◌, ℕ, List, Some, false, get_or, refl, slice_get, sym, true, ◌∙◌, ap, subst, subst₂, arith, length}
 use Rattle.std.proofs.lemmas.Option.{slice_get_within}
+use Rattle.swreq_word.specs.declared.symbols.Symbol.{Symbol}
 use Rattle.swreq_rule.specs.declared.rules.Rule.{Rule}
 use Rattle.swreq_rule.specs.Steps.{RuleAt}
 use Rattle.swreq_rule.proofs.Numbers.{number_some, number_within, rule_there}
 use Rattle.swreq_path.specs.declared.paths.Loop.{Loop}
+use Rattle.swreq_path.specs.declared.paths.Path.{Path}
 use Rattle.swreq_path.specs.declared.steps.RewriteStep.{RewriteStep}
 use Rattle.swreq_path.specs.Paths.{IsLoop, StepsLead, HasTarget}
 use Rattle.swreq_path.specs.Inverse.{inverse}
 use Rattle.swreq_path.proofs.Leading.{one_end}
-use Rattle.swreq_homotopy.specs.Search.{IsBareAt, rest_of, way_round}
+use Rattle.swreq_homotopy.specs.Search.{GoesRound, IsBareAt, rest_of, way_round}
 use Rattle.swreq_homotopy.proofs.RoundTrip.{LeadsRound, step_read, leads_round, forward_leads, backward_leads}
 use Rattle.swreq_homotopy.proofs.around.round_from.Goals as goal
 
--- the step at the place, by what is read there, and the rule that it names
+-- the step at the place, by what is read there
 module _ (rules : List Rule) (round : Loop) (given : List RewriteStep) (at : ℕ) (step : RewriteStep) (over : IsLoop rules round)
     (bare : IsBareAt round.path.steps at) (same : given ≡ round.path.steps) (is : step ≡ get_or given at step) where
   read : slice_get round.path.steps at ≡ Some step
@@ -21,8 +23,47 @@ module _ (rules : List Rule) (round : Loop) (given : List RewriteStep) (at : ℕ
   leads : LeadsRound rules round.path.steps at step
   leads = leads_round rules round at step over bare read
 
-  named : (rule : Rule) → rule ≡ get_or rules (step.rule - 1) rule → RuleAt rules step.rule rule
-  named rule there = rule_there rules step.rule leads.rule rule leads.is_rule there
+  -- and the rule that it names, and the rest of the steps
+  module _ (rule : Rule) (there : rule ≡ get_or rules (step.rule - 1) rule) (others : List RewriteStep) (rest : others ≡ rest_of given at)
+    where
+      named : RuleAt rules step.rule rule
+      named = rule_there rules step.rule leads.rule rule leads.is_rule there
+
+      rest_is : others ≡ rest_of round.path.steps at
+      rest_is = rest ∙ ap (λ xs. rest_of xs at) same
+
+      leads_back : (u : List Symbol) → step.forward ≡ true → u ≡ rule.right → StepsLead rules others u rule.left
+      leads_back u forward e =
+          subst₂ (λ xs v. StepsLead rules xs v rule.left) (sym rest_is) (sym e)
+          (forward_leads rules round.path.steps at step rule forward named leads)
+
+      goes_back : (u : List Symbol) (path : Path) → step.forward ≡ true → u ≡ rule.right → StepsLead rules others u path.start
+          → HasTarget rules path u → path.steps ≡ inverse others
+          → GoesRound rules round.path.steps at (record { rule = step.rule; path = path })
+      goes_back u path forward e start target steps = record {
+        step = step;
+        is_step = read;
+        rule = rule;
+        is_rule = named;
+        names = refl;
+        start = one_end rules others u path.start rule.left start (leads_back u forward e);
+        target = subst (HasTarget rules path) e target;
+        steps_are = steps ∙ ap inverse rest_is ∙ ap (λ b. way_round b round.path.steps at) (sym forward);
+      }
+
+      goes_on : (u : List Symbol) → step.forward ≡ false → u ≡ rule.left
+          → GoesRound rules round.path.steps at (record { rule = step.rule; path = record { start = u; steps = others } })
+      goes_on u backward e = record {
+        step = step;
+        is_step = read;
+        rule = rule;
+        is_rule = named;
+        names = refl;
+        start = e;
+        target = subst₂ (λ xs v. StepsLead rules xs v rule.right) (sym rest_is) (sym e)
+            (backward_leads rules round.path.steps at step rule backward named leads);
+        steps_are = rest_is ∙ ap (λ b. way_round b round.path.steps at) (sym backward);
+      }
 
 pub overflow_sub-rule : goal.overflow_sub-rule
 overflow_sub-rule c =
@@ -47,70 +88,23 @@ rest-requires c =
 
 pub invert-requires : goal.invert-requires
 invert-requires c =
-    let rules = c.args.rules.now in
-    let round = c.args.round.now in
-    let given = c.items-steps.result.now in
-    let steps = round.path.steps in
-    let at = c.args.at in
-    let step = c.index-steps-at.result in
-    let rule = c.index-rules-step.result in
-    let l = leads rules round given at step c.requires.over c.requires.bare c.items-steps.ensures c.index-steps-at.is in
-    let is = named rules round given at step c.requires.over c.requires.bare c.items-steps.ensures c.index-steps-at.is rule
-    c.index-rules-step.is in
-    let rest : c.new.result ≡ rest_of steps at = c.new.ensures ∙ c.in_ok-rest.ensures ∙ ap (λ xs. rest_of xs at) c.items-steps.ensures in (
+    let rule = c.index-rules-step.result in (
       rule.left,
-      subst₂ (λ xs u. StepsLead rules xs u rule.left) (sym rest) (sym c.in_ok-start.ensures.cases)
-          (forward_leads rules steps at step rule c.if-step.true is l),
+      leads_back c.args.rules.now c.args.round.now c.items-steps.result.now c.args.at c.index-steps-at.result c.requires.over
+          c.requires.bare c.items-steps.ensures c.index-steps-at.is rule c.index-rules-step.is
+          c.new.result (c.new.ensures ∙ c.in_ok-rest.ensures) c.in_ok-start.start c.if-step.true c.in_ok-start.ensures.cases,
     )
 
 pub returns-in_ok-path : goal.returns-in_ok-path
 returns-in_ok-path c =
-    let rules = c.args.rules.now in
-    let round = c.args.round.now in
-    let given = c.items-steps.result.now in
-    let at = c.args.at in
-    let step = c.index-steps-at.result in
-    let rule = c.index-rules-step.result in
-    let l = leads rules round given at step c.requires.over c.requires.bare c.items-steps.ensures c.index-steps-at.is in
-    let is = named rules round given at step c.requires.over c.requires.bare c.items-steps.ensures c.index-steps-at.is rule
-    c.index-rules-step.is in
-    let rest : c.new.result ≡ rest_of round.path.steps at =
-    c.new.ensures ∙ c.in_ok-rest.ensures ∙ ap (λ xs. rest_of xs at) c.items-steps.ensures in
-    let back : StepsLead rules c.new.result c.in_ok-start.start rule.left =
-    subst₂ (λ xs u. StepsLead rules xs u rule.left) (sym rest) (sym c.in_ok-start.ensures.cases)
-    (forward_leads rules round.path.steps at step rule c.if-step.true is l) in
-    record {
-      step = step;
-      is_step = read rules round given at step c.requires.over c.requires.bare c.items-steps.ensures c.index-steps-at.is;
-      rule = rule;
-      is_rule = is;
-      names = refl;
-      start = one_end rules c.new.result c.in_ok-start.start c.in_ok-path.path.start rule.left c.in_ok-path.ensures.start back;
-      target = subst (λ v. HasTarget rules c.in_ok-path.path v) c.in_ok-start.ensures.cases c.in_ok-path.ensures.target;
-      steps_are = c.in_ok-path.ensures.steps ∙ ap inverse rest ∙ ap (λ b. way_round b round.path.steps at) (sym c.if-step.true);
-    }
+    goes_back c.args.rules.now c.args.round.now c.items-steps.result.now c.args.at c.index-steps-at.result c.requires.over
+    c.requires.bare c.items-steps.ensures c.index-steps-at.is c.index-rules-step.result c.index-rules-step.is
+    c.new.result (c.new.ensures ∙ c.in_ok-rest.ensures) c.in_ok-start.start c.in_ok-path.path c.if-step.true c.in_ok-start.ensures.cases
+    c.in_ok-path.ensures.start c.in_ok-path.ensures.target c.in_ok-path.ensures.steps
 
 pub returns-in_ok-start-2 : goal.returns-in_ok-start-2
 returns-in_ok-start-2 c =
-    let rules = c.args.rules.now in
-    let round = c.args.round.now in
-    let given = c.items-steps.result.now in
-    let at = c.args.at in
-    let step = c.index-steps-at.result in
-    let rule = c.index-rules-step.result in
-    let l = leads rules round given at step c.requires.over c.requires.bare c.items-steps.ensures c.index-steps-at.is in
-    let is = named rules round given at step c.requires.over c.requires.bare c.items-steps.ensures c.index-steps-at.is rule
-    c.index-rules-step.is in
-    let rest : c.new-else-step.result ≡ rest_of round.path.steps at =
-    c.new-else-step.ensures ∙ c.in_ok-rest.ensures ∙ ap (λ xs. rest_of xs at) c.items-steps.ensures in
-    record {
-      step = step;
-      is_step = read rules round given at step c.requires.over c.requires.bare c.items-steps.ensures c.index-steps-at.is;
-      rule = rule;
-      is_rule = is;
-      names = refl;
-      start = c.in_ok-start-2.ensures.cases;
-      target = subst₂ (λ xs u. StepsLead rules xs u rule.right) (sym rest) (sym c.in_ok-start-2.ensures.cases)
-          (backward_leads rules round.path.steps at step rule c.if-step.false is l);
-      steps_are = rest ∙ ap (λ b. way_round b round.path.steps at) (sym c.if-step.false);
-    }
+    goes_on c.args.rules.now c.args.round.now c.items-steps.result.now c.args.at c.index-steps-at.result c.requires.over
+    c.requires.bare c.items-steps.ensures c.index-steps-at.is c.index-rules-step.result c.index-rules-step.is
+    c.new-else-step.result (c.new-else-step.ensures ∙ c.in_ok-rest.ensures) c.in_ok-start-2.start c.if-step.false
+    c.in_ok-start-2.ensures.cases

@@ -2,10 +2,9 @@ use Rattle.std.proofs.Common.{◌≡◌, sym, ◌∙◌, ap, subst, ◌++◌}
 use Rattle.swreq_path.specs.Reductions.{IsRedex}
 use Rattle.swreq_path.specs.Paths.{HasTarget}
 use Rattle.swreq_path.proofs.Leading.{one_end}
-use Rattle.swreq_homotopy.specs.Loops.{ReducesThrough}
 use Rattle.swreq_pair.proofs.PairWords.{both_put}
 use Rattle.swreq_homotopy.proofs.PairSteps.{redex_of}
-use Rattle.swreq_homotopy.proofs.Through.{through_target, target_is, one_word, loop_is}
+use Rattle.swreq_homotopy.proofs.Through.{ends_meet, makes_loop, through_target}
 use Rattle.swreq_homotopy.proofs.loops.loop_of_pair.Goals as goal
 
 pub path_through-requires-clause-redex : goal.path_through-requires-clause-redex
@@ -43,22 +42,12 @@ target-requires-2 c =
 
 pub returns-then-not-are_same-clause-of_pair : goal.returns-then-not-are_same-clause-of_pair
 returns-then-not-are_same-clause-of_pair c s =
-    let rules = c.args.rules.now in
-    let place = c.args.place in
     let pair = c.requires.pair in
-    let w = c.in_ok-word.word.items in
-    let out = c.in_ok-out.out in
-    let back = c.in_ok-back.back in
-    let t = c.in_ok-out.ensures.through in
-    let u = c.in_ok-back.ensures.through in
-    let a = subst (λ x. ReducesThrough rules out.steps 0 place.i x t.0 t.1) c.deref.ensures.value t.2 in
-    let b = subst (λ x. ReducesThrough rules back.steps place.at place.j x u.0 u.1) c.deref-2.ensures.value u.2 in
-    let meet : t.1 ≡ u.1 = one_word rules place pair.0 pair.1 w pair.2 c.in_ok-word.ensures out.steps back.steps t.0 u.0 t.1 u.1 a b s in
-    let end : c.in_ok-end.end ≡ t.1 =
-    target_is rules out 0 place.i c.deref.result.now t.0 t.1 c.in_ok-end.end c.in_ok-out.ensures.start t.2 c.in_ok-end.ensures in
-    let other : c.in_ok-other_end.other_end ≡ u.1 = target_is rules back place.at place.j c.deref-2.result.now u.0 u.1
-    c.in_ok-other_end.other_end c.in_ok-back.ensures.start u.2 c.in_ok-other_end.ensures in
-    let same = c.are_same.ensures.1 (c.symbols.ensures ∙ end ∙ meet ∙ sym other ∙ sym c.symbols-2.ensures) in
+    let meet = ends_meet c.args.rules.now c.args.place pair.0 pair.1 c.in_ok-word.word.items pair.2 c.in_ok-word.ensures
+    c.in_ok-out.out c.in_ok-back.back c.deref.result.now c.deref-2.result.now c.deref.ensures.value c.deref-2.ensures.value
+    c.in_ok-out.ensures.start c.in_ok-back.ensures.start c.in_ok-out.ensures.through c.in_ok-back.ensures.through
+    c.in_ok-end.end c.in_ok-other_end.other_end c.in_ok-end.ensures c.in_ok-other_end.ensures s in
+    let same = c.are_same.ensures.1 (c.symbols.ensures ∙ meet ∙ sym c.symbols-2.ensures) in
     let differ = c.if-not-are_same.true in
     cc
 
@@ -74,25 +63,14 @@ compose-requires-clause-first c =
 
 pub returns-clause-of_pair : goal.returns-clause-of_pair
 returns-clause-of_pair c =
-    let rules = c.args.rules.now in
-    let place = c.args.place in
     let pair = c.requires.pair in
-    let w = c.in_ok-word.word.items in
-    let out = c.in_ok-out.out in
-    let back = c.in_ok-back.back in
-    let t = c.in_ok-out.ensures.through in
-    let u = c.in_ok-back.ensures.through in
-    let a = subst (λ x. ReducesThrough rules out.steps 0 place.i x t.0 t.1) c.deref.ensures.value t.2 in
-    let b = subst (λ x. ReducesThrough rules back.steps place.at place.j x u.0 u.1) c.deref-2.ensures.value u.2 in
-    let end : c.in_ok-end.end ≡ t.1 =
-    target_is rules out 0 place.i c.deref.result.now t.0 t.1 c.in_ok-end.end c.in_ok-out.ensures.start t.2 c.in_ok-end.ensures in
-    let other : c.in_ok-other_end.other_end ≡ u.1 = target_is rules back place.at place.j c.deref-2.result.now u.0 u.1
-    c.in_ok-other_end.other_end c.in_ok-back.ensures.start u.2 c.in_ok-other_end.ensures in
-    let meet : t.1 ≡ u.1 = sym end ∙ (sym c.symbols.ensures ∙ c.are_same.ensures.0 c.if-not-are_same.false ∙ c.symbols-2.ensures) ∙ other in
-    loop_is rules place pair.0 pair.1 w pair.2 c.in_ok-word.ensures out.steps back.steps t.0 u.0 t.1 u.1 a b meet
-    (record { path = c.in_ok-path.path })
-    (c.in_ok-path.ensures.start ∙ c.in_ok-out.ensures.start ∙ c.deref.ensures.value)
-    (c.in_ok-path.ensures.steps ∙ ap (λ xs. out.steps ++ xs) c.in_ok-home.ensures.steps)
+    let meet = sym c.symbols.ensures ∙ c.are_same.ensures.0 c.if-not-are_same.false ∙ c.symbols-2.ensures in
+    makes_loop c.args.rules.now c.args.place pair.0 pair.1 c.in_ok-word.word.items pair.2 c.in_ok-word.ensures
+    c.in_ok-out.out c.in_ok-back.back c.deref.result.now c.deref-2.result.now c.deref.ensures.value c.deref-2.ensures.value
+    c.in_ok-out.ensures.start c.in_ok-back.ensures.start c.in_ok-out.ensures.through c.in_ok-back.ensures.through
+    c.in_ok-end.end c.in_ok-other_end.other_end c.in_ok-end.ensures c.in_ok-other_end.ensures meet
+    (record { path = c.in_ok-path.path }) c.in_ok-path.ensures.start
+    (c.in_ok-path.ensures.steps ∙ ap (λ xs. c.in_ok-out.out.steps ++ xs) c.in_ok-home.ensures.steps)
 
 pub returns-clause-round : goal.returns-clause-round
 returns-clause-round c =

@@ -1,14 +1,10 @@
 use Rattle.std.proofs.Common.{◌≡◌, ◌∙◌, ℕ, List, ap, sym, subst, get_or, length, arith}
 use Rattle.std.proofs.lemmas.Option.{slice_get-get_or}
 use Rattle.std.proofs.lemmas.Result.{IfOk-weaker}
-use Rattle.swreq_param.specs.declared.ids.ProtoId.{ProtoId}
 use Rattle.swreq_closure.specs.Chains.{next}
 use Rattle.swreq_lexicon.specs.Heirs.{AreDirectHeirs}
-use Rattle.swreq_lexicon.proofs.Upwards.{AreAdded, heirs_more}
+use Rattle.swreq_lexicon.proofs.Upwards.{AreAdded, first, heirs_more}
 use Rattle.swreq_lexicon.proofs.heirs.direct_heirs.Goals as goal
-
-abbrev first : ProtoId
-first = record { rank = 0 }
 
 pub loop-k-preserved : goal.loop-k-preserved
 loop-k-preserved c =

@@ -1,15 +1,11 @@
 use Rattle.std.proofs.Common.{◌≡◌, ◌∙◌, ◌<◌, ◌+◌, ℕ, Option, Some, Global, Vec, ap, get_or, length, set, subst, sym, arith}
 use Rattle.std.proofs.lemmas.List.{length-set}
 use Rattle.std.proofs.lemmas.Option.{slice_get-get_or}
-use Rattle.swreq_param.specs.declared.ids.ProtoId.{ProtoId}
 use Rattle.swreq_lexicon.specs.Heirs.{ArePositions, HavePositions}
 use Rattle.swreq_lexicon.specs.Views.{place_by}
-use Rattle.swreq_lexicon.proofs.Upwards.{positions_more, all_more, all_past}
+use Rattle.swreq_lexicon.proofs.Upwards.{first, positions_more, all_more, all_past}
 use Rattle.swreq_lexicon.proofs.heirs.positions.Goals as goal
 use Rattle.swreq_lexicon.proofs.heirs.positions.Goals.{then-place-bound, else-place-bound}
-
-abbrev first : ProtoId
-first = record { rank = 0 }
 
 pub loop-k-preserved : goal.loop-k-preserved
 loop-k-preserved c =

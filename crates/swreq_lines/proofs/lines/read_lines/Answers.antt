@@ -35,7 +35,7 @@ loop-found-preserved c =
     let grown = c.in_ok-line.ensures.extends in
     let kept : (q : Line) → Contains items q → HasLineIds x new q =
     λ q there. line_ids old new grown x q (c.loop-found.invariant.ids q there) in
-    let put = c.in_ok-put.ensures.ok in
+    let put = c.in_ok-push.ensures.items in
     let len = c.len.ensures in
     let shorter = rest_shorter rest found.line.now found.rest.now c.in-Some.ensures.first in
     let count = c.loop-found.invariant.count in
@@ -44,7 +44,7 @@ loop-found-preserved c =
       ids = λ q there. ⊎_elim (kept q) (λ last. subst (HasLineIds x new) (sym (only_member line q last)) c.in_ok-line.ensures.ids)
           (Contains-append_cases items (line ∷ []) q (subst (λ z. Contains z q) put there));
       extends = onward c.args.table.now old new c.loop-found.invariant.extends grown;
-      so_far = with_line x old new c.args.text.now rest found.line.now found.rest.now items c.put.new.lines.items line (c.len.result + 1)
+      so_far = with_line x old new c.args.text.now rest found.line.now found.rest.now items c.push.new.self.items line (c.len.result + 1)
           c.loop-found.invariant.so_far (lines_still old new grown x items c.loop-found.invariant.ids)
           c.in-Some.ensures.lines (omega (arith, len))
           c.in_ok-line.ensures.line put;

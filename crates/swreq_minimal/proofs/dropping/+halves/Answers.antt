@@ -155,25 +155,23 @@ pub drop_halves-drop_half-requires : goal.drop_halves-drop_half-requires
 drop_halves-drop_half-requires g t c κs sub =
     let s = c.args.setting.now in
     let now = c.args.left.now.items in
-    let from = c.args.span.from in
-    let to = c.args.span.to in
-    let half = halves from to c.requires.span.0 c.if-middle-span.false in
-    let within = c.requires.span.1 in
-    let middle = from + (to - from) / 2 in
-    let last_half : Half = record { span = record { from = middle; to = to }; other = record { from = from; to = middle } } in
-    let borrowed = where_borrowed (AreOfList s (said_in s (take from now ++ drop to now)))
+    let span = c.args.span in
+    let half = halves span.from span.to c.requires.span.0 c.if-middle-span.false in
+    let middle = span.from + (span.to - span.from) / 2 in
+    let last_half : Half = record { span = record { from = middle; to = span.to }; other = record { from = span.from; to = middle } } in
+    let borrowed = where_borrowed (AreOfList s (said_in s (take span.from now ++ drop span.to now)))
     c.as_ref-2.result c.args.rules c.as_ref-2.ensures.value c.requires.rules in
     let rules = if_some_weaker _ (AreOutsideBoth s now last_half) c.in_ok-same.same (λ new h. let (old, e, is) = h in (
-      said_in s (take from now ++ drop to now),
-      subst (AreOfList s (said_in s (take from now ++ drop to now))) (sym is) (rw e at borrowed),
-      for_second s now from middle to (omega (arith, half.0)) (omega (arith, half.1)) within,
+      said_in s (take span.from now ++ drop span.to now),
+      subst (AreOfList s (said_in s (take span.from now ++ drop span.to now))) (sym is) (rw e at borrowed),
+      for_second s now span.from middle span.to (omega (arith, half.0)) (omega (arith, half.1)) c.requires.span.1,
     )) c.in_ok-same.ensures in (
       omega (arith, c.decreases, half.0, half.1),
       (
         sub,
         (
           c.requires.setting,
-          (rules, (c.requires.left, ((half.1, within), (omega (arith, half.0), omega (arith, half.1, within))))),
+          (rules, (c.requires.left, ((half.1, c.requires.span.1), (omega (arith, half.0), omega (arith, half.1, c.requires.span.1))))),
         ),
       ),
     )
@@ -190,26 +188,25 @@ pub drop_halves-drop_half-requires-2 : goal.drop_halves-drop_half-requires-2
 drop_halves-drop_half-requires-2 g t c κs sub =
     let s = c.args.setting.now in
     let now = c.args.left.now.items in
-    let from = c.args.span.from in
-    let to = c.args.span.to in
-    let half = halves from to c.requires.span.0 c.if-middle-span.false in
-    let within = c.requires.span.1 in
-    let middle = from + (to - from) / 2 in
+    let span = c.args.span in
+    let half = halves span.from span.to c.requires.span.0 c.if-middle-span.false in
+    let middle = span.from + (span.to - span.from) / 2 in
     let new = c.drop_half.new.left.items in
     let (kept, is) = c.in_ok-drop_half.ensures.stays in
-    let long = new_length now from middle to (omega (arith, half.0)) (omega (arith, half.1)) within new kept is in
-    let end : length new - (length now - to) ≡ c.len-2.result - (c.len.result - to) = omega (arith, c.len-2.ensures, c.len.ensures) in
+    let long = new_length now span.from middle span.to (omega (arith, half.0)) (omega (arith, half.1)) c.requires.span.1 new kept is in
+    let end : length new - (length now - span.to) ≡ c.len-2.result - (c.len.result - span.to) =
+    omega (arith, c.len-2.ensures, c.len.ensures) in
     let first_half : Half = record {
-      span = record { from = from; to = middle };
-      other = record { from = middle; to = c.len-2.result - (c.len.result - to) };
+      span = record { from = span.from; to = middle };
+      other = record { from = middle; to = c.len-2.result - (c.len.result - span.to) };
     } in
     let rules = if_some_weaker _ (AreOutsideBoth s new first_half) c.args.rules (λ rules are. (
-      said_in s (take from now ++ drop to now),
+      said_in s (take span.from now ++ drop span.to now),
       are,
       subst (λ n. (q : TermRequirement)
-          → Contains (said_in s (take from now ++ drop to now) ++ said_in s (take (n - middle) (drop middle new))) q
-          ↔ Contains (said_in s (take from new ++ drop middle new)) q) end
-          (for_first s now from middle to (omega (arith, half.0)) (omega (arith, half.1)) within new kept is),
+          → Contains (said_in s (take span.from now ++ drop span.to now) ++ said_in s (take (n - middle) (drop middle new))) q
+          ↔ Contains (said_in s (take span.from new ++ drop middle new)) q) end
+          (for_first s now span.from middle span.to (omega (arith, half.0)) (omega (arith, half.1)) c.requires.span.1 new kept is),
     )) c.requires.rules in (
       omega (arith, c.decreases, half.0, half.1),
       (

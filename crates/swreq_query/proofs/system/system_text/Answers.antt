@@ -6,20 +6,20 @@ use Rattle.swreq_world.specs.Worlds.{signature_at}
 use Rattle.swreq_query.proofs.Lines.{system_read}
 use Rattle.swreq_query.proofs.system.system_text.Goals as goal
 
-pub returns-in-Ok-clause-ok : goal.returns-in-Ok-clause-ok
-returns-in-Ok-clause-ok c =
+pub returns-clause-ok : goal.returns-clause-ok
+returns-clause-ok c =
     let w = world_by c.args.table.now c.args.world.now in
     on_ok_weaker c.put_system.result
     (system_read (λ (text : List ℕ). c.put_system.new.out.items ≡ c.args.out.now.items ++ text)
-    w (signature_at w c.args.f) c.args.machine.now c.rules.result.now c.in-Ok.rules.items c.deref.result.now
-    c.requires.machine c.requires.params c.rules.ensures c.in-Ok.ensures.reduced c.deref.ensures.value)
+    w (signature_at w c.args.f) c.args.machine.now c.rules.result.now c.in_ok-rules.rules.items c.deref.result.now
+    c.requires.machine c.requires.params c.rules.ensures c.in_ok-rules.ensures.reduced c.deref.ensures.value)
     c.put_system.ensures.ok
 
-pub returns-in-Ok-clause-err : goal.returns-in-Ok-clause-err
-returns-in-Ok-clause-err c =
+pub returns-clause-err : goal.returns-clause-err
+returns-clause-err c =
     let w = world_by c.args.table.now c.args.world.now in
     on_err_weaker c.put_system.result
     (λ part. inr (system_read (λ (text : List ℕ). GrewByPart c.args.out.now.items text c.put_system.new.out.items)
-    w (signature_at w c.args.f) c.args.machine.now c.rules.result.now c.in-Ok.rules.items c.deref.result.now
-    c.requires.machine c.requires.params c.rules.ensures c.in-Ok.ensures.reduced c.deref.ensures.value part))
+    w (signature_at w c.args.f) c.args.machine.now c.rules.result.now c.in_ok-rules.rules.items c.deref.result.now
+    c.requires.machine c.requires.params c.rules.ensures c.in_ok-rules.ensures.reduced c.deref.ensures.value part))
     c.put_system.ensures.err

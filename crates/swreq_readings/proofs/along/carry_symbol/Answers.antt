@@ -11,7 +11,7 @@ returns-in_ok-carry_conf-in-Proto-clause-equal c =
     equal_as c.carry_conf.new.derivation _ _ (term_at s.table c.args.from) (term_at s.table c.args.to)
     (c.requires.first.1 ∙ ap (read_symbol g (term_at s.table c.args.from)) c.in-Proto.is)
     (c.requires.second.1 ∙ ap (read_symbol g (term_at s.table c.args.to)) c.in-Proto.is)
-    (equal_still g s c.carry_conf.new.derivation c.in_ok-carry_conf-in-Proto.ensures.grows _ _ c.requires.equal.2)
+    (equal_still g s c.carry_conf.new.derivation c.in_ok-carry_conf-in-Proto.ensures.continues.grows _ _ c.requires.equal.2)
 
 pub returns-in_ok-carry_layout-in-Layout-clause-equal : goal.returns-in_ok-carry_layout-in-Layout-clause-equal
 returns-in_ok-carry_layout-in-Layout-clause-equal c =
@@ -20,4 +20,4 @@ returns-in_ok-carry_layout-in-Layout-clause-equal c =
     equal_as c.carry_layout.new.derivation _ _ (term_at s.table c.args.from) (term_at s.table c.args.to)
     (c.requires.first.1 ∙ ap (read_symbol g (term_at s.table c.args.from)) c.in-Layout.is)
     (c.requires.second.1 ∙ ap (read_symbol g (term_at s.table c.args.to)) c.in-Layout.is)
-    (equal_still g s c.carry_layout.new.derivation c.in_ok-carry_layout-in-Layout.ensures.grows _ _ c.requires.equal.2)
+    (equal_still g s c.carry_layout.new.derivation c.in_ok-carry_layout-in-Layout.ensures.continues.grows _ _ c.requires.equal.2)

@@ -2,24 +2,21 @@ use Rattle.std.proofs.Common.{◌≡◌, ◌+◌, ◌<◌, ◌≤◌, sym, ap, s
 use Rattle.swreq_derive.specs.Derivation.TermRequirement.{Conforms}
 use Rattle.swreq_derive.specs.Derivation.TermStatement.{Requires}
 use Rattle.swreq_derivation.specs.UnderWay.{States}
-use Rattle.swreq_derivation.proofs.DerivationLemmas.{grows_then}
 use Rattle.swreq_readings.proofs.ReadingLemmas.{is_still, term_still}
+use Rattle.swreq_derivation.proofs.DerivationLemmas.{continues_then}
 use Rattle.swreq_readings.proofs.inheriting.inherit.Goals as goal
 
 pub returns-then-declares-clause-name : goal.returns-then-declares-clause-name
 returns-then-declares-clause-name c = (c.loop-k.at, c.declares.ensures.0 c.if-declares.true, c.loop-k.invariant.conforms)
 
-pub step_up-requires-clause-derivation : goal.step_up-requires-clause-derivation
-step_up-requires-clause-derivation c = c.loop-k.invariant.grows.derivation
-
 pub step_up-requires-clause-subject : goal.step_up-requires-clause-subject
-step_up-requires-clause-subject c = is_still c.args.derivation.now c.loop-k.derivation c.loop-k.invariant.grows c.args.subject
+step_up-requires-clause-subject c = is_still c.args.derivation.now c.loop-k.derivation c.loop-k.invariant.continues.grows c.args.subject
     c.requires.subject
 
 pub step_up-requires-clause-conforms : goal.step_up-requires-clause-conforms
 step_up-requires-clause-conforms c =
     subst (λ z. States c.loop-k.derivation (Requires (Conforms z c.loop-k.at)))
-    (sym (term_still c.args.derivation.now c.loop-k.derivation c.loop-k.invariant.grows c.args.subject c.requires.subject))
+    (sym (term_still c.args.derivation.now c.loop-k.derivation c.loop-k.invariant.continues.grows c.args.subject c.requires.subject))
     c.loop-k.invariant.conforms
 
 pub loop-k-preserved : goal.loop-k-preserved
@@ -29,14 +26,13 @@ loop-k-preserved c =
     let n = c.step_up.new.derivation in
     let e = c.in_ok-parent.parent in record {
       conforms = subst (λ z. States n (Requires (Conforms z e.proto)))
-          (term_still s c.loop-k.derivation i.grows c.args.subject c.requires.subject) c.in_ok-parent.ensures.conforms;
+          (term_still s c.loop-k.derivation i.continues.grows c.args.subject c.requires.subject) c.in_ok-parent.ensures.conforms;
       member = c.in_ok-parent.ensures.member;
       left = λ h. (let down : h.depth e.proto < h.depth e.heir = h.goes_down e c.in_ok-parent.ensures.parent in
           let same : h.depth e.heir ≡ h.depth c.loop-k.at = ap h.depth c.in_ok-parent.ensures.heir in
           let left : h.depth c.loop-k.at + c.loop-k.k ≤ c.args.alphabet.now.protocols = i.left h in
           omega (arith, down, same, left));
-      grows = grows_then s c.loop-k.derivation n i.grows c.in_ok-parent.ensures.grows;
-      derives = λ b f d. c.in_ok-parent.ensures.derives b f (i.derives b f d);
+      continues = continues_then i.continues c.in_ok-parent.ensures.continues;
     }
 
 pub returns-clause-name : goal.returns-clause-name
@@ -51,11 +47,8 @@ returns-clause-name c =
           omega (arith, down, same, left, end))
     ]
 
-pub returns-clause-grows : goal.returns-clause-grows
-returns-clause-grows c = c.loop-k.invariant.grows
+pub returns-clause-continues : goal.returns-clause-continues
+returns-clause-continues c = c.loop-k.invariant.continues
 
-pub returns-clause-derives : goal.returns-clause-derives
-returns-clause-derives c = c.loop-k.invariant.derives
-
-pub returns-in_err-parent-clause-grows : goal.returns-in_err-parent-clause-grows
-returns-in_err-parent-clause-grows c = grows_then _ _ _ c.loop-k.invariant.grows c.in_err-parent.ensures.grows
+pub returns-in_err-parent-clause-continues : goal.returns-in_err-parent-clause-continues
+returns-in_err-parent-clause-continues c = continues_then c.loop-k.invariant.continues c.in_err-parent.ensures.continues

@@ -2,7 +2,7 @@ use Rattle.std.proofs.Common.{◌+◌, ◌≤◌}
 use Rattle.swreq_param.specs.Tables.{term_at}
 use Rattle.swreq_derive.specs.Derivation.TermRequirement.{Conforms}
 use Rattle.swreq_derive.specs.Derivation.TermStatement.{Requires}
-use Rattle.swreq_derivation.specs.UnderWay.{AddsLines, Assumptions, States, StaysDerived}
+use Rattle.swreq_derivation.specs.UnderWay.{ContinuesFrom, States}
 use Rattle.swreq_readings.specs.Alphabets.{FitsAssumptions, IsInherited, IsMember}
 use Rattle.swreq_readings.proofs.inheriting.inherit.Given as goal
 
@@ -11,6 +11,5 @@ invariant-loop-k l = record {
   conforms : States l.derivation (Requires (Conforms (term_at l.fn.derivation.table l.subject) l.at));
   member : IsMember l.alphabet l.at l.name;
   left : (h : IsInherited l.alphabet) → h.depth l.at + l.k ≤ l.alphabet.protocols;
-  grows : AddsLines l.fn.derivation l.derivation;
-  derives : (b : Assumptions) → FitsAssumptions l.alphabet b → StaysDerived b l.fn.derivation l.derivation;
+  continues : ContinuesFrom (FitsAssumptions l.alphabet) l.fn.derivation l.derivation;
 }

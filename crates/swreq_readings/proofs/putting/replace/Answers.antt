@@ -1,8 +1,8 @@
 use Rattle.std.proofs.Common.{◌++◌, sym, subst}
 use Rattle.swreq_param.specs.Tables.{term_at}
 use Rattle.swreq_readings.specs.Readable.{AreReadEqual, read_word}
-use Rattle.swreq_derivation.proofs.DerivationLemmas.{grows_then}
 use Rattle.swreq_readings.proofs.ReadingLemmas.{both_behind, both_still, word_at, word_left, word_right, word_still}
+use Rattle.swreq_derivation.proofs.DerivationLemmas.{continues_anyway, continues_then, grows_then}
 use Rattle.swreq_readings.proofs.putting.replace.Goals as goal
 
 pub put_side-requires-clause-both : goal.put_side-requires-clause-both
@@ -11,7 +11,7 @@ put_side-requires-clause-both c =
     let s = c.args.derivation.now in
     let s1 = c.read_word.new.derivation in
     subst (λ z. AreReadEqual g s1 z c.args.sides.from.now c.args.sides.to.now) (sym c.in_ok-v.ensures.stands)
-    (both_still g s s1 c.in_ok-v.ensures.grows _ _ _ c.requires.both)
+    (both_still g s s1 c.in_ok-v.ensures.continues.grows _ _ _ c.requires.both)
 
 pub put_side-requires-clause-word : goal.put_side-requires-clause-word
 put_side-requires-clause-word c =
@@ -20,7 +20,7 @@ put_side-requires-clause-word c =
     let s1 = c.read_word.new.derivation in
     let t = term_at s.table c.args.subject in
     word_at g s1 (read_word g t c.args.before.now) _ _ c.in_ok-v.ensures.stands
-    (word_right g s1 t c.args.before.now _ (word_still g s s1 c.in_ok-v.ensures.grows t _ c.requires.word))
+    (word_right g s1 t c.args.before.now _ (word_still g s s1 c.in_ok-v.ensures.continues.grows t _ c.requires.word))
 
 pub returns-clause-both : goal.returns-clause-both
 returns-clause-both c =
@@ -29,17 +29,15 @@ returns-clause-both c =
     let s1 = c.read_word.new.derivation in
     let n = c.put_side.new.derivation in
     let t = term_at s.table c.args.subject in
-    let gr = grows_then s s1 n c.in_ok-v.ensures.grows c.in_ok-put_side.ensures.grows in
+    let gr = grows_then c.in_ok-v.ensures.continues.grows c.in_ok-put_side.ensures.continues.grows in
     both_behind g n t c.args.before.now (c.args.sides.from.now ++ c.args.after.now) (c.args.sides.to.now ++ c.args.after.now)
     (word_left g n t c.args.before.now _ (word_still g s n gr t _ c.requires.word))
     (subst (λ z. AreReadEqual g n z (c.args.sides.from.now ++ c.args.after.now)
     (c.args.sides.to.now ++ c.args.after.now)) c.in_ok-v.ensures.stands c.in_ok-put_side.ensures.both)
 
-pub returns-clause-grows : goal.returns-clause-grows
-returns-clause-grows c = grows_then _ _ _ c.in_ok-v.ensures.grows c.in_ok-put_side.ensures.grows
+pub returns-clause-continues : goal.returns-clause-continues
+returns-clause-continues c = continues_then (continues_anyway c.in_ok-v.ensures.continues) c.in_ok-put_side.ensures.continues
 
-pub returns-clause-derives : goal.returns-clause-derives
-returns-clause-derives c b f d = c.in_ok-put_side.ensures.derives b f (c.in_ok-v.ensures.derives b d)
-
-pub returns-in_err-put_side-clause-grows : goal.returns-in_err-put_side-clause-grows
-returns-in_err-put_side-clause-grows c = grows_then _ _ _ c.in_ok-v.ensures.grows c.in_err-put_side.ensures.grows
+pub returns-in_err-put_side-clause-continues : goal.returns-in_err-put_side-clause-continues
+returns-in_err-put_side-clause-continues c =
+    continues_then (continues_anyway c.in_ok-v.ensures.continues) c.in_err-put_side.ensures.continues

@@ -1,6 +1,6 @@
 use Rattle.std.proofs.Common.{◌≡◌, take}
 use Rattle.swreq_param.specs.Tables.{IsOf, term_at}
-use Rattle.swreq_derivation.specs.UnderWay.{AddsLines, Assumptions, StaysDerived}
+use Rattle.swreq_derivation.specs.UnderWay.{Continues}
 use Rattle.swreq_readings.specs.Readable.{AllowsWord, read_word}
 use Rattle.swreq_readings.proofs.telling.read_if_allowed.Given as goal
 
@@ -9,6 +9,5 @@ invariant-loop-k l = record {
   is_of : IsOf l.derivation.table l.at;
   word : AllowsWord l.alphabet l.derivation (term_at l.fn.derivation.table l.fn.subject) (take l.k l.word);
   stands : term_at l.derivation.table l.at ≡ read_word l.alphabet (term_at l.fn.derivation.table l.fn.subject) (take l.k l.word);
-  grows : AddsLines l.fn.derivation l.derivation;
-  derives : (b : Assumptions) → StaysDerived b l.fn.derivation l.derivation;
+  continues : Continues l.fn.derivation l.derivation;
 }

@@ -2,7 +2,7 @@ use Rattle.std.proofs.Common.{◌∙◌, ◌++◌, List, ap, append_assoc, codes
 use Rattle.std.proofs.lemmas.Result.{on_ok_weaker}
 use Rattle.swreq_query.specs.Signatures.{full_name}
 use Rattle.swreq_world.specs.Worlds.{signature_at}
-use Rattle.swreq_check.specs.Made.{text_at}
+use Rattle.swreq_check.specs.Made.{line_at}
 use Rattle.swreq_reply.specs.Pieces.{world_of}
 use Rattle.swreq_reply.proofs.Printed.{list_at}
 use Rattle.swreq_reply.proofs.printing.put_named.Goals as goal
@@ -11,12 +11,12 @@ pub returns : goal.returns
 returns c =
     let m = c.args.m.now in
     let name = full_name (world_of m) (signature_at (world_of m) c.args.f) in
-    let list = text_at m.lists.now c.args.f.place in
+    let list = line_at m.lists.now c.args.f.place in
     on_ok_weaker c.append_bytes-2.result
     (λ e. (
       name ++ (codes ": " ++ list),
       (list, list_at m c.requires.whole c.requires.signatures c.args.f c.requires.f, refl),
-      e ∙ ap (λ (t : List ℕ). c.append_bytes.new.out.items ++ t) c.text_at.ensures
+      e ∙ ap (λ (t : List ℕ). c.append_bytes.new.out.items ++ t) c.line_at.ensures
           ∙ ap (λ (t : List ℕ). t ++ list)
           (c.in_ok-append_bytes.ensures.ok ∙ ap (λ (t : List ℕ). t ++ codes ": ") c.in_ok-full_name.ensures.ok)
           ∙ append_assoc (c.args.out.now.items ++ name) (codes ": ") list ∙ append_assoc c.args.out.now.items name (codes ": " ++ list),

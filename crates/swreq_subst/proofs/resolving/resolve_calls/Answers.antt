@@ -24,10 +24,11 @@ returns-in-Some-clause-refuses c e (r, first, is) =
     let same = one_first rs c.in-Some.r r (least_is_first rs c.in-Some.r (sym c.in-Some.ensures)) first in
     inl (ap (λ (x : NameErr). Err x) (c.error_of.ensures ∙ ap error_of same ∙ sym is))
 
-pub returns-in-Ok-clause-ok : goal.returns-in-Ok-clause-ok
-returns-in-Ok-clause-ok c = λ _. none_refused (refusals c.args.world.now c.args.text.now c.args.calls.now) (sym c.in-None.ensures)
+pub returns-in_ok-calls_of-in-None-clause-ok : goal.returns-in_ok-calls_of-in-None-clause-ok
+returns-in_ok-calls_of-in-None-clause-ok c = λ _.
+    none_refused (refusals c.args.world.now c.args.text.now c.args.calls.now) (sym c.in-None.ensures)
 
-pub returns-in-Ok-clause-refuses : goal.returns-in-Ok-clause-refuses
-returns-in-Ok-clause-refuses c e (r, first, is) =
+pub returns-in_ok-calls_of-in-None-clause-refuses : goal.returns-in_ok-calls_of-in-None-clause-refuses
+returns-in_ok-calls_of-in-None-clause-refuses c e (r, first, is) =
     no_member r (subst (λ (qs : List Refusal). Contains qs r)
     (none_refused (refusals c.args.world.now c.args.text.now c.args.calls.now) (sym c.in-None.ensures)) first.is)

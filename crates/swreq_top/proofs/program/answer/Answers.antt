@@ -8,14 +8,15 @@ returns-in-Nothing-clause-answer g c =
     answers_text c.args.line.now left left (g.W.Watch.told c.args.watch.now) (g.W.Watch.told c.replied.new.watch) [] (λ none. refl)
     (λ some. absurd (some (sym c.input.ensures ∙ c.in-Nothing.is))) c.replied.result c.replied.ensures
 
-pub returns-in-Ok-clause-answer : goal.returns-in-Ok-clause-answer
-returns-in-Ok-clause-answer g c =
+pub returns-in_ok-text-in_default-clause-answer : goal.returns-in_ok-text-in_default-clause-answer
+returns-in_ok-text-in_default-clause-answer g c =
     let line = c.args.line.now in
     let left = g.S.Source.left c.args.src.now in
     let rest = g.S.Source.left c.read_all.new.src in
     let old = g.W.Watch.told c.args.watch.now in
-    let new = g.W.Watch.told c.replied-in-Ok.new.watch in
-    let had = read_whole left rest c.in-Ok.text.items c.in-Ok.ensures.all c.in-Ok.ensures.end c.in-Ok.ensures.within in
-    answers_text line left rest old new c.in-Ok.text.items
+    let new = g.W.Watch.told c.replied-in_default.new.watch in
+    let read = c.in_ok-text-in_default in
+    let had = read_whole left rest read.text.items read.ensures.all read.ensures.end read.ensures.within in
+    answers_text line left rest old new read.text.items
     (λ none. absurd (c.in_default.not-Nothing (c.input.ensures ∙ none))) (λ known. had)
-    c.replied-in-Ok.result (rw c.deref.ensures.value at c.replied-in-Ok.ensures)
+    c.replied-in_default.result (rw c.deref.ensures.value at c.replied-in_default.ensures)

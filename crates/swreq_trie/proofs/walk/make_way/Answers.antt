@@ -1,8 +1,8 @@
-use Rattle.std.proofs.Common.{◌≡◌, length}
-use Rattle.swreq_trie.specs.Index.{IsOnWay, begin_of}
+use Rattle.std.proofs.Common.{length}
+use Rattle.swreq_trie.specs.Index.{begin_of}
 use Rattle.swreq_trie.proofs.Paths.{leads_kept}
-use Rattle.swreq_trie.proofs.Marks.{keeps_itself, only_like}
-use Rattle.swreq_trie.proofs.Index.{passing_kept, way_kept}
+use Rattle.swreq_trie.proofs.Marks.{keeps_itself}
+use Rattle.swreq_trie.proofs.Index.{only_on_way, passing_kept}
 use Rattle.swreq_trie.proofs.walk.make_way.Goals as goal
 
 pub returns-clause-leads : goal.returns-clause-leads
@@ -17,18 +17,14 @@ returns-clause-listed c =
 
 pub returns-clause-passes : goal.returns-clause-passes
 returns-clause-passes c =
-    let begin = begin_of c.args.side.now.index (record { left = c.args.side.now.left.now; number = c.args.side.now.number }) in
-    only_like (λ n s. (s ≡ begin) × IsOnWay c.make_path.new.edges c.args.side.now.left.now n)
-    (λ n s. (s ≡ begin) × IsOnWay c.add_inside.new.edges c.args.side.now.left.now n)
-    c.args.passing.now.items c.make_path.new.passing.items
-    (λ n s h. (h.0, way_kept c.make_path.new.edges c.add_inside.new.edges c.add_inside.ensures.grown c.args.side.now.left.now n h.1))
-    c.make_path.ensures.only
+    let side = c.args.side.now in
+    only_on_way c.make_path.new.edges c.add_inside.new.edges c.add_inside.ensures.grown
+    (begin_of side.index (record { left = side.left.now; number = side.number })) side.left.now
+    c.args.passing.now.items c.make_path.new.passing.items c.make_path.ensures.only
 
 pub returns-in_err-add_inside-clause-passes : goal.returns-in_err-add_inside-clause-passes
 returns-in_err-add_inside-clause-passes c =
-    let begin = begin_of c.args.side.now.index (record { left = c.args.side.now.left.now; number = c.args.side.now.number }) in
-    only_like (λ n s. (s ≡ begin) × IsOnWay c.make_path.new.edges c.args.side.now.left.now n)
-    (λ n s. (s ≡ begin) × IsOnWay c.add_inside.new.edges c.args.side.now.left.now n)
-    c.args.passing.now.items c.make_path.new.passing.items
-    (λ n s h. (h.0, way_kept c.make_path.new.edges c.add_inside.new.edges c.add_inside.ensures.grown c.args.side.now.left.now n h.1))
-    c.make_path.ensures.only
+    let side = c.args.side.now in
+    only_on_way c.make_path.new.edges c.add_inside.new.edges c.add_inside.ensures.grown
+    (begin_of side.index (record { left = side.left.now; number = side.number })) side.left.now
+    c.args.passing.now.items c.make_path.new.passing.items c.make_path.ensures.only

@@ -1,8 +1,5 @@
-use Rattle.std.proofs.Common.{◌≤◌, take}
-use Rattle.swreq_complete.specs.Events.{events}
-use Rattle.swreq_watch.specs.Told.{GrewBy}
+use Rattle.swreq_valid.proofs.Retold.{TellsBefore}
 use Rattle.swreq_valid.proofs.again.tell_round.Given as goal
 
 abbrev pub invariant-loop-k : goal.invariant-loop-k
-invariant-loop-k g l =
-    GrewBy (g.W.Watch.told l.fn.watch) (g.W.Watch.told l.watch) (events l.base (take l.k l.rules)) × (l.base ≤ l.k)
+invariant-loop-k g l = TellsBefore l.base l.rules (g.W.Watch.told l.fn.watch) l.k (g.W.Watch.told l.watch)

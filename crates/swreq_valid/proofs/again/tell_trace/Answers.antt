@@ -1,55 +1,33 @@
-use Rattle.std.proofs.Common.{inl, inr, refl, sym, subst, arith, [], length, List, take}
-use Rattle.std.proofs.lemmas.List.{take_all}
+use Rattle.std.proofs.Common.{refl, arith, length}
 use Rattle.std.proofs.lemmas.Option.{slice_get_read}
 use Rattle.std.proofs.lemmas.Result.{err_from_is_err_and}
-use Rattle.swreq_rule.specs.declared.rules.Rule.{Rule}
-use Rattle.swreq_watch.specs.Told.{GrewBy}
-use Rattle.swreq_watch.proofs.Told.{grew_none, grew_on}
-use Rattle.swreq_complete.specs.Events.{events}
-use Rattle.swreq_valid.proofs.Retold.{one_birth, start_alone}
+use Rattle.swreq_valid.proofs.Retold.{birth_told, births_told, front_told, none_told, start_told}
 use Rattle.swreq_valid.proofs.again.tell_trace.Goals as goal
 
 pub returns-in_err-tell-clause-err : goal.returns-in_err-tell-clause-err
 returns-in_err-tell-clause-err g c =
-    let told = g.W.Watch.told in
     let p = err_from_is_err_and c.from_residual.result c.from_residual.ensures.1 in
-    rw p.1
-    ([], inl refl, subst (λ t. GrewBy (told c.args.watch.now) t []) (sym c.in_err-tell.ensures.err) (grew_none (told c.args.watch.now)))
+    rw p.1 (none_told c.args.base c.args.trace.now (g.W.Watch.told c.args.watch.now) _ c.in_err-tell.ensures.err)
 
 pub loop-k-init : goal.loop-k-init
 loop-k-init g c =
-    let told = g.W.Watch.told in (
-      subst (GrewBy (told c.args.watch.now) (told c.tell.new.self))
-          (sym (start_alone c.args.base c.args.trace.now)) c.in_ok-tell.ensures.ok,
-      omega arith,
-    )
+    start_told c.args.base c.args.trace.now (g.W.Watch.told c.args.watch.now) (g.W.Watch.told c.tell.new.self) c.in_ok-tell.ensures.ok
 
 pub returns-in_err-tell_birth-clause-err : goal.returns-in_err-tell_birth-clause-err
 returns-in_err-tell_birth-clause-err g c =
-    let told = g.W.Watch.told in
     let p = err_from_is_err_and c.from_residual-in_err-tell_birth.result c.from_residual-in_err-tell_birth.ensures.1 in
-    rw p.1 (
-      events c.args.base (take c.loop-k.k c.args.trace.now),
-      inr (c.loop-k.k, c.loop-k.invariant.1, refl),
-      subst (λ t. GrewBy (told c.args.watch.now) t (events c.args.base (take c.loop-k.k c.args.trace.now)))
-          (sym c.in_err-tell_birth.ensures.err) c.loop-k.invariant.0,
-    )
+    rw p.1
+    (front_told c.args.base c.args.trace.now (g.W.Watch.told c.args.watch.now) c.loop-k.k (g.W.Watch.told c.loop-k.watch) _
+    c.loop-k.invariant c.in_err-tell_birth.ensures.err)
 
 pub loop-k-preserved : goal.loop-k-preserved
 loop-k-preserved g c =
-    let told = g.W.Watch.told in
-    let from = c.loop-k.invariant.1 in (
-      subst (GrewBy (told c.args.watch.now) (told c.tell_birth.new.watch))
-          (sym (one_birth c.args.base c.loop-k.k c.args.trace.now c.index-trace-k.result from
-          (slice_get_read c.args.trace.now
-          (length c.args.trace.now) c.loop-k.k c.index-trace-k.result refl c.loop-k-test.true c.index-trace-k.is)))
-          (grew_on (told c.args.watch.now) (told c.loop-k.watch) (told c.tell_birth.new.watch)
-          (events c.args.base (take c.loop-k.k c.args.trace.now)) _
-          c.loop-k.invariant.0 c.in_ok-tell_birth.ensures.ok),
-      omega (arith, from),
-    )
+    birth_told c.args.base c.args.trace.now (g.W.Watch.told c.args.watch.now) c.loop-k.k c.index-trace-k.result
+    (g.W.Watch.told c.loop-k.watch) (g.W.Watch.told c.tell_birth.new.watch)
+    (slice_get_read c.args.trace.now (length c.args.trace.now) c.loop-k.k c.index-trace-k.result refl c.loop-k-test.true c.index-trace-k.is)
+    c.loop-k.invariant c.in_ok-tell_birth.ensures.ok
 
 pub returns-clause-ok : goal.returns-clause-ok
 returns-clause-ok g c =
-    subst (λ (rs : List Rule). GrewBy (g.W.Watch.told c.args.watch.now) (g.W.Watch.told c.loop-k.watch) (events c.args.base rs))
-    (take_all c.loop-k.k c.args.trace.now (omega (arith, c.loop-k-test.false, c.loop-k.auto.k-end))) c.loop-k.invariant.0
+    births_told c.args.base c.args.trace.now (g.W.Watch.told c.args.watch.now) c.loop-k.k (g.W.Watch.told c.loop-k.watch)
+    (omega (arith, c.loop-k-test.false, c.loop-k.auto.k-end)) c.loop-k.invariant

@@ -7,8 +7,7 @@ use Rattle.swreq_valid.proofs.basic.basic.Goals as goal
 
 pub loop-k-preserved : goal.loop-k-preserved
 loop-k-preserved c =
-    basic_at c.args.world.now.lexicon c.loop-k.k c.proto_at-p.result _ _ c.proto_at-p.ensures
-    c.in_ok-add_protocol.ensures c.loop-k.invariant
+    basic_at c.args.world.now.lexicon _ c.proto_at-p.result _ _ c.proto_at-p.ensures c.in_ok-add_protocol.ensures c.loop-k.invariant
 
 pub returns : goal.returns
 returns c =

@@ -1,5 +1,7 @@
 use Rattle.swreq_param.specs.Tables.{term_at}
-use Rattle.swreq_valid.proofs.ByReduction.{given_result, in_text, not_given}
+use Rattle.swreq_symbols.proofs.Giving.{not_given}
+use Rattle.swreq_valid.specs.ByReduction.{ReducesConformance}
+use Rattle.swreq_valid.proofs.ByReduction.{given_result, in_text}
 use Rattle.swreq_valid.proofs.by_reduction.is_given.Goals as goal
 
 pub conforms-requires-clause-proto : goal.conforms-requires-clause-proto
@@ -15,7 +17,7 @@ returns-then-declared-name c =
 pub returns-else-declared-name : goal.returns-else-declared-name
 returns-else-declared-name c = (
   (λ h. cc),
-  λ g. absurd (not_given c.args.by.now.world.now.lexicon c.args.by.now.rules.now c.args.by.now.over
-      (term_at c.args.by.now.table.now c.args.subject) c.args.name
-      c.args.assoc c.assoc-declared.result c.assoc-declared.ensures c.if-declared-name.false g),
+  λ g. absurd (not_given c.args.by.now.world.now.lexicon (ReducesConformance c.args.by.now.world.now.lexicon
+      c.args.by.now.rules.now c.args.by.now.over (term_at c.args.by.now.table.now c.args.subject)) c.args.name c.args.assoc
+      c.assoc-declared.result c.assoc-declared.ensures c.if-declared-name.false g),
 )

@@ -1,13 +1,9 @@
-use Rattle.std.proofs.Common.{[], refl, subst, IfOk}
 use Rattle.std.proofs.lemmas.Result.{err_from_is_err_and}
 use Rattle.swreq_world.specs.ByTable.{world_by}
-use Rattle.swreq_valid.specs.Answers.{Answers, IsOnlyOutcome}
-use Rattle.swreq_valid.specs.Keeping.{kept_facts, kept_plan}
-use Rattle.swreq_valid.specs.Plans.{plan_of}
-use Rattle.swreq_valid.specs.Rounds.{AreRounds, rules_of}
-use Rattle.swreq_valid.proofs.OfKept.{kept_all_wanted, kept_plan_is, kept_rules}
+use Rattle.swreq_valid.specs.Keeping.{kept_plan}
+use Rattle.swreq_valid.specs.Rounds.{rules_of}
+use Rattle.swreq_valid.proofs.OfKept.{kept_all_wanted, kept_answers, kept_only, kept_rounds, kept_rules}
 use Rattle.swreq_valid.proofs.Running.{nothing_told}
-use Rattle.swreq_valid.proofs.Transfer.{answers_over, ok_rounds_over, only_over}
 use Rattle.swreq_valid.proofs.kept.run_kept.Goals as goal
 
 pub run_rounds-requires-clause-wanted : goal.run_rounds-requires-clause-wanted
@@ -17,46 +13,29 @@ run_rounds-requires-clause-wanted g c =
 
 pub returns-clause-answer : goal.returns-clause-answer
 returns-clause-answer g c =
-    subst (λ p. Answers c.args.limits p (g.W.Watch.told c.args.watch.now) (g.W.Watch.told c.run_rounds.new.watch)
-    (rules_of c.run_rounds.result))
-    (kept_plan_is c.args.world.now c.args.table.now c.args.keep.now.lists c.requires.text c.requires.keep []
-    (record { basic = c.in_ok-basic.basic; all = c.in_ok-all.all; limits = c.args.limits }) refl c.in_ok-basic.ensures c.in_ok-all.ensures)
-    (answers_over c.args.limits
-    (plan_of c.args.world.now c.args.table.now [] (record { basic = c.in_ok-basic.basic; all = c.in_ok-all.all; limits = c.args.limits }))
-    (kept_facts (world_by c.args.table.now c.args.world.now) c.args.keep.now.lists) refl (g.W.Watch.told c.args.watch.now)
-    (g.W.Watch.told c.run_rounds.new.watch) (rules_of c.run_rounds.result) c.run_rounds.ensures.answer)
+    kept_answers c.args.world.now c.args.table.now c.args.keep.now.lists c.requires.text c.requires.keep
+    (record { basic = c.in_ok-basic.basic; all = c.in_ok-all.all; limits = c.args.limits }) c.in_ok-basic.ensures c.in_ok-all.ensures
+    (g.W.Watch.told c.args.watch.now) (g.W.Watch.told c.run_rounds.new.watch) (rules_of c.run_rounds.result) c.run_rounds.ensures.answer
 
 pub returns-clause-only : goal.returns-clause-only
 returns-clause-only g c =
-    subst (λ p. IsOnlyOutcome c.args.limits p (rules_of c.run_rounds.result))
-    (kept_plan_is c.args.world.now c.args.table.now c.args.keep.now.lists c.requires.text c.requires.keep []
-    (record { basic = c.in_ok-basic.basic; all = c.in_ok-all.all; limits = c.args.limits }) refl c.in_ok-basic.ensures c.in_ok-all.ensures)
-    (only_over c.args.limits
-    (plan_of c.args.world.now c.args.table.now [] (record { basic = c.in_ok-basic.basic; all = c.in_ok-all.all; limits = c.args.limits }))
-    (kept_facts (world_by c.args.table.now c.args.world.now) c.args.keep.now.lists) refl
-    (rules_of c.run_rounds.result) c.run_rounds.ensures.only)
+    kept_only c.args.world.now c.args.table.now c.args.keep.now.lists c.requires.text c.requires.keep
+    (record { basic = c.in_ok-basic.basic; all = c.in_ok-all.all; limits = c.args.limits }) c.in_ok-basic.ensures c.in_ok-all.ensures
+    (rules_of c.run_rounds.result) c.run_rounds.ensures.only
 
 pub returns-clause-rounds : goal.returns-clause-rounds
 returns-clause-rounds g c =
-    subst (λ p. IfOk c.run_rounds.result (AreRounds c.args.limits p))
-    (kept_plan_is c.args.world.now c.args.table.now c.args.keep.now.lists c.requires.text c.requires.keep []
-    (record { basic = c.in_ok-basic.basic; all = c.in_ok-all.all; limits = c.args.limits }) refl c.in_ok-basic.ensures c.in_ok-all.ensures)
-    (ok_rounds_over c.args.limits
-    (plan_of c.args.world.now c.args.table.now [] (record { basic = c.in_ok-basic.basic; all = c.in_ok-all.all; limits = c.args.limits }))
-    (kept_facts (world_by c.args.table.now c.args.world.now) c.args.keep.now.lists) refl c.run_rounds.result c.run_rounds.ensures.rounds)
+    kept_rounds c.args.world.now c.args.table.now c.args.keep.now.lists c.requires.text c.requires.keep
+    (record { basic = c.in_ok-basic.basic; all = c.in_ok-all.all; limits = c.args.limits }) c.in_ok-basic.ensures c.in_ok-all.ensures
+    c.run_rounds.result c.run_rounds.ensures.rounds
 
 pub returns-clause-rules : goal.returns-clause-rules
 returns-clause-rules g c =
     kept_rules (world_by c.args.table.now c.args.world.now) c.requires.text.closed c.args.keep.now.lists c.args.limits
     (g.W.Watch.told c.args.watch.now) (g.W.Watch.told c.run_rounds.new.watch) c.run_rounds.result
-    (subst (λ p. Answers c.args.limits p (g.W.Watch.told c.args.watch.now) (g.W.Watch.told c.run_rounds.new.watch)
-    (rules_of c.run_rounds.result))
-    (kept_plan_is c.args.world.now c.args.table.now c.args.keep.now.lists c.requires.text c.requires.keep []
-    (record { basic = c.in_ok-basic.basic; all = c.in_ok-all.all; limits = c.args.limits }) refl c.in_ok-basic.ensures c.in_ok-all.ensures)
-    (answers_over c.args.limits
-    (plan_of c.args.world.now c.args.table.now [] (record { basic = c.in_ok-basic.basic; all = c.in_ok-all.all; limits = c.args.limits }))
-    (kept_facts (world_by c.args.table.now c.args.world.now) c.args.keep.now.lists) refl (g.W.Watch.told c.args.watch.now)
-    (g.W.Watch.told c.run_rounds.new.watch) (rules_of c.run_rounds.result) c.run_rounds.ensures.answer))
+    (kept_answers c.args.world.now c.args.table.now c.args.keep.now.lists c.requires.text c.requires.keep
+    (record { basic = c.in_ok-basic.basic; all = c.in_ok-all.all; limits = c.args.limits }) c.in_ok-basic.ensures c.in_ok-all.ensures
+    (g.W.Watch.told c.args.watch.now) (g.W.Watch.told c.run_rounds.new.watch) (rules_of c.run_rounds.result) c.run_rounds.ensures.answer)
 
 pub returns-in_err-basic-clause-answer : goal.returns-in_err-basic-clause-answer
 returns-in_err-basic-clause-answer g c =

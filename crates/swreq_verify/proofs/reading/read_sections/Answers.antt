@@ -69,10 +69,10 @@ loop-alloc-preserved c =
     let next = next_laid (goal.at.loop-alloc-preserved c).After-len-in-loop-alloc in
     let left = c.in_ok-next.next.rest.now in
     let all = subst (λ (ss : List Section). IsLaid c.args.names.now c.args.count c.args.text.now c.next_section.new.table ss
-    (c.loop-alloc.before + (length c.in_ok-next.next.section.derivation.items + 1)) left) (sym c.in_ok-put.ensures.ok) next.1 in (
+    (c.loop-alloc.before + (length c.in_ok-next.next.section.derivation.items + 1)) left) (sym c.in_ok-push.ensures.items) next.1 in (
       onward c.args.table.now c.loop-alloc.table c.next_section.new.table c.loop-alloc.invariant.0 c.in_ok-next.ensures.extends,
       subst (λ (k : ℕ).
-          IsLaid c.args.names.now c.args.count c.args.text.now c.next_section.new.table c.put.new.sections.items
+          IsLaid c.args.names.now c.args.count c.args.text.now c.next_section.new.table c.push.new.self.items
           (c.loop-alloc.before + (k + 1)) left) (sym next.0) all,
     )
 

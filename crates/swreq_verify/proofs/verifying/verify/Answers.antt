@@ -15,13 +15,13 @@ pub append_judgements-requires-clause-text : goal.append_judgements-requires-cla
 append_judgements-requires-clause-text c =
     text_stays c.args.table.now c.read_sections.new.table c.in_ok-sections.ensures.extends c.args.world.now c.requires.text
 
-pub returns-in-Ok-clause-output : goal.returns-in-Ok-clause-output
-returns-in-Ok-clause-output c =
+pub returns-clause-output : goal.returns-clause-output
+returns-clause-output c =
     let old = c.args.table.now in
     let new = c.read_sections.new.table in
     let world = c.args.world.now in
     let items = c.in_ok-sections.sections.items in
-    let said = c.in-Ok.ensures.ok in
+    let said = c.in_ok-append_judgements.ensures.ok in
     let judged =
     subst (λ (ss : List Section). AreJudged (world_by new world) (map (section_of new) ss) said.0) c.deref.ensures.value said.1 in
     let count : length c.queries-count.result.now ≡ length (map (query_by old) world.queries) = ap length c.queries-count.ensures

@@ -4,7 +4,7 @@ use Rattle.swreq_param.specs.Tables.{term_at}
 use Rattle.swreq_rule.specs.Steps.{RuleAt}
 use Rattle.swreq_rule.proofs.Numbers.{number_some, number_within}
 use Rattle.swreq_path.specs.Paths.{put_side, replaced_side, StepsLead}
-use Rattle.swreq_derivation.proofs.DerivationLemmas.{grows_then}
+use Rattle.swreq_derivation.proofs.DerivationLemmas.{continues_anyway, continues_if, continues_then, grows_then}
 use Rattle.swreq_readings.specs.Readable.{AllowsWord, read_word}
 use Rattle.swreq_readings.proofs.ReadingLemmas.{both_still, is_still, term_still, word_right, word_still}
 use Rattle.swreq_births.specs.Systems.{rules_at}
@@ -45,16 +45,16 @@ walk_along-lines_of_rule-requires t c =
     (subst (λ z. RuleAt z step.rule rule) c.rules_before-rules.ensures c.rule_of-rule.ensures) in
     let asks = headed b c.requires.rules.system.history at.system (step.rule - 1) rule among.1 in
     let here = c.in_ok-v.ensures.stands ∙ ap (λ z. read_word g (term_at s.table c.args.subject) z) c.symbols.ensures
-    ∙ ap (λ z. read_word g z step.before) (term_still s0 s c.loop-k.invariant.grows c.args.subject c.requires.subject) in
+    ∙ ap (λ z. read_word g z step.before) (term_still s0 s c.loop-k.invariant.continues.grows c.args.subject c.requires.subject) in
     let says = word_right g s1 (term_at s0.table c.args.subject) step.before (replaced_side step.forward rule ++ step.after)
     (subst (AllowsWord g s1 (term_at s0.table c.args.subject)) by.source
-    (word_still g s s1 c.in_ok-v.ensures.grows (term_at s0.table c.args.subject) c.loop-k.word c.loop-k.invariant.both.right)) in
+    (word_still g s s1 c.in_ok-v.ensures.continues.grows (term_at s0.table c.args.subject) c.loop-k.word c.loop-k.invariant.both.right)) in
     let allows = side_allows g s1 (term_at s1.table c.in_ok-v.v) rule step.forward step.after asks
     (subst (λ z. AllowsWord g s1 z (replaced_side step.forward rule ++ step.after)) (sym here) says) in
     let x = stands_before b at c.before-in-loop-k.result step.rule rule c.requires.rules.system c.before-in-loop-k.ensures among.0
     among.1 in (
       omega (arith, c.decreases, x.same, x.earlier),
-      record { rule = x.there; derivation = c.in_ok-v.ensures.grows.derivation; subject = c.in_ok-v.ensures.is_of; head = allows },
+      record { rule = x.there; subject = c.in_ok-v.ensures.is_of; head = allows },
     )
 
 pub walk_along-take_step-requires : goal.walk_along-take_step-requires
@@ -68,12 +68,11 @@ walk_along-take_step-requires t c =
     let rules = c.rules_before-rules.result.now in
     let step = c.step_of-step.result.now in
     let rule = c.rule_of-rule.result.now in
-    let gr = grows_then s s1 s2 c.in_ok-v.ensures.grows c.in_ok-lines_of_rule.ensures.grows in
-    let g02 = grows_then s0 s s2 c.loop-k.invariant.grows gr in
-    let is = is_still s0 s c.loop-k.invariant.grows c.args.subject c.requires.subject in
+    let gr = grows_then c.in_ok-v.ensures.continues.grows c.in_ok-lines_of_rule.ensures.continues.grows in
+    let g02 = grows_then c.loop-k.invariant.continues.grows gr in
+    let is = is_still s0 s c.loop-k.invariant.continues.grows c.args.subject c.requires.subject in
     let by = step_by rules _ path c.loop-k.k step c.loop-k.word c.requires.path.0 c.rules_before-rules.ensures c.step_of-step.ensures
     c.loop-k.invariant.left c.requires.path.1 rule c.rule_of-rule.ensures in record {
-      derivation = c.in_ok-lines_of_rule.ensures.grows.derivation;
       subject = is_still s0 s2 g02 c.args.subject c.requires.subject;
       both = both_as g s2 (term_at s1.table c.in_ok-v.v) _ _ _ _ _ (c.in_ok-v.ensures.stands
           ∙ ap (λ z. read_word g (term_at s.table c.args.subject) z) c.symbols.ensures
@@ -96,13 +95,12 @@ walk_along-join-requires t c =
     let rules = c.rules_before-rules.result.now in
     let step = c.step_of-step.result.now in
     let rule = c.rule_of-rule.result.now in
-    let g2 = grows_then s s1 s2 c.in_ok-v.ensures.grows c.in_ok-lines_of_rule.ensures.grows in
-    let gr = grows_then s s2 s3 g2 c.in_ok-take_step.ensures.grows in
-    let g03 = grows_then s0 s s3 c.loop-k.invariant.grows gr in
-    let is = is_still s s2 g2 c.args.subject (is_still s0 s c.loop-k.invariant.grows c.args.subject c.requires.subject) in
+    let g2 = grows_then c.in_ok-v.ensures.continues.grows c.in_ok-lines_of_rule.ensures.continues.grows in
+    let gr = grows_then g2 c.in_ok-take_step.ensures.continues.grows in
+    let g03 = grows_then c.loop-k.invariant.continues.grows gr in
+    let is = is_still s s2 g2 c.args.subject (is_still s0 s c.loop-k.invariant.continues.grows c.args.subject c.requires.subject) in
     let by = step_by rules _ path c.loop-k.k step c.loop-k.word c.requires.path.0 c.rules_before-rules.ensures c.step_of-step.ensures
     c.loop-k.invariant.left c.requires.path.1 rule c.rule_of-rule.ensures in record {
-      derivation = c.in_ok-take_step.ensures.grows.derivation;
       subject = is_still s0 s3 g03 c.args.subject c.requires.subject;
       first = both_as g s3 (term_at s0.table c.args.subject) _ path.start _ c.loop-k.word _
           (sym (term_still s0 s3 g03 c.args.subject c.requires.subject))
@@ -110,7 +108,8 @@ walk_along-join-requires t c =
           (both_still g s s3 gr (term_at s0.table c.args.subject) path.start c.loop-k.word c.loop-k.invariant.both);
       second = both_as g s3 (term_at s2.table c.args.subject) _ (step.before ++ (replaced_side step.forward rule ++ step.after)) _
           (step.before ++ (put_side step.forward rule ++ step.after)) _
-          (sym (term_still s2 s3 c.in_ok-take_step.ensures.grows c.args.subject is)) (sym by.source ∙ sym c.symbols-in-loop-k-2.ensures)
+          (sym (term_still s2 s3 c.in_ok-take_step.ensures.continues.grows c.args.subject is)) (sym by.source ∙ sym
+          c.symbols-in-loop-k-2.ensures)
           (sym by.target ∙ sym (c.in_ok-next.ensures c.loop-k.word by.next by.leads) ∙ sym c.symbols-in-loop-k-3.ensures)
           c.in_ok-take_step.ensures.both;
     }
@@ -125,22 +124,21 @@ walk_along-loop-k-preserved t c =
     let rules = c.rules_before-rules.result.now in
     let s0 = c.args.derivation.now in
     let s3 = c.take_step.new.derivation in
-    let gr = grows_then _ _ s3 (grows_then _ _ _ c.in_ok-v.ensures.grows c.in_ok-lines_of_rule.ensures.grows)
-    c.in_ok-take_step.ensures.grows in
-    let g03 = grows_then s0 _ s3 i.grows gr in
+    let gr = grows_then (grows_then c.in_ok-v.ensures.continues.grows c.in_ok-lines_of_rule.ensures.continues.grows)
+    c.in_ok-take_step.ensures.continues.grows in
+    let g03 = grows_then i.continues.grows gr in
     let go = goes_along rules _ path c.loop-k.k step c.loop-k.word c.requires.path.0 c.rules_before-rules.ensures c.step_of-step.ensures
     i.left c.requires.path.1 in
     let here : c.in_ok-next.next ≡ go.next = c.in_ok-next.ensures c.loop-k.word go.next go.leads in record {
       both = both_as g c.join.new.derivation _ (term_at s0.table c.args.subject) _ path.start _ c.in_ok-next.next
           (term_still s0 s3 g03 c.args.subject c.requires.subject) c.symbols-in-loop-k.ensures c.symbols-in-loop-k-3.ensures
           c.in_ok-join.ensures.both;
-      left = λ b l.
-          (let other = goes_on rules steps c.loop-k.k step c.loop-k.word b c.step_of-step.ensures (i.left b l) in
+      left = λ b l. (let other = goes_on rules steps c.loop-k.k step c.loop-k.word b c.step_of-step.ensures (i.left b l) in
           subst (λ z. StepsLead rules (drop (c.loop-k.k + 1) steps) z b)
           (sym (c.in_ok-next.ensures c.loop-k.word other.next other.leads)) other.rest);
       done = λ b l. i.done b (went_on rules steps c.loop-k.k step c.loop-k.word go.next b c.step_of-step.ensures go.leads
           (subst (λ z. StepsLead rules (drop (c.loop-k.k + 1) steps) z b) here l));
-      grows = grows_then s0 s3 c.join.new.derivation g03 c.in_ok-join.ensures.grows;
-      derives = λ b f d. c.in_ok-join.ensures.derives b (c.in_ok-take_step.ensures.derives b f.alphabet
-          (c.in_ok-lines_of_rule.ensures.derives b f (c.in_ok-v.ensures.derives b (i.derives b f d))));
+      continues = continues_then (continues_then (continues_then (continues_then i.continues (continues_anyway
+          c.in_ok-v.ensures.continues)) c.in_ok-lines_of_rule.ensures.continues) (continues_if (λ b f. f.alphabet)
+          c.in_ok-take_step.ensures.continues)) (continues_anyway c.in_ok-join.ensures.continues);
     }

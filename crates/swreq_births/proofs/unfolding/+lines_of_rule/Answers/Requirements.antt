@@ -1,16 +1,14 @@
 -- The answers on equations and on requirements of protocols.
-use Rattle.std.proofs.Common.{◌<◌, length, refl, sym, ap, subst, ◌∙◌, arith}
-use Rattle.swreq_param.specs.Owned.{as_term}
+use Rattle.std.proofs.Common.{◌<◌, length, sym, ap, subst, arith}
 use Rattle.swreq_param.specs.Tables.{term_at}
 use Rattle.swreq_derive.specs.Instances.{HasNumber}
-use Rattle.swreq_derivation.proofs.DerivationLemmas.{grows_then}
-use Rattle.swreq_readings.proofs.ReadingLemmas.{is_still, term_still}
+use Rattle.swreq_derivation.proofs.DerivationLemmas.{continues_if, continues_then, grows_then}
+use Rattle.swreq_readings.proofs.ReadingLemmas.{is_still}
 use Rattle.swreq_births.specs.declared.history.Reason.TheVariants.{Doubled, Named, Required}
 use Rattle.swreq_births.specs.Systems.{HasShownSides, requirement_by, rules_at, systems_of}
-use Rattle.swreq_births.specs.Types.{placed, written_by}
-use Rattle.swreq_births.proofs.Alike.{both_as}
+use Rattle.swreq_births.specs.Types.{written_by}
 use Rattle.swreq_births.proofs.Equations.{asked_now, asked_of, doubled_both, given_as, member_asks, member_both, sides_as, sides_asked}
-use Rattle.swreq_births.proofs.Readings.{origin_still, side_read, side_still}
+use Rattle.swreq_births.proofs.Readings.{origin_still, placed_now, placed_still, side_read, side_still}
 use Rattle.swreq_births.proofs.unfolding.+lines_of_rule.Goals as goal
 
 -- ---- equations
@@ -29,7 +27,6 @@ give_equation-give_member-requires t c =
     let w = given_as c.requires.equation (Named c.in-Named.rank) c.in-Named.is in record {
       inherited = c.requires.equation.system.history.inherited;
       named = (w.0, w.1);
-      derivation = c.requires.derivation;
       subject = c.requires.subject;
       conforms = member_asks c.args.history.now.alphabet s (term_at s.table c.args.subject) e.left e.right c.in-Named.rank w.0 w.1 w.2
           c.requires.head;
@@ -40,8 +37,7 @@ give_equation-returns-in_ok-give_member-in-Named-clause-both t c =
     let e = c.args.equation.now in
     let w = given_as c.requires.equation (Named c.in-Named.rank) c.in-Named.is in
     member_both c.args.history.now.alphabet c.give_member.new.derivation (term_at c.args.derivation.now.table c.args.subject) e.left e.right
-    c.in-Named.rank w.0
-    w.1 w.2 w.3 c.in_ok-give_member-in-Named.ensures.both
+    c.in-Named.rank w.0 w.1 w.2 w.3 c.in_ok-give_member-in-Named.ensures.both
 
 pub give_equation-give_required-requires : goal.give_equation-give_required-requires
 give_equation-give_required-requires t c =
@@ -63,7 +59,6 @@ give_equation-give_required-requires t c =
       (
         record {
           system = record { history = history; within = omega (arith, within, earlier) };
-          derivation = c.requires.derivation;
           for_self = c.requires.subject;
           owner = asked;
         },
@@ -79,66 +74,58 @@ give_required-read_type-requires-in-Same-2 t c =
     c.args.words.from.now c.args.words.to.now c.in-Same.is c.requires.shown in
     let s = c.args.derivation.now in
     let s1 = c.read_type-in-Same.new.derivation in
-    let grows = c.in_ok-u-in-Same.ensures.grows in
+    let grows = c.in_ok-u-in-Same.ensures.continues.grows in
     let asked = asked_now s s1 grows c.args.scope.for_self c.args.scope.owner c.requires.scope.for_self c.requires.scope.owner in (
       omega (arith, c.decreases),
       (
         c.requires.scope.system,
-        (grows.derivation, (is_still s s1 grows c.args.scope.for_self c.requires.scope.for_self, (asked, shown.1))),
+        (is_still s s1 grows c.args.scope.for_self c.requires.scope.for_self, (asked, shown.1)),
       ),
     )
 
 pub give_required-give_conf-requires : goal.give_required-give_conf-requires
 give_required-give_conf-requires t c =
     let u = c.in_ok-u-in-Conf.ensures in record {
-      derivation = u.grows.derivation;
-      origin = origin_still _ _ u.grows (record { owner = c.args.scope.owner; number = c.args.number; for_self = c.args.scope.for_self })
-          (record { for_self = c.requires.scope.for_self; owner = c.requires.scope.owner });
-      side = side_read c.args.history.now.alphabet _ _ u.grows c.args.scope.for_self c.in_ok-u-in-Conf.u _ c.args.words.to.now
-          c.requires.scope.for_self u.is_of
-          u.stands u.word u.equal;
+      origin = origin_still _ _ u.continues.grows (record {
+        owner = c.args.scope.owner;
+        number = c.args.number;
+        for_self =
+            c.args.scope.for_self;
+      }) (record { for_self = c.requires.scope.for_self; owner = c.requires.scope.owner });
+      side = side_read c.args.history.now.alphabet _ _ u.continues.grows c.args.scope.for_self c.in_ok-u-in-Conf.u _ c.args.words.to.now
+          c.requires.scope.for_self u.is_of u.stands u.word u.equal;
     }
 
-pub give_required-returns-in_ok-give_conf-in-Conf : goal.give_required-returns-in_ok-give_conf-in-Conf
-give_required-returns-in_ok-give_conf-in-Conf t c =
-    let owner = c.args.scope.owner in
+pub give_required-returns-in_ok-u-in-Conf-clause-continues : goal.give_required-returns-in_ok-u-in-Conf-clause-continues
+give_required-returns-in_ok-u-in-Conf-clause-continues t c =
     let u = c.in_ok-u-in-Conf.ensures in
-    let given = c.in_ok-give_conf-in-Conf.ensures in
-    let now = term_still _ _ u.grows c.args.scope.for_self c.requires.scope.for_self in
-    let shown = sides_as c.args.history.now.alphabet owner (rules_at c.args.history.now c.args.scope.system) _ _ c.args.words.from.now
-    c.args.words.to.now c.in-Conf.is c.requires.shown in record {
-      both = both_as _ _ _ _ _ _ _ _ now (sym shown.1) refl given.both;
-      grows = grows_then _ _ _ u.grows given.grows;
-      derives = λ b f n d. given.derives b (as_term c.in-Conf.subject)
-          (subst (λ z. HasNumber c.args.number (written_by b owner) (requirement_by z)) c.in-Conf.is n)
-          (u.stands ∙ ap (λ z. placed owner z (as_term c.in-Conf.subject)) (sym now)) (u.derives b f d);
-    }
+    continues_then (continues_if (λ b f. f.0) u.continues) (continues_if (λ b f. (
+      _,
+      subst (HasNumber c.args.number (written_by b c.args.scope.owner)) (ap requirement_by c.in-Conf.is) f.1,
+      placed_now _ _ u.continues.grows c.args.scope.owner c.args.scope.for_self c.in_ok-u-in-Conf.u _ c.requires.scope.for_self u.stands,
+    )) c.give_conf.ensures.continues)
 
 pub give_required-give_layout-requires : goal.give_required-give_layout-requires
 give_required-give_layout-requires t c =
     let u = c.in_ok-u-in-Layout.ensures in record {
-      derivation = u.grows.derivation;
-      origin = origin_still _ _ u.grows (record { owner = c.args.scope.owner; number = c.args.number; for_self = c.args.scope.for_self })
-          (record { for_self = c.requires.scope.for_self; owner = c.requires.scope.owner });
-      side = side_read c.args.history.now.alphabet _ _ u.grows c.args.scope.for_self c.in_ok-u-in-Layout.u _ c.args.words.to.now
-          c.requires.scope.for_self u.is_of
-          u.stands u.word u.equal;
+      origin = origin_still _ _ u.continues.grows (record {
+        owner = c.args.scope.owner;
+        number = c.args.number;
+        for_self =
+            c.args.scope.for_self;
+      }) (record { for_self = c.requires.scope.for_self; owner = c.requires.scope.owner });
+      side = side_read c.args.history.now.alphabet _ _ u.continues.grows c.args.scope.for_self c.in_ok-u-in-Layout.u _ c.args.words.to.now
+          c.requires.scope.for_self u.is_of u.stands u.word u.equal;
     }
 
-pub give_required-returns-in_ok-give_layout-in-Layout : goal.give_required-returns-in_ok-give_layout-in-Layout
-give_required-returns-in_ok-give_layout-in-Layout t c =
-    let owner = c.args.scope.owner in
+pub give_required-returns-in_ok-u-in-Layout-clause-continues : goal.give_required-returns-in_ok-u-in-Layout-clause-continues
+give_required-returns-in_ok-u-in-Layout-clause-continues t c =
     let u = c.in_ok-u-in-Layout.ensures in
-    let given = c.in_ok-give_layout-in-Layout.ensures in
-    let now = term_still _ _ u.grows c.args.scope.for_self c.requires.scope.for_self in
-    let shown = sides_as c.args.history.now.alphabet owner (rules_at c.args.history.now c.args.scope.system) _ _ c.args.words.from.now
-    c.args.words.to.now c.in-Layout.is c.requires.shown in record {
-      both = both_as _ _ _ _ _ _ _ _ now (sym shown.1) refl given.both;
-      grows = grows_then _ _ _ u.grows given.grows;
-      derives = λ b f n d. given.derives b (as_term c.in-Layout.subject)
-          (subst (λ z. HasNumber c.args.number (written_by b owner) (requirement_by z)) c.in-Layout.is n)
-          (u.stands ∙ ap (λ z. placed owner z (as_term c.in-Layout.subject)) (sym now)) (u.derives b f d);
-    }
+    continues_then (continues_if (λ b f. f.0) u.continues) (continues_if (λ b f. (
+      _,
+      subst (HasNumber c.args.number (written_by b c.args.scope.owner)) (ap requirement_by c.in-Layout.is) f.1,
+      placed_now _ _ u.continues.grows c.args.scope.owner c.args.scope.for_self c.in_ok-u-in-Layout.u _ c.requires.scope.for_self u.stands,
+    )) c.give_layout.ensures.continues)
 
 pub give_required-give_same-requires : goal.give_required-give_same-requires
 give_required-give_same-requires t c =
@@ -147,31 +134,27 @@ give_required-give_same-requires t c =
     let u = c.in_ok-u-in-Same.ensures in
     let v = c.in_ok-v-in-Same.ensures in
     let words = c.args.words in
-    let is = is_still _ _ u.grows scope.for_self c.requires.scope.for_self in record {
-      derivation = v.grows.derivation;
-      origin = origin_still _ _ (grows_then _ _ _ u.grows v.grows)
+    let is = is_still _ _ u.continues.grows scope.for_self c.requires.scope.for_self in record {
+      origin = origin_still _ _ (grows_then u.continues.grows v.continues.grows)
           (record { owner = scope.owner; number = c.args.number; for_self = scope.for_self })
           (record { for_self = c.requires.scope.for_self; owner = c.requires.scope.owner });
-      left = side_still g _ _ v.grows scope.for_self c.in_ok-u-in-Same.u words.from.now is
-          (side_read g _ _ u.grows scope.for_self c.in_ok-u-in-Same.u _ words.from.now c.requires.scope.for_self u.is_of u.stands u.word
-          u.equal);
-      right = side_read g _ _ v.grows scope.for_self c.in_ok-v-in-Same.v _ words.to.now is v.is_of v.stands v.word v.equal;
+      left = side_still g _ _ v.continues.grows scope.for_self c.in_ok-u-in-Same.u words.from.now is
+          (side_read g _ _ u.continues.grows scope.for_self c.in_ok-u-in-Same.u _ words.from.now c.requires.scope.for_self u.is_of
+          u.stands u.word u.equal);
+      right = side_read g _ _ v.continues.grows scope.for_self c.in_ok-v-in-Same.v _ words.to.now is v.is_of v.stands v.word v.equal;
     }
 
-pub give_required-returns-in_ok-give_same-in-Same : goal.give_required-returns-in_ok-give_same-in-Same
-give_required-returns-in_ok-give_same-in-Same t c =
+pub give_required-returns-in_ok-v-in-Same-clause-continues : goal.give_required-returns-in_ok-v-in-Same-clause-continues
+give_required-returns-in_ok-v-in-Same-clause-continues t c =
     let scope = c.args.scope in
     let u = c.in_ok-u-in-Same.ensures in
     let v = c.in_ok-v-in-Same.ensures in
-    let given = c.in_ok-give_same-in-Same.ensures in
-    let grows = grows_then _ _ _ u.grows v.grows in
-    let then = term_still _ _ v.grows scope.for_self (is_still _ _ u.grows scope.for_self c.requires.scope.for_self) in
-    let now = term_still _ _ grows scope.for_self c.requires.scope.for_self in record {
-      both = both_as _ _ _ _ _ _ _ _ now refl refl given.both;
-      grows = grows_then _ _ _ grows given.grows;
-      derives = λ b f n d. given.derives b (as_term c.in-Same.left) (as_term c.in-Same.right)
-          (subst (λ z. HasNumber c.args.number (written_by b scope.owner) (requirement_by z)) c.in-Same.is n)
-          (term_still _ _ v.grows c.in_ok-u-in-Same.u u.is_of ∙ u.stands
-          ∙ ap (λ z. placed scope.owner z (as_term c.in-Same.left)) (sym now))
-          (v.stands ∙ ap (λ z. placed scope.owner z (as_term c.in-Same.right)) (sym then)) (v.derives b f (u.derives b f d));
-    }
+    continues_then (continues_then (continues_if (λ b f. f.0) u.continues) (continues_if (λ b f. f.0) v.continues)) (continues_if (λ b f. (
+      _,
+      _,
+      subst (HasNumber c.args.number (written_by b scope.owner)) (ap requirement_by c.in-Same.is) f.1,
+      placed_still _ _ _ u.continues.grows v.continues.grows scope.owner scope.for_self c.in_ok-u-in-Same.u _ c.requires.scope.for_self
+          u.is_of u.stands,
+      placed_now _ _ v.continues.grows scope.owner scope.for_self c.in_ok-v-in-Same.v _
+          (is_still _ _ u.continues.grows scope.for_self c.requires.scope.for_self) v.stands,
+    )) c.give_same.ensures.continues)

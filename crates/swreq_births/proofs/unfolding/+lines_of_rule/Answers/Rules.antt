@@ -10,7 +10,7 @@ use Rattle.swreq_pair.specs.Pairs.{IsPair}
 use Rattle.swreq_pair.proofs.OnePair.{one_pair}
 use Rattle.swreq_path.specs.Paths.{HasTarget}
 use Rattle.swreq_path.proofs.Leading.{one_end}
-use Rattle.swreq_derivation.proofs.DerivationLemmas.{grows_then}
+use Rattle.swreq_derivation.proofs.DerivationLemmas.{continues_anyway, continues_if, continues_then, grows_then}
 use Rattle.swreq_readings.specs.Readable.{AllowsWord, read_word}
 use Rattle.swreq_readings.proofs.ReadingLemmas.{both_still, is_still, term_still, word_still}
 use Rattle.swreq_births.specs.declared.history.Equation.{Equation}
@@ -34,20 +34,20 @@ settle-walk_along-requires t c =
     let target = subst (λ z. HasTarget z c.in_ok-forth.forth w.0) c.rules_before-rules.ensures w.1 in
     let says = subst (λ z. AllowsWord g s (term_at s.table c.args.subject) z) (sym c.in_ok-forth.ensures.reduction.1.start)
     c.requires.both.left in
-    (omega (arith, c.decreases), (rules_until c.requires.rule, (c.requires.derivation, (c.requires.subject, ((w.0, target), says)))))
+    (omega (arith, c.decreases), (rules_until c.requires.rule, (c.requires.subject, ((w.0, target), says))))
 
 pub settle-walk_along-requires-2 : goal.settle-walk_along-requires-2
 settle-walk_along-requires-2 t c =
     let g = c.args.history.now.alphabet in
     let s = c.args.derivation.now in
     let s1 = c.walk_along.new.derivation in
-    let g1 = c.in_ok-first.ensures.grows in
+    let g1 = c.in_ok-first.ensures.continues.grows in
     let both = both_now g s s1 g1 c.args.subject c.args.words.from.now c.args.words.to.now c.requires.subject c.requires.both in
     let w = c.in_ok-back.ensures.target in
     let target = subst (λ z. HasTarget z c.in_ok-back.back w.0) c.rules_before-rules.ensures w.1 in
     let is = is_still s s1 g1 c.args.subject c.requires.subject in
     let says = subst (λ z. AllowsWord g s1 (term_at s1.table c.args.subject) z) (sym c.in_ok-back.ensures.reduction.1.start) both.right in
-    (omega (arith, c.decreases), (rules_until c.requires.rule, (g1.derivation, (is, ((w.0, target), says)))))
+    (omega (arith, c.decreases), (rules_until c.requires.rule, (is, ((w.0, target), says))))
 
 pub settle-close-requires : goal.settle-close-requires
 settle-close-requires t c =
@@ -55,8 +55,8 @@ settle-close-requires t c =
     let s = c.args.derivation.now in
     let s1 = c.walk_along.new.derivation in
     let s2 = c.walk_along-2.new.derivation in
-    let grows = grows_then s s1 s2 c.in_ok-first.ensures.grows c.in_ok-last.ensures.grows in
-    let i = is_still s s1 c.in_ok-first.ensures.grows c.args.subject c.requires.subject in
+    let grows = grows_then c.in_ok-first.ensures.continues.grows c.in_ok-last.ensures.continues.grows in
+    let i = is_still s s1 c.in_ok-first.ensures.continues.grows c.args.subject c.requires.subject in
     let rules = take c.args.at.rule (rules_at c.args.history.now c.args.at.system) in
     let w = c.in_ok-forth.ensures.target in
     let x = c.in_ok-back.ensures.target in
@@ -69,15 +69,14 @@ settle-close-requires t c =
     (subst (λ z. Reduces z c.args.words.from.now w.0) c.rules_before-rules.ensures w.2) in
     let last : r.last ≡ x.0 = one_result rules c.args.words.to.now r.last x.0 r.last_reduces
     (subst (λ z. Reduces z c.args.words.to.now x.0) c.rules_before-rules.ensures x.2) in record {
-      derivation = c.in_ok-last.ensures.grows.derivation;
       subject = is_still s s2 grows c.args.subject c.requires.subject;
       words = both_now g s s2 grows c.args.subject c.args.words.from.now c.args.words.to.now c.requires.subject c.requires.both;
       ends = record {
         first = both_as g s2 (term_at s.table c.args.subject) _ c.in_ok-forth.forth.start c.args.words.from.now c.in_ok-first.first _
             (sym (term_still s s2 grows c.args.subject c.requires.subject)) c.in_ok-forth.ensures.reduction.1.start (sym c.symbols.ensures)
-            (both_still g s1 s2 c.in_ok-last.ensures.grows (term_at s.table c.args.subject) c.in_ok-forth.forth.start c.in_ok-first.first
-            c.in_ok-first.ensures.both);
-        last = both_as g s2 _ _ _ _ _ _ (sym (term_still s1 s2 c.in_ok-last.ensures.grows c.args.subject i))
+            (both_still g s1 s2 c.in_ok-last.ensures.continues.grows (term_at s.table c.args.subject) c.in_ok-forth.forth.start
+            c.in_ok-first.first c.in_ok-first.ensures.both);
+        last = both_as g s2 _ _ _ _ _ _ (sym (term_still s1 s2 c.in_ok-last.ensures.continues.grows c.args.subject i))
             c.in_ok-back.ensures.reduction.1.start (sym c.symbols-2.ensures) c.in_ok-last.ensures.both;
       };
       oriented = subst (λ z. IsOriented c.args.rule.now z c.symbols-2.result.now) (first ∙ one ∙ sym c.symbols.ensures)
@@ -86,10 +85,10 @@ settle-close-requires t c =
 
 pub settle-returns : goal.settle-returns
 settle-returns t c =
-    let grows = grows_then _ _ _ c.in_ok-first.ensures.grows c.in_ok-last.ensures.grows in record {
+    let grows = grows_then c.in_ok-first.ensures.continues.grows c.in_ok-last.ensures.continues.grows in record {
       both = both_before _ _ grows c.args.subject c.requires.subject c.in_ok-close.ensures.both;
-      grows = grows_then _ _ _ grows c.in_ok-close.ensures.grows;
-      derives = λ b f d. c.in_ok-close.ensures.derives b (c.in_ok-last.ensures.derives b f (c.in_ok-first.ensures.derives b f d));
+      continues = continues_then (continues_then c.in_ok-first.ensures.continues c.in_ok-last.ensures.continues)
+          (continues_anyway c.in_ok-close.ensures.continues);
     }
 
 -- ---- a rule by its birth
@@ -111,7 +110,7 @@ lines_of_rule-lines_of_rule-requires t c =
       is = subst (λ z. slice_get (rules_at b z) at.rule ≡ Some rule) (sym same) low.1;
     } in (
       omega (arith, c.decreases, same, below),
-      record { rule = there; derivation = c.requires.derivation; subject = c.requires.subject; head = c.requires.head },
+      record { rule = there; subject = c.requires.subject; head = c.requires.head },
     )
 
 pub lines_of_rule-equation_at-equation-requires : goal.lines_of_rule-equation_at-equation-requires
@@ -131,14 +130,13 @@ lines_of_rule-give_equation-requires t c =
     let left = c.args.rule.now.left in
     let there = c.equation_at-equation.ensures in
     let born = born_past c.system_at-system.ensures c.if-at-system.false c.in-Given.is in
-    let (derivation, is, head) = allowed_still g c.args.derivation.now s1 c.in_ok-said.ensures.grows c.args.subject left c.requires.subject
+    let (is, head) = allowed_still g c.args.derivation.now s1 c.in_ok-said.ensures.continues.grows c.args.subject left c.requires.subject
     c.requires.head in
     let asks = equation_asks c.requires.rule c.in-Given.n c.equation_at-equation.result.now born there in
     let allows = asked_of g s1 (term_at s1.table c.args.subject) left asks.asked head asks.second in (
       omega (arith, c.decreases),
       record {
         equation = record { system = c.requires.rule.system; there = (c.in-Given.n - 1, there) };
-        derivation = derivation;
         subject = is;
         head = (asks.asked, asks.first, allows);
       },
@@ -151,48 +149,45 @@ lines_of_rule-settle-requires t c =
     let rule = c.args.rule.now in
     let rules = rules_at c.args.history.now c.args.at.system in
     let given = c.in_ok-give_equation-in-Given.ensures in
-    let is = is_still c.args.derivation.now s1 c.in_ok-said.ensures.grows c.args.subject c.requires.subject in
+    let is = is_still c.args.derivation.now s1 c.in_ok-said.ensures.continues.grows c.args.subject c.requires.subject in
     let born = born_past c.system_at-system.ensures c.if-at-system.false c.in-Given.is in
     let b = given_at c.requires.rule c.in-Given.n born in
     let e : b.equation ≡ c.equation_at-equation.result.now = same_Some _ _ (sym b.is_there ∙ c.equation_at-equation.ensures) in
     let left = ap (λ (z : Equation). z.left) e ∙ sym c.sides_of.ensures.from in
     let right = ap (λ (z : Equation). z.right) e ∙ sym c.sides_of.ensures.to in
     let both = both_as c.args.history.now.alphabet s2 (term_at s1.table c.args.subject) (term_at s2.table c.args.subject) _ _ _ _
-    (sym (term_still s1 s2 given.grows c.args.subject is)) (sym c.sides_of.ensures.from) (sym c.sides_of.ensures.to) given.both in
+    (sym (term_still s1 s2 given.continues.grows c.args.subject is)) (sym c.sides_of.ensures.from) (sym c.sides_of.ensures.to) given.both in
     let reduces = subst (λ z. ReducesTo rules c.args.at.rule z c.sides_of.result.to.now rule) left
     (subst (λ z. ReducesTo rules c.args.at.rule b.equation.left z rule) right b.reduces) in (
       omega (arith, c.decreases),
       (
         c.requires.rule,
-        (given.grows.derivation, (is_still s1 s2 given.grows c.args.subject is, (both, reduces))),
+        (is_still s1 s2 given.continues.grows c.args.subject is, (both, reduces)),
       ),
     )
 
 pub lines_of_rule-from_pair-requires : goal.lines_of_rule-from_pair-requires
 lines_of_rule-from_pair-requires t c =
     let born = born_past c.system_at-system.ensures c.if-at-system.false c.in-Pair.is in
-    let (derivation, is, allows) = allowed_still c.args.history.now.alphabet c.args.derivation.now c.are_read_equal.new.derivation
-    c.in_ok-said.ensures.grows
-    c.args.subject c.args.rule.now.left c.requires.subject c.requires.head in
-    (omega (arith, c.decreases), (record { rule = c.requires.rule; derivation = derivation; subject = is; head = allows }, born))
+    let (is, allows) = allowed_still c.args.history.now.alphabet c.args.derivation.now c.are_read_equal.new.derivation
+    c.in_ok-said.ensures.continues.grows c.args.subject c.args.rule.now.left c.requires.subject c.requires.head in
+    (omega (arith, c.decreases), (record { rule = c.requires.rule; subject = is; head = allows }, born))
 
 pub lines_of_rule-returns-in_ok-settle-in-Given : goal.lines_of_rule-returns-in_ok-settle-in-Given
 lines_of_rule-returns-in_ok-settle-in-Given t c =
     let given = c.in_ok-give_equation-in-Given.ensures in
     let settled = c.in_ok-settle-in-Given.ensures in
-    let grows = grows_then _ _ _ c.in_ok-said.ensures.grows given.grows in record {
+    let grows = grows_then c.in_ok-said.ensures.continues.grows given.continues.grows in record {
       both = both_before _ _ grows c.args.subject c.requires.subject settled.both;
-      grows = grows_then _ _ _ grows settled.grows;
-      derives = λ b f d. settled.derives b f (given.derives b f (c.in_ok-said.ensures.derives b d));
+      continues = continues_then (continues_then (continues_anyway c.in_ok-said.ensures.continues) given.continues) settled.continues;
     }
 
 pub lines_of_rule-returns-in_ok-from_pair-in-Pair : goal.lines_of_rule-returns-in_ok-from_pair-in-Pair
 lines_of_rule-returns-in_ok-from_pair-in-Pair t c =
     let said = c.in_ok-said.ensures in
     let born = c.in_ok-from_pair-in-Pair.ensures in record {
-      both = both_before _ _ said.grows c.args.subject c.requires.subject born.both;
-      grows = grows_then _ _ _ said.grows born.grows;
-      derives = λ b f d. born.derives b f (said.derives b d);
+      both = both_before _ _ said.continues.grows c.args.subject c.requires.subject born.both;
+      continues = continues_then (continues_anyway said.continues) born.continues;
     }
 
 -- ---- a rule born of a pair
@@ -225,7 +220,7 @@ from_pair-lines_of_rule-requires t c =
     let allows = first_asked c.requires.asked.rule p s (term_at s.table c.args.subject) c.requires.asked.head in
     let now = c.requires.asked in (
       omega (arith, c.decreases, x.same, x.earlier),
-      record { rule = x.there; derivation = now.derivation; subject = now.subject; head = allows },
+      record { rule = x.there; subject = now.subject; head = allows },
     )
 
 pub from_pair-lines_of_rule-requires-2 : goal.from_pair-lines_of_rule-requires-2
@@ -238,17 +233,16 @@ from_pair-lines_of_rule-requires-2 t c =
     let s = c.args.derivation.now in
     let s1 = c.lines_of_rule.new.derivation in
     let s2 = c.read_word.new.derivation in
-    let g2 = c.in_ok-v.ensures.grows in
+    let g2 = c.in_ok-v.ensures.continues.grows in
     let here = c.in_ok-v.ensures.stands ∙ ap (λ z. read_word g (term_at s1.table c.args.subject) z)
-    (c.first_symbols-part.ensures ∙ ap (take place.at) c.symbols.ensures)
-    ∙ ap (λ z. read_word g z (take place.at first.left))
-    (term_still s s1 c.in_ok-lines_of_rule.ensures.grows c.args.subject c.requires.asked.subject) in
+    (c.first_symbols-part.ensures ∙ ap (take place.at) c.symbols.ensures) ∙ ap (λ z. read_word g z (take place.at first.left))
+    (term_still s s1 c.in_ok-lines_of_rule.ensures.continues.grows c.args.subject c.requires.asked.subject) in
     let x = second_before c.requires.asked.rule p c.before-3.result c.before-3.ensures in
     let allows = subst (λ z. IsHeadStated g s2 z c.rule_of-second.result.now.left) (sym here)
     (second_asked c.requires.asked.rule p s2 (term_at s.table c.args.subject)
     (word_still g s1 s2 g2 (term_at s.table c.args.subject) first.left c.in_ok-lines_of_rule.ensures.both.left)) in (
       omega (arith, c.decreases, x.same, x.earlier),
-      record { rule = x.there; derivation = g2.derivation; subject = c.in_ok-v.ensures.is_of; head = allows },
+      record { rule = x.there; subject = c.in_ok-v.ensures.is_of; head = allows },
     )
 
 pub from_pair-read_pair-requires : goal.from_pair-read_pair-requires
@@ -263,14 +257,13 @@ from_pair-read_pair-requires t c =
     let s1 = c.lines_of_rule.new.derivation in
     let s2 = c.read_word.new.derivation in
     let s3 = c.lines_of_rule-2.new.derivation in
-    let g1 = c.in_ok-lines_of_rule.ensures.grows in
-    let g13 = grows_then s1 s2 s3 c.in_ok-v.ensures.grows c.in_ok-lines_of_rule-2.ensures.grows in
-    let g03 = grows_then s s1 s3 g1 g13 in
+    let g1 = c.in_ok-lines_of_rule.ensures.continues.grows in
+    let g13 = grows_then c.in_ok-v.ensures.continues.grows c.in_ok-lines_of_rule-2.ensures.continues.grows in
+    let g03 = grows_then g1 g13 in
     let now = sym (term_still s s3 g03 c.args.subject c.requires.asked.subject) in
     let here = c.in_ok-v.ensures.stands ∙ ap (λ z. read_word g (term_at s1.table c.args.subject) z)
     (c.first_symbols-part.ensures ∙ ap (take place.at) c.symbols.ensures)
     ∙ ap (λ z. read_word g z (take place.at first.left)) (term_still s s1 g1 c.args.subject c.requires.asked.subject) in record {
-      derivation = c.in_ok-lines_of_rule-2.ensures.grows.derivation;
       subject = is_still s s3 g03 c.args.subject c.requires.asked.subject;
       pair = some_kind first second place.at p.born.left p.born.right
           (kind_of c.requires.asked.rule p p.born.left p.born.right p.born.pair);
@@ -291,9 +284,9 @@ from_pair-settle-requires t c =
     let s1 = c.lines_of_rule.new.derivation in
     let s3 = c.lines_of_rule-2.new.derivation in
     let s4 = c.read_pair.new.derivation in
-    let g13 = grows_then s1 c.read_word.new.derivation s3 c.in_ok-v.ensures.grows c.in_ok-lines_of_rule-2.ensures.grows in
-    let g03 = grows_then s s1 s3 c.in_ok-lines_of_rule.ensures.grows g13 in
-    let g4 = c.in_ok-read_pair.ensures.grows in
+    let g13 = grows_then c.in_ok-v.ensures.continues.grows c.in_ok-lines_of_rule-2.ensures.continues.grows in
+    let g03 = grows_then c.in_ok-lines_of_rule.ensures.continues.grows g13 in
+    let g4 = c.in_ok-read_pair.ensures.continues.grows in
     let left = c.in_ok-left.left.items in
     let right = c.in_ok-left.right.items in
     let here = subst (λ z. IsPair z place left right) c.all_rules-rules.ensures c.in_ok-left.ensures in
@@ -301,20 +294,18 @@ from_pair-settle-requires t c =
     let term_3 = term_at s3.table c.args.subject in
     let both = both_as g s4 term_3 (term_at s4.table c.args.subject) _ _ _ _
     (sym (term_still s3 s4 g4 c.args.subject (is_still s s3 g03 c.args.subject c.requires.asked.subject))) (sym c.deref.ensures.value)
-    (sym c.deref-2.ensures.value)
-    (both_of_kind g s4 term_3 c.rule_of-first.result.now c.rule_of-second.result.now place.at left right
+    (sym c.deref-2.ensures.value) (both_of_kind g s4 term_3 c.rule_of-first.result.now c.rule_of-second.result.now place.at left right
     (kind_of c.requires.asked.rule p left right here) c.in_ok-read_pair.ensures.overlap c.in_ok-read_pair.ensures.containment) in
     let reduces = subst (λ z. ReducesTo rules c.args.at.rule z c.deref-2.result.now c.args.rule.now) (same.0 ∙ sym c.deref.ensures.value)
     (subst (λ z. ReducesTo rules c.args.at.rule p.born.left z c.args.rule.now) (same.1 ∙ sym c.deref-2.ensures.value) p.born.reduces) in
-    let is = is_still s s4 (grows_then s s3 s4 g03 g4) c.args.subject c.requires.asked.subject in
-    (omega (arith, c.decreases), (c.requires.asked.rule, (g4.derivation, (is, (both, reduces)))))
+    let is = is_still s s4 (grows_then g03 g4) c.args.subject c.requires.asked.subject in
+    (omega (arith, c.decreases), (c.requires.asked.rule, (is, (both, reduces))))
 
 pub from_pair-returns : goal.from_pair-returns
 from_pair-returns t c =
-    let first = grows_then _ _ _ c.in_ok-lines_of_rule.ensures.grows c.in_ok-v.ensures.grows in
-    let met = grows_then _ _ _ first (grows_then _ _ _ c.in_ok-lines_of_rule-2.ensures.grows c.in_ok-read_pair.ensures.grows) in record {
-      both = both_before _ _ met c.args.subject c.requires.asked.subject c.in_ok-settle.ensures.both;
-      grows = grows_then _ _ _ met c.in_ok-settle.ensures.grows;
-      derives = λ b f d. c.in_ok-settle.ensures.derives b f (c.in_ok-read_pair.ensures.derives b f.alphabet
-          (c.in_ok-lines_of_rule-2.ensures.derives b f (c.in_ok-v.ensures.derives b (c.in_ok-lines_of_rule.ensures.derives b f d))));
+    let first = continues_then c.in_ok-lines_of_rule.ensures.continues (continues_anyway c.in_ok-v.ensures.continues) in
+    let pair = continues_if (λ b f. f.alphabet) c.in_ok-read_pair.ensures.continues in
+    let met = continues_then first (continues_then c.in_ok-lines_of_rule-2.ensures.continues pair) in record {
+      both = both_before _ _ met.grows c.args.subject c.requires.asked.subject c.in_ok-settle.ensures.both;
+      continues = continues_then met c.in_ok-settle.ensures.continues;
     }

@@ -11,7 +11,7 @@ use Rattle.swreq_word.specs.declared.symbols.Symbol.TheVariants.{Proto}
 use Rattle.swreq_path.specs.Paths.{HasTarget}
 use Rattle.swreq_path.proofs.Leading.{one_end}
 use Rattle.swreq_derivation.specs.UnderWay.{States}
-use Rattle.swreq_derivation.proofs.DerivationLemmas.{grows_then}
+use Rattle.swreq_derivation.proofs.DerivationLemmas.{continues_anyway, continues_if, continues_then, grows_then}
 use Rattle.swreq_readings.specs.Readable.{AllowsWord, IsGiven, read_word}
 use Rattle.swreq_readings.proofs.ReadingLemmas.{equal_as, equal_still, given_still, is_still, term_still, word_still}
 use Rattle.swreq_births.specs.Systems.{rules_at}
@@ -36,10 +36,9 @@ read_type-loop-k-init t c =
       is_of = at.is_of;
       stands = at.stands;
       word = begins_said g c.start.new.derivation top scope.owner rules param.head param.steps c.args.word.now c.requires.shown
-          (asked_still s0 c.start.new.derivation at.grows top scope.owner c.requires.owner);
+          (asked_still s0 c.start.new.derivation at.continues.grows top scope.owner c.requires.owner);
       equal = inl (sym (begins_read g top scope.owner rules param.head param.steps c.args.word.now c.requires.shown));
-      grows = at.grows;
-      derives = λ b f d. at.derives b d;
+      continues = continues_anyway at.continues;
     }
 
 pub read_type-first_symbols-part-requires : goal.read_type-first_symbols-part-requires
@@ -62,13 +61,13 @@ read_type-declare-requires t c =
     let step = c.step_at-step.result in
     let at = step_at g c.args.scope.owner rules c.args.param.now.head c.args.param.now.steps c.args.word.now c.requires.shown c.loop-k.k
     step c.step_at-step.ensures in
-    let says = subst (λ z. AllowsWord g s z part) (sym (term_still s0 s i.grows c.args.scope.for_self c.requires.for_self))
+    let says = subst (λ z. AllowsWord g s z part) (sym (term_still s0 s i.continues.grows c.args.scope.for_self c.requires.for_self))
     (subst (AllowsWord g s (term_at s0.table c.args.scope.for_self)) (sym c.first_symbols-part.ensures) i.word) in
     let shown = subst (λ z. IsStepShown g rules z step) (sym c.first_symbols-part.ensures) at.shown in (
       omega (arith, c.decreases),
       (
         c.requires.system,
-        (i.grows.derivation, (is_still s0 s i.grows c.args.scope.for_self c.requires.for_self, (says, shown))),
+        (is_still s0 s i.continues.grows c.args.scope.for_self c.requires.for_self, (says, shown)),
       ),
     )
 
@@ -80,19 +79,17 @@ read_type-equal_member-requires t c =
     let s1 = c.declare.new.derivation in
     let s2 = c.read_word.new.derivation in
     let i = c.loop-k.invariant in
-    let g1 = c.in_ok-named.ensures.grows in
-    let g2 = c.in_ok-last.ensures.grows in
-    let g12 = grows_then s s1 s2 g1 g2 in
+    let g1 = c.in_ok-named.ensures.continues.grows in
+    let g2 = c.in_ok-last.ensures.continues.grows in
+    let g12 = grows_then g1 g2 in
     let step = c.step_at-step.result in
     let named = c.in_ok-named.named in
     let part = take (c.loop-k.k + 1) c.args.word.now in
-    let last = part_read g s0 s s1 s2 i.grows g1 c.args.scope.for_self c.requires.for_self c.in_ok-last.last c.first_symbols-part.result.now
-    part
-    c.first_symbols-part.ensures c.in_ok-last.ensures.stands in
+    let last = part_read g s0 s s1 s2 i.continues.grows g1 c.args.scope.for_self c.requires.for_self c.in_ok-last.last
+    c.first_symbols-part.result.now part c.first_symbols-part.ensures c.in_ok-last.ensures.stands in
     let given = given_still g s1 s2 g2 _ step named
-    (part_given g s0 s s1 s2 i.grows g1 c.args.scope.for_self c.requires.for_self c.in_ok-last.last
+    (part_given g s0 s s1 s2 i.continues.grows g1 c.args.scope.for_self c.requires.for_self c.in_ok-last.last
     c.first_symbols-part.result.now part c.first_symbols-part.ensures step named c.in_ok-named.ensures.given) in record {
-      derivation = g2.derivation;
       left = is_still s s2 g12 c.loop-k.at i.is_of;
       right = c.in_ok-last.ensures.is_of;
       given = subst (λ z. IsGiven g s2 z step named) (sym last) given;
@@ -115,19 +112,18 @@ read_type-loop-k-preserved t c =
     let top = term_at s0.table c.args.scope.for_self in
     let k = c.loop-k.k in
     let i = c.loop-k.invariant in
-    let g1 = c.in_ok-named.ensures.grows in
-    let g2 = c.in_ok-last.ensures.grows in
+    let g1 = c.in_ok-named.ensures.continues.grows in
+    let g2 = c.in_ok-last.ensures.continues.grows in
     let member = c.in_ok-at-2.ensures in
-    let g12 = grows_then s s1 s2 g1 g2 in
-    let g13 = grows_then s s2 s3 g12 member.grows in
+    let g12 = grows_then g1 g2 in
+    let g13 = grows_then g12 member.continues.grows in
     let x = c.step_at-step.result in
     let n = c.in_ok-named.named in
     let part = take (k + 1) w in
-    let last = part_read g s0 s s1 s2 i.grows g1 c.args.scope.for_self c.requires.for_self c.in_ok-last.last c.first_symbols-part.result.now
-    part
-    c.first_symbols-part.ensures c.in_ok-last.ensures.stands in
-    let given = given_still g s1 s3 (grows_then s1 s2 s3 g2 member.grows) _ x n (part_given g s0 s s1 s2 i.grows g1 c.args.scope.for_self
-    c.requires.for_self c.in_ok-last.last c.first_symbols-part.result.now part c.first_symbols-part.ensures x n
+    let last = part_read g s0 s s1 s2 i.continues.grows g1 c.args.scope.for_self c.requires.for_self c.in_ok-last.last
+    c.first_symbols-part.result.now part c.first_symbols-part.ensures c.in_ok-last.ensures.stands in
+    let given = given_still g s1 s3 (grows_then g2 member.continues.grows) _ x n (part_given g s0 s s1 s2 i.continues.grows g1
+    c.args.scope.for_self c.requires.for_self c.in_ok-last.last c.first_symbols-part.result.now part c.first_symbols-part.ensures x n
     c.in_ok-named.ensures.given) in
     let before = term_still s s2 g12 c.loop-k.at i.is_of ∙ i.stands in
     let on = step_on g owner rules hd xs w c.requires.shown s3 top k x n c.step_at-step.ensures (word_still g s s3 g13 top part i.word)
@@ -138,9 +134,8 @@ read_type-loop-k-preserved t c =
           ∙ placed_member owner top (with_steps (Generic hd) (take k xs)) x);
       word = on.word;
       equal = on.equal;
-      grows = grows_then s0 s s3 i.grows g13;
-      derives = λ b f d. member.derives b f.alphabet
-          (c.in_ok-last.ensures.derives b (c.in_ok-named.ensures.derives b f (i.derives b f d)));
+      continues = continues_then (continues_then (continues_then i.continues c.in_ok-named.ensures.continues)
+          (continues_anyway c.in_ok-last.ensures.continues)) (continues_if (λ b f. f.alphabet) member.continues);
     }
 
 pub read_type-returns : goal.read_type-returns
@@ -162,8 +157,7 @@ read_type-returns t c =
       stands = i.stands ∙ steps;
       word = subst (AllowsWord g c.loop-k.derivation top) whole i.word;
       equal = equal_as c.loop-k.derivation _ _ _ _ (sym steps) (sym (ap (read_word g top) whole)) i.equal;
-      grows = i.grows;
-      derives = i.derives;
+      continues = i.continues;
     }
 
 -- ---- steps of type parameters
@@ -184,7 +178,7 @@ declare-walk_along-requires t c =
     let s1 = c.known_step.new.derivation in
     let r = c.args.scope.system in
     let w = c.args.word.now in
-    let grows = grows_then s c.read_word.new.derivation s1 c.in_ok-last.ensures.grows c.in_ok-named.ensures.grows in
+    let grows = grows_then c.in_ok-last.ensures.continues.grows c.in_ok-named.ensures.continues.grows in
     let found = c.in_ok-shown-in-None.ensures in
     let shown = c.in_ok-shown-in-None.shown in
     let at = c.all_of-at.result in
@@ -197,7 +191,7 @@ declare-walk_along-requires t c =
     found.target in
     let word = subst (AllowsWord g s1 (term_at s1.table c.args.scope.for_self)) (sym found.start) says in
     let is = is_still s s1 grows c.args.scope.for_self c.requires.for_self in
-    (omega (arith, c.decreases, same, few), (all_there b at r c.requires.system all, (grows.derivation, (is, ((_, target), word)))))
+    (omega (arith, c.decreases, same, few), (all_there b at r c.requires.system all, (is, ((_, target), word))))
 
 pub declare-returns-in_ok-walk_along-in-None : goal.declare-returns-in_ok-walk_along-in-None
 declare-returns-in_ok-walk_along-in-None t c =
@@ -208,7 +202,7 @@ declare-returns-in_ok-walk_along-in-None t c =
     let s2 = c.walk_along.new.derivation in
     let r = c.args.scope.system in
     let w = c.args.word.now in
-    let grows = grows_then s c.read_word.new.derivation s1 c.in_ok-last.ensures.grows c.in_ok-named.ensures.grows in
+    let grows = grows_then c.in_ok-last.ensures.continues.grows c.in_ok-named.ensures.continues.grows in
     let now = term_still s s1 grows c.args.scope.for_self c.requires.for_self in
     let found = c.in_ok-shown-in-None.ensures in
     let shown = c.in_ok-shown-in-None.shown in
@@ -220,6 +214,6 @@ declare-returns-in_ok-walk_along-in-None t c =
     let says = subst (λ z. States s2 (Requires (Conforms (read_word g z w) shown.named.proto))) now
     (proto_said g s2 _ w _ shown.named.proto end walked.both.right) in record {
       given = (found.rank, (found.there, found.of_step, says));
-      grows = grows_then s s1 s2 grows walked.grows;
-      derives = λ b f d. walked.derives b f (c.in_ok-named.ensures.derives b f (c.in_ok-last.ensures.derives b d));
+      continues = continues_then (continues_then (continues_anyway c.in_ok-last.ensures.continues) c.in_ok-named.ensures.continues)
+          walked.continues;
     }

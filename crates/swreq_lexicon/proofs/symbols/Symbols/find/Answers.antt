@@ -1,14 +1,44 @@
-use Rattle.std.proofs.Common.{◌≡◌, ◌∙◌, ◌+◌, ℕ, Option, MatchOption, length, get_or, take, slice_get, Some, Contains, ap, sym, subst, arith}
+use Rattle.std.proofs.Common.{◌≡◌, ◌∙◌, ◌+◌, ◌^◌, ◌<◌, ◌≤◌, ℕ, Bool, Option, MatchOption, length, get_or, take, slice_get, Some, Contains, ap, sym, subst, arith, true}
 use Rattle.std.proofs.lemmas.Option.{slice_get_within}
 use Rattle.swreq_closure.specs.Bits as sets
 use Rattle.swreq_closure.specs.Bits.{count_below}
+use Rattle.swreq_param.specs.declared.ids.NameId.{NameId}
+use Rattle.swreq_param.specs.declared.ids.ProtoId.{ProtoId}
 use Rattle.swreq_lexicon.specs.Lexicons.{pair}
-use Rattle.swreq_lexicon.specs.Symbols.{has_member, having, row_of, symbols_below, AreRows, SymbolsView}
+use Rattle.swreq_lexicon.specs.Symbols.{has_member, having, row_of, symbols_below, AreRows, AreStarts, SymbolsView}
 use Rattle.swreq_lexicon.specs.Views.{inherits_by}
 use Rattle.swreq_lexicon.proofs.Rows.{counted}
-use Rattle.swreq_lexicon.proofs.SymbolRanks.{start_is, rank_found, rank_nowhere, rank_not_had, rank_past, rank_fits}
+use Rattle.swreq_lexicon.proofs.SymbolRanks.{rank_found, rank_nowhere, rank_not_had, rank_past, rank_fits}
+use Rattle.swreq_lexicon.proofs.SymbolRanks.{start_is as symbols_start}
 use Rattle.swreq_lexicon.proofs.symbols.Symbols.find.Goals as goal
 use Rattle.swreq_lexicon.proofs.symbols.Symbols.find.Goals.{else-name-names-via-then-name-names+else-has, else-name-names-via-else-name-names}
+
+-- The rank, by what is read in the table: the protocol at its place, where the name begins, and how many have it before the place.
+module _ {read view : SymbolsView} (same : read ≡ view) (has : ProtoId → NameId → Bool) (names : ℕ)
+    (starts : AreStarts view.order has names view.starts) (rows : AreRows view.order has view.rows) (p : ProtoId) (a : NameId)
+    (below : a.rank < names) (place start before : ℕ) (stands : slice_get read.order place ≡ Some p)
+    (start_is : start ≡ get_or read.starts a.rank start) (before_is : before ≡ count_below (sets.has (row_of read.rows a)) place) where
+  placed : slice_get view.order place ≡ Some p
+  placed = ap (λ (v : SymbolsView). slice_get v.order place) (sym same) ∙ stands
+
+  begins : start ≡ length (symbols_below view.order has a.rank)
+  begins =
+      start_is ∙ ap (λ (v : SymbolsView). get_or v.starts a.rank start) same
+      ∙ symbols_start view.order has names view.starts starts a.rank start (omega (arith, below))
+
+  earlier : before ≡ length (having (take place view.order) has a)
+  earlier =
+      let within = slice_get_within view.order place p placed in
+      before_is ∙ ap (λ (v : SymbolsView). count_below (sets.has (row_of v.rows a)) place) same
+      ∙ counted view.order has view.rows rows a place (omega (arith, within))
+
+  fits : names ≤ 1048576 → length view.order ≤ 1048576 → start + before < 2 ^ 64
+  fits small few = rank_fits view.order has names p a place start before placed below small few begins earlier
+
+  found : has p a ≡ true → slice_get (symbols_below view.order has names) (start + before) ≡ Some (pair p a)
+  found e =
+      (λ i. slice_get (symbols_below view.order has names) (begins i + earlier i))
+      ∙ rank_found view.order has names p a place placed below e
 
 pub has-requires : goal.has-requires
 has-requires c =
@@ -17,41 +47,20 @@ has-requires c =
 
 pub overflow_add-result : goal.overflow_add-result
 overflow_add-result c =
-    let has = has_member (inherits_by c.args.protocols.now.places c.args.protocols.now.resolved.inherits) c.args.associated.now in
-    let order = c.args.self.now.order in
-    let below = c.if-name-names.true in
-    let start : c.index.result.now ≡ length (symbols_below order has c.args.name.rank) =
-    c.index.ensures ∙ ap (λ (v : SymbolsView). get_or v.starts c.args.name.rank c.index.result.now) c.self.view_is
-    ∙ start_is order has c.args.names c.args.self.now.starts c.requires.starts c.args.name.rank c.index.result.now (omega (arith, below)) in
-    let placed : slice_get order c.in_ok-place.place ≡ Some c.args.protocol =
-    ap (λ (v : SymbolsView). slice_get v.order c.in_ok-place.place) (sym c.self.view_is) ∙ c.in_ok-place.ensures.0 in
-    let within = slice_get_within order c.in_ok-place.place c.args.protocol placed in
-    let before : c.count_before-before.result ≡ length (having (take c.in_ok-place.place order) has c.args.name) =
-    c.count_before-before.ensures
-    ∙ ap (λ (v : SymbolsView). count_below (sets.has (row_of v.rows c.args.name)) c.in_ok-place.place) c.self.view_is
-    ∙ counted order has c.args.self.now.rows c.requires.rows c.args.name c.in_ok-place.place (omega (arith, within)) in
-    let fits = rank_fits order has c.args.names c.args.protocol c.args.name c.in_ok-place.place c.index.result.now
-    c.count_before-before.result placed
-    below c.requires.names c.requires.few start before in
-    omega (arith, fits)
+    let bound = fits c.self.view_is
+    (has_member (inherits_by c.args.protocols.now.places c.args.protocols.now.resolved.inherits) c.args.associated.now)
+    c.args.names c.requires.starts c.requires.rows c.args.protocol c.args.name c.if-name-names.true c.in_ok-place.place
+    c.index.result.now c.count_before-before.result c.in_ok-place.ensures.0 c.index.ensures c.count_before-before.ensures
+    c.requires.names c.requires.few in
+    omega (arith, bound)
 
 pub returns-in_ok-place : goal.returns-in_ok-place
 returns-in_ok-place c =
-    let has = has_member (inherits_by c.args.protocols.now.places c.args.protocols.now.resolved.inherits) c.args.associated.now in
-    let order = c.args.self.now.order in
-    let below = c.if-name-names.true in
-    let start : c.index.result.now ≡ length (symbols_below order has c.args.name.rank) =
-    c.index.ensures ∙ ap (λ (v : SymbolsView). get_or v.starts c.args.name.rank c.index.result.now) c.self.view_is
-    ∙ start_is order has c.args.names c.args.self.now.starts c.requires.starts c.args.name.rank c.index.result.now (omega (arith, below)) in
-    let placed : slice_get order c.in_ok-place.place ≡ Some c.args.protocol =
-    ap (λ (v : SymbolsView). slice_get v.order c.in_ok-place.place) (sym c.self.view_is) ∙ c.in_ok-place.ensures.0 in
-    let within = slice_get_within order c.in_ok-place.place c.args.protocol placed in
-    let before : c.count_before-before.result ≡ length (having (take c.in_ok-place.place order) has c.args.name) =
-    c.count_before-before.ensures
-    ∙ ap (λ (v : SymbolsView). count_below (sets.has (row_of v.rows c.args.name)) c.in_ok-place.place) c.self.view_is
-    ∙ counted order has c.args.self.now.rows c.requires.rows c.args.name c.in_ok-place.place (omega (arith, within)) in
-    (λ i. slice_get (symbols_below order has c.args.names) (start i + before i))
-    ∙ rank_found order has c.args.names c.args.protocol c.args.name c.in_ok-place.place placed below (sym c.has.ensures ∙ c.if-has.true)
+    found c.self.view_is
+    (has_member (inherits_by c.args.protocols.now.places c.args.protocols.now.resolved.inherits) c.args.associated.now)
+    c.args.names c.requires.starts c.requires.rows c.args.protocol c.args.name c.if-name-names.true c.in_ok-place.place
+    c.index.result.now c.count_before-before.result c.in_ok-place.ensures.0 c.index.ensures c.count_before-before.ensures
+    (sym c.has.ensures ∙ c.if-has.true)
 
 pub returns-in_err-place : goal.returns-in_err-place
 returns-in_err-place c =
