@@ -18,7 +18,7 @@ class Task:
 
 
 TASKS: Tuple[Task, ...] = (
-    Task("Add a query form", re.compile(r"\b(?:Ask|Query)(?:::|\.TheVariants| \{)|\bAsks[A-Z]")),
+    Task("Add a query form", re.compile(r"\b(?:Ask|Asks)(?:::|\.TheVariants| \{)|\bAsks[A-Z]")),
     Task("Add a command", re.compile(r"\b(?:Command|Content)(?:::[A-Z]|\.TheVariants| \{)")),
     # A new kind of requirement is named where `AnyObject` is, which is called the layout too.
     Task("Add a kind of requirement", re.compile(r"[Ll]ayout|AnyObject|any_object")),

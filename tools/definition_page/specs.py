@@ -3,7 +3,7 @@ and never less."""
 import pathlib
 import re
 from dataclasses import dataclass
-from typing import Dict, Iterable, List, Optional, Set, Tuple
+from typing import Dict, Iterable, Iterator, List, Optional, Set, Tuple
 
 # A module and a name in it: a definition, or a name of elsewhere.
 Key = Tuple[str, str]
@@ -12,6 +12,8 @@ Imports = Tuple[Dict[str, Key], Dict[str, str]]
 
 DEFINITION = re.compile(r"(\s*)(?:abbrev pub|unfoldable pub|pub record|pub data|abbrev|unfoldable|record|data) +([^\s:({]+)")
 WORD = re.compile(r"[A-Za-z_][\w\-]*(?:\.[A-Za-z_][\w\-]*)?")
+# A crate that another one passes on, by its name before that of a module.
+PASSED_ON = re.compile(r"Rattle\.\w+\.specs\.(?!declared\.)(\w+)\.(?=[A-Z]|declared\.)")
 
 
 @dataclass(frozen=True)
@@ -24,14 +26,42 @@ class Definition:
     line: int
 
 
+def home(module: str) -> str:
+    """The module where it stands, by whichever crate it is passed on."""
+    return PASSED_ON.sub(r"Rattle.\1.specs.", module)
+
+
+def parted(listed: str) -> Iterator[str]:
+    """The items of a list with commas between them, where an item may have a list of its own in braces."""
+    depth, item = 0, ""
+    for character in listed + ",":
+        depth += {"{": 1, "}": -1}.get(character, 0)
+        if character == "," and depth == 0:
+            if item.strip():
+                yield item.strip()
+            item = ""
+        else:
+            item += character
+
+
+def brought(module: str, listed: str) -> Iterator[Tuple[str, str]]:
+    """The modules and the items that a list brings from below a module."""
+    for item in parted(listed):
+        below, begins, rest = item.partition(".{")
+        if begins:
+            yield from brought("%s.%s" % (module, below), rest[:-1])
+        else:
+            yield home(module), item
+
+
 def uses(text: str, keyword: str) -> Imports:
     """What the lines of a text bring that begin with the keyword."""
     names: Dict[str, Key] = {}
-    for module, listed in re.findall(r"^(?:pub )?" + keyword + r" ([\w.]+)\.\{([^}]*)\}", text, re.M):
-        for item in re.split(r",\s*", listed.strip().rstrip(",")):
+    for module, listed in re.findall(r"^(?:pub )?" + keyword + r" ([\w.]+)\.\{(.*)\};?$", text, re.M):
+        for below, item in brought(module, listed):
             whole, _, local = item.partition(" as ")
-            names[local or whole.split(".")[-1]] = (module, whole)
-    return names, {alias: module for module, alias in re.findall(r"^" + keyword + r" ([\w.]+) as (\w+)", text, re.M)}
+            names[local or whole.split(".")[-1]] = (below, whole)
+    return names, {alias: home(module) for module, alias in re.findall(r"^" + keyword + r" ([\w.]+) as (\w+)", text, re.M)}
 
 
 def comment_above(lines: List[str], at: int) -> str:
@@ -100,8 +130,8 @@ class Specs:
         if (above, last) in self.definitions:
             return above, last
         # A name that the module itself has from elsewhere.
-        brought = self.imports.get(module, ({}, {}))[0]
-        return self.resolve(*brought[name]) if name in brought else None
+        own = self.imports.get(module, ({}, {}))[0]
+        return self.resolve(*own[name]) if name in own else None
 
     def named(self, text: str, module: str, imports: Imports) -> Tuple[Set[Key], Set[Key]]:
         """What the words of a text stand for: definitions of specs, and names of elsewhere."""

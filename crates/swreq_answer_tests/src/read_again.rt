@@ -1,19 +1,19 @@
 //! Lines of derivations that are read and printed again.
 
 ghost use Rattle.std.specs.Prelude.{◌≤◌, length};
-ghost use Rattle.swreq_decl.specs.Skeletons.{StandsFor};
+ghost use Rattle.swreq_resolve.specs.swreq_decl.Skeletons.{StandsFor};
 ghost use Rattle.swreq_print.specs.Reading.{TellsApart};
 
 use crate::lines::assert_text;
 use std::alloc::Global;
 use std::process::Abort;
 use std::test::Fail;
-use swreq_decl::Skeleton;
-use swreq_lexicon::Lexicon;
 use swreq_lines::{lines_text, read_lines};
-use swreq_lowering::laws::lists_are_short;
-use swreq_param::ParamTable;
+use swreq_print::decl::Skeleton;
 use swreq_print::laws::names_tell_ids_apart;
+use swreq_print::lexicon::Lexicon;
+use swreq_print::lowering::lists_are_short;
+use swreq_print::param::ParamTable;
 use swreq_resolve::resolve_names;
 use swreq_samples::skeleton_of;
 

@@ -1,12 +1,11 @@
 -- Words that are read alike.
-use Rattle.std.proofs.Common.{◌≡◌, inl, inr, ℕ, zero, suc, List, [], ◌∷◌}
-use Rattle.std.proofs.Common.{take, refl, sym, subst}
+use Rattle.std.proofs.Common.{◌≡◌, inl, inr, ℕ, zero, suc, List, [], ◌∷◌, take, refl, sym, subst}
 use Rattle.swreq_param.specs.declared.ids.TermId.{TermId}
 use Rattle.swreq_param.specs.Terms.{Term}
 use Rattle.swreq_param.specs.Tables.{IsOf, term_at}
-use Rattle.swreq_word.specs.declared.symbols.Symbol.{Symbol}
-use Rattle.swreq_rule.specs.declared.rules.Rule.{Rule}
-use Rattle.swreq_rule.specs.Oriented.{IsOriented}
+use Rattle.swreq_correspondence.specs.swreq_word.declared.symbols.Symbol.{Symbol}
+use Rattle.swreq_complete.specs.swreq_rule.declared.rules.Rule.{Rule}
+use Rattle.swreq_complete.specs.swreq_rule.Oriented.{IsOriented}
 use Rattle.swreq_derivation.specs.declared.derivation.Derivation.{Derivation}
 use Rattle.swreq_derivation.specs.UnderWay.{AddsLines}
 use Rattle.swreq_readings.specs.declared.alphabet.Alphabet.{Alphabet}

@@ -1,17 +1,16 @@
 -- What words ask of the type parameter after which they are read.
-use Rattle.std.proofs.Common.{◌≡◌, inl, inr, ℕ, ◌<◌, Bool, true, false, List, [], ◌∷◌, ◌++◌, length}
-use Rattle.std.proofs.Common.{take, slice_get, Some, Option, refl, sym, ap, subst, ◌∙◌, arith}
+use Rattle.std.proofs.Common.{◌≡◌, inl, inr, ℕ, ◌<◌, Bool, true, false, List, [], ◌∷◌, ◌++◌, length, take, slice_get, Some, Option, refl, sym, ap, subst, ◌∙◌, arith}
 use Rattle.swreq_param.specs.declared.ids.ProtoId.{ProtoId}
 use Rattle.swreq_param.specs.Terms.{Term}
-use Rattle.swreq_word.specs.declared.symbols.Symbol.{Symbol}
-use Rattle.swreq_word.specs.declared.symbols.Symbol.TheVariants.{Proto, Member, Param, Name, Layout}
-use Rattle.swreq_rule.specs.declared.rules.Rule.{Rule}
-use Rattle.swreq_rule.specs.Reduction.{Reduces, ReductionStep}
-use Rattle.swreq_word.specs.Relations.{Chain}
-use Rattle.swreq_word.specs.Relations.Chain.{done, more}
-use Rattle.swreq_derive.proofs.LineLemmas.{get_take}
+use Rattle.swreq_correspondence.specs.swreq_word.declared.symbols.Symbol.{Symbol}
+use Rattle.swreq_correspondence.specs.swreq_word.declared.symbols.Symbol.TheVariants.{Proto, Member, Param, Name, Layout}
+use Rattle.swreq_complete.specs.swreq_rule.declared.rules.Rule.{Rule}
+use Rattle.swreq_complete.specs.swreq_rule.Reduction.{Reduces, ReductionStep}
+use Rattle.swreq_correspondence.specs.swreq_word.Relations.{Chain}
+use Rattle.swreq_correspondence.specs.swreq_word.Relations.Chain.{done, more}
+use Rattle.swreq_correspondence.proofs.swreq_derive.LineLemmas.{get_take}
 use Rattle.swreq_births.specs.Systems.{ReducesTo}
-use Rattle.swreq_path.specs.Paths.{replaced_side}
+use Rattle.swreq_complete.specs.swreq_path.Paths.{replaced_side}
 use Rattle.swreq_derivation.specs.declared.derivation.Derivation.{Derivation}
 use Rattle.swreq_readings.specs.declared.alphabet.Alphabet.{Alphabet}
 use Rattle.swreq_readings.specs.Readable.{AllowsWord}

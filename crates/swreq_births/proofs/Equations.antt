@@ -5,16 +5,16 @@ use Rattle.swreq_param.specs.declared.ids.ProtoId.{ProtoId}
 use Rattle.swreq_param.specs.declared.ids.TermId.{TermId}
 use Rattle.swreq_param.specs.Tables.{IsOf, term_at}
 use Rattle.swreq_param.specs.Terms.{Term}
-use Rattle.swreq_derive.specs.Derivation.TermRequirement.{Conforms, IsAnyObject}
-use Rattle.swreq_derive.specs.Derivation.TermStatement.{Requires}
-use Rattle.swreq_word.specs.declared.symbols.Symbol.{Symbol}
-use Rattle.swreq_word.specs.declared.symbols.Symbol.TheVariants.{Layout as LayoutSymbol, Member, Name, Proto}
-use Rattle.swreq_rule.specs.declared.rules.Rule.{Rule}
+use Rattle.swreq_correspondence.specs.swreq_derive.Derivation.TermRequirement.{Conforms, IsAnyObject}
+use Rattle.swreq_correspondence.specs.swreq_derive.Derivation.TermStatement.{Requires}
+use Rattle.swreq_correspondence.specs.swreq_word.declared.symbols.Symbol.{Symbol}
+use Rattle.swreq_correspondence.specs.swreq_word.declared.symbols.Symbol.TheVariants.{Layout as LayoutSymbol, Member, Name, Proto}
+use Rattle.swreq_complete.specs.swreq_rule.declared.rules.Rule.{Rule}
 use Rattle.swreq_derivation.specs.declared.derivation.Derivation.{Derivation}
 use Rattle.swreq_derivation.specs.UnderWay.{AddsLines, States}
 use Rattle.swreq_readings.specs.declared.alphabet.Alphabet.{Alphabet}
-use Rattle.swreq_readings.specs.declared.alphabet.Named.{Named}
-use Rattle.swreq_readings.specs.Alphabets.{member_at}
+use Rattle.swreq_readings.specs.swreq_lexicon.declared.pair.ProtocolName.{ProtocolName}
+use Rattle.swreq_readings.specs.Alphabets.{lexicon, member_at}
 use Rattle.swreq_readings.specs.Readable.{AllowsWord, AreReadEqual, read_word}
 use Rattle.swreq_readings.proofs.ReadingLemmas.{is_still, read_on, term_still, word_both, word_right}
 use Rattle.swreq_births.specs.declared.history.History.{History}
@@ -79,21 +79,21 @@ module _ (g : Alphabet) (s : Derivation) (t : Term) (left right : List Symbol) w
       both_as g s t t (Proto p.rank ∷ Proto p.rank ∷ []) left (Proto p.rank ∷ []) right refl (sym e) (sym f)
       (record { left = (says, (says, tt)); right = (says, tt); equal = inl refl })
 
-  module _ (k : ℕ) (n : Named) (there : slice_get g.members k ≡ Some n) where
+  module _ (k : ℕ) (n : ProtocolName) (there : slice_get (lexicon g).symbols k ≡ Some n) where
     member_is : member_at g k ≡ n
-    member_is = get_or_from_slice_get g.members k n _ there
+    member_is = get_or_from_slice_get (lexicon g).symbols k n _ there
 
     -- a member symbol
     pub member_asks : left ≡ Proto n.proto.rank ∷ Name n.name.rank ∷ [] → IsHeadStated g s t left
         → States s (Requires (Conforms t (member_at g k).proto))
-    member_asks e a = subst (λ (z : Named). States s (Requires (Conforms t z.proto))) (sym member_is)
+    member_asks e a = subst (λ (z : ProtocolName). States s (Requires (Conforms t z.proto))) (sym member_is)
         (asked_of g s t left (Some n.proto) a (ap (head_of g) e))
 
     pub member_both : left ≡ Proto n.proto.rank ∷ Name n.name.rank ∷ [] → right ≡ Member k ∷ []
         → AreReadEqual g s t (Proto (member_at g k).proto.rank ∷ Name (member_at g k).name.rank ∷ []) (Member k ∷ [])
         → AreReadEqual g s t left right
     member_both e f w =
-        both_as g s t t _ left (Member k ∷ []) right refl (ap (λ (z : Named). Proto z.proto.rank ∷ Name z.name.rank ∷ []) member_is
+        both_as g s t t _ left (Member k ∷ []) right refl (ap (λ (z : ProtocolName). Proto z.proto.rank ∷ Name z.name.rank ∷ []) member_is
         ∙ sym e) (sym f) w
 
 -- ---- the equations of requirements

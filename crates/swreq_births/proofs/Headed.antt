@@ -1,21 +1,21 @@
 -- Both sides of each rule ask the same.
-use Rattle.std.proofs.Common.{◌≡◌, ◌⊎◌, inl, inr, ℕ, zero, suc, ◌+◌, ◌-◌, ◌<◌, ◌≤◌, List, [], ◌++◌, length, take, slice_get}
-use Rattle.std.proofs.Common.{Some, Option, None, refl, sym, ap, subst, ◌∙◌, arith, append_assoc}
-use Rattle.std.proofs.lemmas.Option.{get_or_from_slice_get, slice_get_within}
+use Rattle.std.proofs.Common.{◌≡◌, ◌⊎◌, inl, inr, ℕ, zero, suc, ◌+◌, ◌-◌, ◌<◌, ◌≤◌, List, [], ◌++◌, length, take, slice_get, Some, Option, None, refl, sym, ap, subst, ◌∙◌, arith, append_assoc}
+use Rattle.std.proofs.lemmas.Option.{get_or_from_slice_get, slice_get_within, same_Some}
 use Rattle.std.proofs.lemmas.Bool.{cases_lt}
 use Rattle.std.proofs.lemmas.List.{append-nil, get_or_past, take_all}
 use Rattle.swreq_param.specs.declared.ids.ProtoId.{ProtoId}
-use Rattle.swreq_word.specs.declared.symbols.Symbol.{Symbol}
-use Rattle.swreq_rule.specs.declared.rules.Birth.{Birth}
-use Rattle.swreq_rule.specs.declared.rules.Birth.TheVariants.{Given, Pair}
-use Rattle.swreq_rule.specs.declared.rules.Rule.{Rule}
-use Rattle.swreq_rule.specs.declared.rules.Place.{Place}
-use Rattle.swreq_rule.specs.Steps.{RuleAt}
-use Rattle.swreq_pair.specs.Pairs.{ContainmentPair, IsPair, OverlapPair}
+use Rattle.swreq_correspondence.specs.swreq_word.declared.symbols.Symbol.{Symbol}
+use Rattle.swreq_complete.specs.swreq_rule.declared.rules.Birth.{Birth}
+use Rattle.swreq_complete.specs.swreq_rule.declared.rules.Birth.TheVariants.{Given, Pair}
+use Rattle.swreq_complete.specs.swreq_rule.declared.rules.Rule.{Rule}
+use Rattle.swreq_complete.specs.swreq_rule.declared.rules.Place.{Place}
+use Rattle.swreq_complete.specs.swreq_rule.Steps.{RuleAt}
+use Rattle.swreq_complete.specs.swreq_pair.Pairs.{ContainmentPair, IsPair, OverlapPair}
 use Rattle.swreq_param.specs.Terms.{Term}
 use Rattle.swreq_derivation.specs.declared.derivation.Derivation.{Derivation}
-use Rattle.swreq_derive.proofs.LineLemmas.{get_take}
+use Rattle.swreq_correspondence.proofs.swreq_derive.LineLemmas.{get_take}
 use Rattle.swreq_readings.specs.declared.alphabet.Alphabet.{Alphabet}
+use Rattle.swreq_readings.specs.Alphabets.{lexicon}
 use Rattle.swreq_readings.specs.Readable.{AllowsWord, read_word}
 use Rattle.swreq_births.specs.declared.history.RulePlace.{RulePlace}
 use Rattle.swreq_births.specs.declared.history.History.{History}
@@ -26,14 +26,10 @@ use Rattle.swreq_births.specs.declared.history.Reason.{Reason}
 use Rattle.swreq_births.specs.declared.history.Reason.TheVariants.{Doubled, Named, Required}
 use Rattle.swreq_births.specs.declared.history.System.{System}
 use Rattle.swreq_births.specs.Heads.{head_of, IsHeadStated}
-use Rattle.swreq_births.proofs.Asking.{IsHeaded}
-use Rattle.swreq_births.specs.Systems.{HasRule, HasRules, HasShownSides, HasSystem, IsBornAt, IsGivenBy, IsHistory, IsShown, IsSystem}
-use Rattle.swreq_births.specs.Systems.{ReducesTo, rules_at, system_at, systems_of}
-use Rattle.std.proofs.lemmas.Option.{same_Some}
-use Rattle.swreq_births.proofs.Asking.{AreHeaded, head_front, head_of_born, head_put, head_reduces}
-use Rattle.swreq_births.proofs.Births.{head_of_pair, born_of, BornOf, GivenBy, PairedBy, first_allows, given_by, pair_kind, pair_within}
-use Rattle.swreq_births.proofs.Births.{paired_by, rule_at_number, second_allows}
-use Rattle.swreq_rule.proofs.Numbers.{number_some}
+use Rattle.swreq_births.proofs.Asking.{IsHeaded, AreHeaded, head_front, head_of_born, head_put, head_reduces}
+use Rattle.swreq_births.specs.Systems.{HasRule, HasRules, HasShownSides, HasSystem, IsBornAt, IsGivenBy, IsHistory, IsShown, IsSystem, ReducesTo, rules_at, system_at, systems_of}
+use Rattle.swreq_births.proofs.Births.{head_of_pair, born_of, BornOf, GivenBy, PairedBy, first_allows, given_by, pair_kind, pair_within, paired_by, rule_at_number, second_allows}
+use Rattle.swreq_complete.proofs.swreq_rule.Numbers.{number_some}
 
 -- ---- equations
 
@@ -61,7 +57,7 @@ given_headed b r (Doubled p) left right h = headed_by b.alphabet left right (Som
     (ap (head_of b.alphabet) h.1)
 given_headed b r (Named k) left right h =
     headed_by b.alphabet left right (Some h.0.proto) (ap (head_of b.alphabet) h.2)
-    (ap (head_of b.alphabet) h.3 ∙ ap (λ n. Some (Some n.proto)) (get_or_from_slice_get b.alphabet.members k h.0 _ h.1))
+    (ap (head_of b.alphabet) h.3 ∙ ap (λ n. Some (Some n.proto)) (get_or_from_slice_get (lexicon b.alphabet).symbols k h.0 _ h.1))
 given_headed b r (Required owner n q shown) left right h = sides_headed b.alphabet owner _ q left right h.1
 
 -- ---- pairs

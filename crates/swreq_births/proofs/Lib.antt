@@ -1,3 +1,5 @@
+pub use Rattle.swreq_param.proofs as swreq_param
+pub use Rattle.swreq_complete.proofs.swreq_watch as swreq_watch
 pub mod Alike
 pub mod Asking
 pub mod Births

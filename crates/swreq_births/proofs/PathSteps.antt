@@ -1,23 +1,17 @@
 -- The steps of paths, and the rules that numbers name.
-use Rattle.std.proofs.Common.{◌≡◌, ℕ, zero, suc, ◌+◌, ◌-◌, ◌<◌, List, [], ◌∷◌, ◌++◌, drop}
+use Rattle.std.proofs.Common.{◌≡◌, ℕ, suc, ◌+◌, ◌-◌, ◌<◌, List, [], ◌∷◌, ◌++◌, drop}
 use Rattle.std.proofs.Common.{take, slice_get, Some, sym, ap, subst, ◌∙◌, arith}
-use Rattle.swreq_word.specs.declared.symbols.Symbol.{Symbol}
-use Rattle.swreq_rule.specs.declared.rules.Rule.{Rule}
-use Rattle.swreq_rule.specs.Steps.{RuleAt}
-use Rattle.swreq_rule.proofs.Numbers.{one_rule}
-use Rattle.swreq_derive.proofs.LineLemmas.{get_take}
-use Rattle.swreq_path.specs.declared.paths.Path.{Path}
-use Rattle.swreq_path.specs.declared.steps.RewriteStep.{RewriteStep}
-use Rattle.swreq_path.specs.Paths.{HasTarget, replaced_side, put_side, StepLeads, StepsLead}
+use Rattle.swreq_correspondence.specs.swreq_word.declared.symbols.Symbol.{Symbol}
+use Rattle.swreq_complete.specs.swreq_rule.declared.rules.Rule.{Rule}
+use Rattle.swreq_complete.specs.swreq_rule.Steps.{RuleAt}
+use Rattle.swreq_complete.proofs.swreq_lemmas.Elements.{drop_from}
+use Rattle.swreq_complete.proofs.swreq_rule.Numbers.{one_rule}
+use Rattle.swreq_correspondence.proofs.swreq_derive.LineLemmas.{get_take}
+use Rattle.swreq_complete.specs.swreq_path.declared.paths.Path.{Path}
+use Rattle.swreq_complete.specs.swreq_path.declared.steps.RewriteStep.{RewriteStep}
+use Rattle.swreq_complete.specs.swreq_path.Paths.{HasTarget, replaced_side, put_side, StepLeads, StepsLead}
 
 -- ---- a step of a path
-
-pub from_place : {A : Type 0} (xs : List A) (i : ℕ) (x : A) → slice_get xs i ≡ Some x → drop i xs ≡ x ∷ drop (i + 1) xs
-from_place [] i x h = absurd cc
-from_place (y ∷ xs) zero x h = let e : y ≡ x = cc in ap (λ z. z ∷ xs) e
-from_place (y ∷ xs) (suc i) x h =
-    let e : suc i + 1 ≡ suc (i + 1) = omega arith in
-    subst (λ z. drop i xs ≡ x ∷ drop z (y ∷ xs)) (sym e) (from_place xs i x h)
 
 -- The step at this place leads on from the word.
 pub record GoesOn (rules : List Rule) (steps : List RewriteStep) (k : ℕ) (step : RewriteStep) (u b : List Symbol) : Type 0 where
@@ -29,7 +23,7 @@ pub goes_on : (rules : List Rule) (steps : List RewriteStep) (k : ℕ) (step : R
     → slice_get steps k ≡ Some step → StepsLead rules (drop k steps) u b
     → GoesOn rules steps k step u b
 goes_on rules steps k step u b e h =
-    let w = subst (λ z. StepsLead rules z u b) (from_place steps k step e) h in record { next = w.0; leads = w.1; rest = w.2 }
+    let w = subst (λ z. StepsLead rules z u b) (drop_from steps k step e) h in record { next = w.0; leads = w.1; rest = w.2 }
 
 -- if the first steps of a path lead to a word, the next step leads on from it
 pub goes_along : (rules taken : List Rule) (path : Path) (k : ℕ) (step : RewriteStep) (u b : List Symbol)
@@ -42,7 +36,7 @@ goes_along rules taken path k step u b same e left h =
 pub went_on : (rules : List Rule) (steps : List RewriteStep) (k : ℕ) (step : RewriteStep) (u v b : List Symbol)
     → slice_get steps k ≡ Some step → StepLeads rules step u v
     → StepsLead rules (drop (k + 1) steps) v b → StepsLead rules (drop k steps) u b
-went_on rules steps k step u v b e h r = subst (λ z. StepsLead rules z u b) (sym (from_place steps k step e)) (v, h, r)
+went_on rules steps k step u v b e h r = subst (λ z. StepsLead rules z u b) (sym (drop_from steps k step e)) (v, h, r)
 
 -- a rule among the first k rules, by its place among all rules
 pub rule_before : (rules : List Rule) (k n : ℕ) (a : Rule) → RuleAt (take k rules) n a → (n - 1 < k) × (slice_get rules (n - 1) ≡ Some a)

@@ -5,12 +5,12 @@ use Rattle.swreq_param.specs.declared.ids.Step.{Step}
 use Rattle.swreq_param.specs.declared.ids.TermId.{TermId}
 use Rattle.swreq_param.specs.Tables.{IsOf, term_at}
 use Rattle.swreq_param.specs.Terms.{Term}
-use Rattle.swreq_word.specs.declared.symbols.Symbol.{Symbol}
+use Rattle.swreq_correspondence.specs.swreq_word.declared.symbols.Symbol.{Symbol}
 use Rattle.swreq_derivation.specs.declared.derivation.Derivation.{Derivation}
 use Rattle.swreq_derivation.specs.UnderWay.{AddsLines, AreStatedEqual}
 use Rattle.swreq_derivation.proofs.DerivationLemmas.{grows_then}
 use Rattle.swreq_readings.specs.declared.alphabet.Alphabet.{Alphabet}
-use Rattle.swreq_readings.specs.declared.alphabet.Named.{Named}
+use Rattle.swreq_readings.specs.swreq_lexicon.declared.pair.ProtocolName.{ProtocolName}
 use Rattle.swreq_readings.specs.Readable.{AllowsWord, IsGiven, read_word}
 use Rattle.swreq_readings.proofs.ReadingLemmas.{equal_as, equal_still, is_still, term_still, word_still}
 use Rattle.swreq_births.specs.declared.giving.Origin.{Origin}
@@ -82,7 +82,7 @@ module _ (g : Alphabet) (s0 s s1 s2 : Derivation) (g0 : AddsLines s0 s) (g1 : Ad
   part_read stands = stands ∙ ap (read_word g (term_at s1.table t)) e ∙ ap (λ z. read_word g z w)
       (term_still s0 s1 (grows_then g0 g1) t h)
 
-  pub part_given : (x : Step) (n : Named) → IsGiven g s1 (read_word g (term_at s.table t) part) x n
+  pub part_given : (x : Step) (n : ProtocolName) → IsGiven g s1 (read_word g (term_at s.table t) part) x n
       → IsGiven g s1 (read_word g (term_at s0.table t) w) x n
   part_given x n = subst (λ z. IsGiven g s1 z x n)
       (ap (read_word g (term_at s.table t)) e ∙ ap (λ z. read_word g z w) (term_still s0 s g0 t h))

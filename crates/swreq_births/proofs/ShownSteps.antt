@@ -1,6 +1,5 @@
 -- The steps of type parameters that rules show valid, and what lines allow by them.
-use Rattle.std.proofs.Common.{◌≡◌, ℕ, zero, suc, ◌+◌, ◌<◌, List, [], ◌∷◌, ◌++◌, length, map, take, get_or, slice_get, Some, Option, None}
-use Rattle.std.proofs.Common.{refl, sym, ap, subst, ◌∙◌, arith, append_assoc}
+use Rattle.std.proofs.Common.{◌≡◌, ℕ, zero, suc, ◌+◌, ◌<◌, List, [], ◌∷◌, ◌++◌, length, map, take, get_or, slice_get, Some, Option, None, refl, sym, ap, subst, ◌∙◌, arith, append_assoc}
 use Rattle.std.proofs.lemmas.List.{append-nil, length-map, take-map}
 use Rattle.std.proofs.lemmas.Option.{get_or_from_slice_get, same_Some, slice_get_within}
 use Rattle.swreq_param.specs.declared.ids.ParamId.{ParamId}
@@ -9,22 +8,22 @@ use Rattle.swreq_param.specs.declared.ids.Step.{Step}
 use Rattle.swreq_param.specs.declared.ids.Step.TheVariants.{Bound, Name}
 use Rattle.swreq_param.specs.Terms.{Term, with_steps}
 use Rattle.swreq_param.specs.Terms.Term.{Generic, Member}
-use Rattle.swreq_lemmas.proofs.Elements.{get_map}
-use Rattle.swreq_word.specs.declared.symbols.Symbol.{Symbol}
-use Rattle.swreq_word.specs.declared.symbols.Symbol.TheVariants.{Proto, Member as MemberSymbol, Name as NameSymbol}
-use Rattle.swreq_rule.specs.declared.rules.Rule.{Rule}
+use Rattle.swreq_param.proofs.swreq_lemmas.Elements.{get_map}
+use Rattle.swreq_correspondence.specs.swreq_word.declared.symbols.Symbol.{Symbol}
+use Rattle.swreq_correspondence.specs.swreq_word.declared.symbols.Symbol.TheVariants.{Proto, Member as MemberSymbol, Name as NameSymbol}
+use Rattle.swreq_complete.specs.swreq_rule.declared.rules.Rule.{Rule}
 use Rattle.swreq_complete.specs.Alike.{ReduceAlike}
-use Rattle.swreq_derive.specs.Derivation.{Source, TermFacts, TermRequirement}
-use Rattle.swreq_derive.specs.Derivation.TermRequirement.{Conforms}
-use Rattle.swreq_derive.specs.Derivation.TermStatement.{Requires}
-use Rattle.swreq_correspondence.specs.Shown.{ShowsValid}
+use Rattle.swreq_correspondence.specs.swreq_derive.Derivation.{Source, TermFacts, TermRequirement}
+use Rattle.swreq_correspondence.specs.swreq_derive.Derivation.TermRequirement.{Conforms}
+use Rattle.swreq_correspondence.specs.swreq_derive.Derivation.TermStatement.{Requires}
+use Rattle.swreq_correspondence.specs.Shown.{ShowsConformance, ShowsValid}
 use Rattle.swreq_correspondence.specs.Symbols.{Symbols, Word, start, symbol, word_of}
 use Rattle.swreq_correspondence.proofs.Spelling.{spell-append}
 use Rattle.swreq_derivation.specs.declared.derivation.Derivation.{Derivation}
 use Rattle.swreq_derivation.specs.UnderWay.{AreStatedEqual, States}
 use Rattle.swreq_readings.specs.declared.alphabet.Alphabet.{Alphabet}
-use Rattle.swreq_readings.specs.declared.alphabet.Named.{Named}
-use Rattle.swreq_readings.specs.Alphabets.{member_at}
+use Rattle.swreq_readings.specs.swreq_lexicon.declared.pair.ProtocolName.{ProtocolName}
+use Rattle.swreq_readings.specs.Alphabets.{lexicon, member_at}
 use Rattle.swreq_readings.specs.Readable.{read_symbol, read_word, IsGiven, AllowsName, AllowsSymbol, AllowsWord}
 use Rattle.swreq_readings.proofs.ReadingLemmas.{equal_as, named_given, read_more, says_more}
 use Rattle.swreq_births.specs.Heads.{ConformsIfAny}
@@ -55,7 +54,7 @@ module _ (m : Symbols) (f : TermFacts) (s : Source) where
       ∙ append_assoc (word_of m s t) (symbol m x ∷ []) (map (symbol m) xs)
 
   module _ (C : Word → Word → Type 0) where
-    valid_front : (t : Term) (xs : List Step) → ShowsValid m f s C (with_steps t xs) → ShowsValid m f s C t
+    pub valid_front : (t : Term) (xs : List Step) → ShowsValid m f s C (with_steps t xs) → ShowsValid m f s C t
     valid_front t [] h = h
     valid_front t (Name a ∷ xs) h = (valid_front (Member t (Name a)) xs h).0
     valid_front t (Bound d ∷ xs) h = (valid_front (Member t (Bound d)) xs h).0
@@ -71,8 +70,8 @@ module _ (m : Symbols) (f : TermFacts) (s : Source) where
 -- The symbol is that of the step.
 abbrev pub Spells : Alphabet → Step → Symbol → Type 0
 Spells g (Name a) y = y ≡ NameSymbol a.rank
-Spells g (Bound d) y = (j : ℕ) × (n : Named) × (y ≡ MemberSymbol j) × (slice_get g.members j ≡ Some n) ×
-    (slice_get g.associated d.rank ≡ Some n)
+Spells g (Bound d) y = (j : ℕ) × (n : ProtocolName) × (y ≡ MemberSymbol j) × (slice_get (lexicon g).symbols j ≡ Some n) ×
+    (slice_get (lexicon g).associated d.rank ≡ Some n)
 
 module _ (g : Alphabet) (m : Symbols) (f : TermFacts) (s : Source) (rules : List Rule) (are : AreSymbols g m f) where
   spelled : (t : Term) (x : Step) → ShowsValid m f s (ReduceAlike rules) (Member t x) → Spells g x (symbol m x)
@@ -80,29 +79,17 @@ module _ (g : Alphabet) (m : Symbols) (f : TermFacts) (s : Source) (rules : List
   spelled t (Bound d) h =
       let w = h.1 in (m.rank_of d, record { proto = w.0; name = w.1 }, refl, are.members w.0 w.1 d w.2, are.associated w.0 w.1 d w.2)
 
-  step_shown : (t : Term) (x : Step) → ShowsValid m f s (ReduceAlike rules) (Member t x) → IsStepShown g rules (word_of m s t) x
+  -- a conformance that the rules show is shown by the word with the protocol's symbol after it
+  shown_behind : (t : Term) (p : ProtoId) → ShowsConformance m s (ReduceAlike rules) t p
+      → ReduceAlike rules (word_of m s t) (word_of m s t ++ Proto p.rank ∷ [])
+  shown_behind t p c =
+      alike_back rules _ _ (subst (λ z. ReduceAlike rules z (word_of m s t)) (sym (spell-append m s t [] (Proto p.rank ∷ []))) c)
+
+  pub step_shown : (t : Term) (x : Step) → ShowsValid m f s (ReduceAlike rules) (Member t x) → IsStepShown g rules (word_of m s t) x
   step_shown t (Name a) h =
-      let w = h.1 in (
-        w.1.rank,
-        record { proto = w.0; name = a },
-        (
-          are.associated w.0 a w.1 w.2,
-          refl,
-          alike_back rules _ _ (subst (λ z. ReduceAlike rules z (word_of m s t))
-              (sym (spell-append m s t [] (Proto w.0.rank ∷ []))) w.3),
-        ),
-      )
+      (let (p, d, c, k) = h.1 in (d.rank, record { proto = p; name = a }, (are.associated p a d c, refl, shown_behind t p k)))
   step_shown t (Bound d) h =
-      let w = h.1 in (
-        d.rank,
-        record { proto = w.0; name = w.1 },
-        (
-          are.associated w.0 w.1 d w.2,
-          refl,
-          alike_back rules _ _ (subst (λ z. ReduceAlike rules z (word_of m s t))
-              (sym (spell-append m s t [] (Proto w.0.rank ∷ []))) w.3),
-        ),
-      )
+      (let (p, a, c, k) = h.1 in (d.rank, record { proto = p; name = a }, (are.associated p a d c, refl, shown_behind t p k)))
 
 -- The step at this place of a type parameter that rules show, and its symbol in the word.
 pub record StepAt (g : Alphabet) (rules : List Rule) (w : List Symbol) (k : ℕ) (x : Step) : Type 0 where
@@ -176,30 +163,31 @@ begins_read g t owner rules hd xs w h = ap (read_word g t) (shown_start g owner 
 -- ---- what lines allow by a step
 
 -- the associated type of a bound step
-one_associated : (g : Alphabet) (k j : ℕ) (n o : Named) → j ≡ k → slice_get g.associated k ≡ Some n
-    → slice_get g.associated j ≡ Some o → o ≡ n
-one_associated g k j n o e h i = same_Some o n (sym i ∙ ap (slice_get g.associated) e ∙ h)
+one_associated : (g : Alphabet) (k j : ℕ) (n o : ProtocolName) → j ≡ k → slice_get (lexicon g).associated k ≡ Some n
+    → slice_get (lexicon g).associated j ≡ Some o → o ≡ n
+one_associated g k j n o e h i = same_Some o n (sym i ∙ ap (slice_get (lexicon g).associated) e ∙ h)
 
 -- If the step names an associated type, and a line states that the type parameter conforms to its protocol, lines allow the symbol of the
 -- step. It is read as the member with that name.
-pub symbol_given : (g : Alphabet) (s : Derivation) (t : Term) (x : Step) (n : Named) (y : Symbol) → IsGiven g s t x n → Spells g x y
+pub symbol_given : (g : Alphabet) (s : Derivation) (t : Term) (x : Step) (n : ProtocolName) (y : Symbol) → IsGiven g s t x n → Spells g x y
     → AllowsSymbol g s t y
 symbol_given g s t (Name a) n y w e = subst (AllowsSymbol g s t) (sym e) (named_given g s t a n w)
 symbol_given g s t (Bound d) n y w e =
     let o : e.1 ≡ n = one_associated g w.0 d.rank n e.1 w.1.1 w.1.0 e.4 in
-    let is : member_at g e.0 ≡ n = get_or_from_slice_get g.members e.0 e.1 _ e.3 ∙ o in
+    let is : member_at g e.0 ≡ n = get_or_from_slice_get (lexicon g).symbols e.0 e.1 _ e.3 ∙ o in
     subst (AllowsSymbol g s t) (sym e.2) (
-      slice_get_within g.members e.0 e.1 e.3,
-      subst (λ (z : Named). States s (Requires (Conforms t z.proto))) (sym is) w.1.2,
-      subst (λ (z : Named). AllowsName g s t z.name) (sym is) (n.proto, (w.0, w.1.0), w.1.2),
+      slice_get_within (lexicon g).symbols e.0 e.1 e.3,
+      subst (λ (z : ProtocolName). States s (Requires (Conforms t z.proto))) (sym is) w.1.2,
+      subst (λ (z : ProtocolName). AllowsName g s t z.name) (sym is) (n.proto, (w.0, w.1.0), w.1.2),
     )
 
-pub after_given : (g : Alphabet) (s : Derivation) (t : Term) (x : Step) (n : Named) (y : Symbol) → IsGiven g s t x n → Spells g x y
+pub after_given : (g : Alphabet) (s : Derivation) (t : Term) (x : Step) (n : ProtocolName) (y : Symbol) → IsGiven g s t x n → Spells g x y
     → read_symbol g t y ≡ Member t (Name n.name)
 after_given g s t (Name a) n y w e = ap (read_symbol g t) e ∙ ap (λ z. Member t (Name z)) (sym w.1.1)
 after_given g s t (Bound d) n y w e =
     let o : e.1 ≡ n = one_associated g w.0 d.rank n e.1 w.1.1 w.1.0 e.4 in
-    ap (read_symbol g t) e.2 ∙ ap (λ (z : Named). Member t (Name z.name)) (get_or_from_slice_get g.members e.0 e.1 _ e.3 ∙ o)
+    ap (read_symbol g t) e.2
+    ∙ ap (λ (z : ProtocolName). Member t (Name z.name)) (get_or_from_slice_get (lexicon g).symbols e.0 e.1 _ e.3 ∙ o)
 
 -- ---- a step more
 
@@ -209,8 +197,8 @@ pub record GoesOnBy (g : Alphabet) (s : Derivation) (t : Term) (w : List Symbol)
   pub equal : AreStatedEqual s u (read_word g t (take (k + 1 + 1) w))
 
 pub step_on : (g : Alphabet) (owner : Option ProtoId) (rules : List Rule) (hd : ParamId) (xs : List Step) (w : List Symbol)
-    → IsShown g owner rules (with_steps (Generic hd) xs) w → (s : Derivation) (t : Term) (k : ℕ) (x : Step) (n : Named) → slice_get xs k
-    ≡ Some x
+    → IsShown g owner rules (with_steps (Generic hd) xs) w
+    → (s : Derivation) (t : Term) (k : ℕ) (x : Step) (n : ProtocolName) → slice_get xs k ≡ Some x
     → AllowsWord g s t (take (k + 1) w) → IsGiven g s (read_word g t (take (k + 1) w)) x n
     → AreStatedEqual s (Member (placed owner t (with_steps (Generic hd) (take k xs))) x)
     (Member (read_word g t (take (k + 1) w)) (Name n.name))

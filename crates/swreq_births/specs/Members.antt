@@ -4,8 +4,8 @@ use Rattle.swreq_param.specs.declared.ids.ProtoId.{ProtoId}
 use Rattle.swreq_param.specs.declared.ids.Step.{Step}
 use Rattle.swreq_param.specs.Terms.{self}
 use Rattle.swreq_param.specs.Terms.Term.{Member}
-use Rattle.swreq_derive.specs.Derivation.TermRequirement.{Conforms}
-use Rattle.swreq_derive.specs.Instances.{HasNumber}
+use Rattle.swreq_correspondence.specs.swreq_derive.Derivation.TermRequirement.{Conforms}
+use Rattle.swreq_correspondence.specs.swreq_derive.Instances.{HasNumber}
 use Rattle.swreq_derivation.specs.UnderWay.{Assumptions}
 use Rattle.swreq_births.specs.declared.history.History.{History}
 use Rattle.swreq_births.specs.declared.history.Equation.{Equation}

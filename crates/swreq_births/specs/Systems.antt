@@ -5,25 +5,26 @@ use Rattle.swreq_param.specs.Terms.{Term}
 use Rattle.swreq_param.specs.declared.ids.AssocId.{AssocId}
 use Rattle.swreq_param.specs.declared.ids.NameId.{NameId}
 use Rattle.swreq_param.specs.declared.ids.ProtoId.{ProtoId}
-use Rattle.swreq_word.specs.declared.symbols.Symbol.{Symbol}
-use Rattle.swreq_word.specs.declared.symbols.Symbol.TheVariants.{Layout as LayoutSymbol, Member, Name, Proto}
-use Rattle.swreq_rule.specs.declared.rules.Birth.{Birth}
-use Rattle.swreq_rule.specs.declared.rules.Rule.{Rule}
-use Rattle.swreq_rule.specs.Oriented.{IsOriented}
-use Rattle.swreq_rule.specs.Reduction.{Reduces}
+use Rattle.swreq_correspondence.specs.swreq_word.declared.symbols.Symbol.{Symbol}
+use Rattle.swreq_correspondence.specs.swreq_word.declared.symbols.Symbol.TheVariants.{Layout as LayoutSymbol, Member, Name, Proto}
+use Rattle.swreq_complete.specs.swreq_rule.declared.rules.Birth.{Birth}
+use Rattle.swreq_complete.specs.swreq_rule.declared.rules.Rule.{Rule}
+use Rattle.swreq_complete.specs.swreq_rule.Oriented.{IsOriented}
+use Rattle.swreq_complete.specs.swreq_rule.Reduction.{Reduces}
 use Rattle.swreq_complete.specs.Alike.{ReduceAlike}
 use Rattle.swreq_complete.specs.Reached.{IsBorn}
-use Rattle.swreq_derive.specs.Derivation.{Declares, Source, TermFacts, TermRequirement}
-use Rattle.swreq_derive.specs.Derivation.Source.{SelfOf, Written}
-use Rattle.swreq_derive.specs.Derivation.TermRequirement.{Conforms, Equals, IsAnyObject}
-use Rattle.swreq_derive.specs.Facts.{generic_params}
-use Rattle.swreq_derive.specs.Instances.{HasNumber}
+use Rattle.swreq_correspondence.specs.swreq_derive.Derivation.{Declares, Source, TermFacts, TermRequirement}
+use Rattle.swreq_correspondence.specs.swreq_derive.Derivation.Source.{SelfOf, Written}
+use Rattle.swreq_correspondence.specs.swreq_derive.Derivation.TermRequirement.{Conforms, Equals, IsAnyObject}
+use Rattle.swreq_correspondence.specs.swreq_derive.Facts.{generic_params}
+use Rattle.swreq_correspondence.specs.swreq_derive.Instances.{HasNumber}
 use Rattle.swreq_correspondence.specs.Shown.{ShowsValid}
 use Rattle.swreq_correspondence.specs.Symbols.{Symbols, word_of}
 use Rattle.swreq_derivation.specs.UnderWay.{Assumptions}
 use Rattle.swreq_readings.specs.declared.alphabet.Alphabet.{Alphabet}
-use Rattle.swreq_readings.specs.declared.alphabet.Named.{Named}
-use Rattle.swreq_readings.specs.Alphabets.{FitsAssumptions, IsInherited}
+use Rattle.swreq_readings.specs.swreq_lexicon.declared.pair.ProtocolName.{ProtocolName}
+use Rattle.swreq_readings.specs.swreq_lexicon.Lexicons.{pair}
+use Rattle.swreq_readings.specs.Alphabets.{Fits, IsInherited, lexicon}
 use Rattle.swreq_births.specs.declared.history.RulePlace.{RulePlace}
 use Rattle.swreq_births.specs.declared.history.History.{History}
 use Rattle.swreq_births.specs.declared.history.Equation.{Equation}
@@ -47,12 +48,12 @@ abbrev pub source_of : Alphabet → List TermRequirement → Option ProtoId → 
 source_of g list (Some p) = SelfOf p
 source_of g list None = Written (generic_params g.params) list
 
--- Each associated type of the facts stands in the alphabet with its protocol and its name, and so does its member symbol.
+-- Each associated type of the facts is one of the text, with its protocol and its name, and so is its member symbol.
 pub record AreSymbols (g : Alphabet) (m : Symbols) (f : TermFacts) : Type 0 where
   pub associated : (p : ProtoId) (a : NameId) (d : AssocId) → Declares f p a d
-      → slice_get g.associated d.rank ≡ Some (record { proto = p; name = a })
+      → slice_get (lexicon g).associated d.rank ≡ Some (pair p a)
   pub members : (p : ProtoId) (a : NameId) (d : AssocId) → Declares f p a d
-      → slice_get g.members (m.rank_of d) ≡ Some (record { proto = p; name = a })
+      → slice_get (lexicon g).symbols (m.rank_of d) ≡ Some (pair p a)
 
 -- Reduction by the rules shows that T is valid, and this is the word of T.
 pub record IsShown (g : Alphabet) (owner : Option ProtoId) (rules : List Rule) (t : Term) (w : List Symbol) : Type 0 where
@@ -90,7 +91,8 @@ rules_at b r = (system_at b r).rules
 abbrev pub IsGivenBy : History → ℕ → Reason → List Symbol → List Symbol → Type 0
 IsGivenBy b r (Doubled p) left right = (left ≡ Proto p.rank ∷ Proto p.rank ∷ []) × (right ≡ Proto p.rank ∷ [])
 IsGivenBy b r (NamedBy k) left right =
-    (n : Named) × (slice_get b.alphabet.members k ≡ Some n) × (left ≡ Proto n.proto.rank ∷ Name n.name.rank ∷ []) × (right ≡ Member k ∷ [])
+    (n : ProtocolName) × (slice_get (lexicon b.alphabet).symbols k ≡ Some n)
+    × (left ≡ Proto n.proto.rank ∷ Name n.name.rank ∷ []) × (right ≡ Member k ∷ [])
 IsGivenBy b r (Required owner n q shown) left right = (shown < r) × HasShownSides b.alphabet owner (rules_at b shown) q left right
 
 -- ---- systems
@@ -143,7 +145,7 @@ IsWritten b _ = Unit {0}
 
 -- The names of the history are those of the facts, and the requirement of each reason is written.
 pub record FitsHistory (history : History) (b : Assumptions) : Type 0 where
-  pub alphabet : FitsAssumptions history.alphabet b
+  pub alphabet : Fits history.alphabet b
   pub written : (r k : ℕ) (e : Equation) → r < length (systems_of history) → slice_get (system_at history r).given k ≡ Some e → IsWritten b
       e.reason
 

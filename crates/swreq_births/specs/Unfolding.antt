@@ -2,10 +2,10 @@
 use Rattle.std.specs.Prelude.{ℕ, List, take}
 use Rattle.swreq_param.specs.declared.ids.TermId.{TermId}
 use Rattle.swreq_param.specs.Tables.{IsOf, term_at}
-use Rattle.swreq_word.specs.declared.symbols.Symbol.{Symbol}
-use Rattle.swreq_rule.specs.declared.rules.Rule.{Rule}
-use Rattle.swreq_path.specs.declared.paths.Path.{Path}
-use Rattle.swreq_path.specs.Paths.{HasTarget}
+use Rattle.swreq_correspondence.specs.swreq_word.declared.symbols.Symbol.{Symbol}
+use Rattle.swreq_complete.specs.swreq_rule.declared.rules.Rule.{Rule}
+use Rattle.swreq_complete.specs.swreq_path.declared.paths.Path.{Path}
+use Rattle.swreq_complete.specs.swreq_path.Paths.{HasTarget}
 use Rattle.swreq_derivation.specs.declared.derivation.Derivation.{Derivation}
 use Rattle.swreq_readings.specs.Readable.{AreReadEqual}
 use Rattle.swreq_births.specs.declared.history.Equation.{Equation}

@@ -1,26 +1,21 @@
 //! The equations of rounds, read after a type parameter.
 ghost use Rattle.std.specs.Prelude.{◌≡◌, ◌++◌, [], ◌∷◌, OnOk, Some, slice_get};
 ghost use Rattle.swreq_param.specs.Tables.{IsOf, term_at};
-ghost use Rattle.swreq_param.specs.Terms.{Term};
-ghost use Rattle.swreq_derive.specs.Derivation.TermRequirement.{Conforms, Equals, IsAnyObject};
-ghost use Rattle.swreq_derive.specs.Derivation.TermStatement.{Requires};
-ghost use Rattle.swreq_derive.specs.Instances.{HasNumber};
-ghost use Rattle.swreq_word.specs.declared.symbols.Symbol.TheVariants.{Layout, Member, Name, Proto};
-ghost use Rattle.swreq_derivation.specs.UnderWay.{AreStatedEqual, ContinuesFrom, States};
-ghost use Rattle.swreq_readings.specs.declared.alphabet.Named.{Named};
-ghost use Rattle.swreq_readings.specs.Alphabets.{FitsAssumptions, IsInherited, member_at};
-ghost use Rattle.swreq_readings.specs.Readable.{AreReadEqual};
-ghost use Rattle.swreq_births.specs.Readings.{IsOrigin, IsReadBy};
-ghost use Rattle.swreq_births.specs.Types.{placed, written_by};
+ghost use Rattle.swreq_correspondence.specs.swreq_derive.{Derivation.TermRequirement.{Conforms, IsAnyObject}, Derivation.TermStatement.{Requires}};
+ghost use Rattle.swreq_correspondence.specs.swreq_word.declared.symbols.Symbol.TheVariants.{Layout, Member, Name, Proto};
+ghost use Rattle.swreq_derivation.specs.UnderWay.{ContinuesFrom, States, StatesConformance, StatesEqual};
+ghost use Rattle.swreq_readings.specs.swreq_lexicon.declared.pair.ProtocolName.{ProtocolName};
+ghost use Rattle.swreq_readings.specs.{Alphabets.{Fits, IsInherited, lexicon, member_at}, Readable.{ReadsAlike}};
+ghost use Rattle.swreq_births.specs.Readings.{AreWrittenOf, IsOrigin, IsReadBy, IsWrittenOf};
 
 use std::alloc::AllocError;
+use swreq_complete::word::Symbol;
 use swreq_derivation::{
     Derivation, add_assoc_conf, add_assoc_layout, add_assoc_same, add_symm, add_trans,
     add_written_conf, add_written_layout, add_written_same,
 };
 use swreq_param::{ProtoId, TermId};
 use swreq_readings::{Alphabet, Sides, carry_conf, carry_layout, inherit, member_at, read_word};
-use swreq_word::Symbol;
 
 /// The requirement with this number, counted from 1: of the owner, with T for `Self`, or of the list if there is no owner.
 #[derive(Clone, Copy, Debug)]
@@ -38,25 +33,23 @@ pub(crate) fn give_member(
     rank: u64,
 ) -> Result<(), AllocError>
     requires inherited { IsInherited alphabet.now }
-    requires named { (n : Named) × (slice_get alphabet.now.members rank ≡ Some n) }
+    requires named { (n : ProtocolName)
+        × (slice_get (lexicon alphabet.now).symbols rank ≡ Some n) }
     requires subject { IsOf derivation.old.table subject }
     requires conforms { States derivation.old
         (Requires (Conforms (term_at derivation.old.table subject)
         (member_at alphabet.now rank).proto)) }
-    ensures both { OnOk result (AreReadEqual alphabet.now derivation.new
-        (term_at derivation.old.table subject)
+    ensures both { OnOk result (ReadsAlike alphabet.now derivation.old derivation.new subject
         (Proto (member_at alphabet.now rank).proto.rank ∷ Name
         (member_at alphabet.now rank).name.rank
         ∷ []) (Member rank ∷ [])) }
-    ensures continues { ContinuesFrom (FitsAssumptions alphabet.now) derivation.old
-        derivation.new }
+    ensures continues { ContinuesFrom (Fits alphabet.now) derivation.old derivation.new }
 {
     let named = member_at(alphabet, rank);
     inherit(alphabet, derivation, subject, named.proto, named.name)
 }
 
-/// Adds a line for the requirement `[U : Q]`. `subject` is the id of U, with T for `Self` if there is an
-/// owner.
+/// Adds a line for the requirement `[U : Q]`. `subject` is the id of U, with T for `Self` if there is an owner.
 fn put_conf(
     derivation: &mut Derivation,
     origin: Origin,
@@ -67,12 +60,9 @@ fn put_conf(
     requires subject { IsOf derivation.old.table subject }
     ensures table { derivation.new.table ≡ derivation.old.table }
     ensures conforms { OnOk result
-        (States derivation.new (Requires
-        (Conforms (term_at derivation.old.table subject) protocol))) }
-    ensures continues { ContinuesFrom (λ b. (v : Term)
-        × HasNumber origin.number (written_by b origin.owner) (Conforms v protocol)
-        × (term_at derivation.old.table subject
-        ≡ placed origin.owner (term_at derivation.old.table origin.for_self) v))
+        (StatesConformance derivation.old derivation.new subject protocol) }
+    ensures continues { ContinuesFrom
+        (IsWrittenOf derivation.old origin subject (λ v. Conforms v protocol))
         derivation.old derivation.new }
 {
     match origin.owner {
@@ -87,8 +77,7 @@ fn put_conf(
     }
 }
 
-/// Adds a line for the requirement `[U : AnyObject]`. `subject` is the id of U, with T for `Self` if there is an
-/// owner.
+/// Adds a line for the requirement `[U : AnyObject]`. `subject` is the id of U, with T for `Self` if there is an owner.
 fn put_layout(
     derivation: &mut Derivation,
     origin: Origin,
@@ -99,10 +88,8 @@ fn put_layout(
     ensures table { derivation.new.table ≡ derivation.old.table }
     ensures object { OnOk result
         (States derivation.new (Requires (IsAnyObject (term_at derivation.old.table subject)))) }
-    ensures continues { ContinuesFrom (λ b. (v : Term)
-        × HasNumber origin.number (written_by b origin.owner) (IsAnyObject v)
-        × (term_at derivation.old.table subject
-        ≡ placed origin.owner (term_at derivation.old.table origin.for_self) v))
+    ensures continues { ContinuesFrom
+        (IsWrittenOf derivation.old origin subject (λ v. IsAnyObject v))
         derivation.old derivation.new }
 {
     match origin.owner {
@@ -121,15 +108,8 @@ fn put_same(
     requires left { IsOf derivation.old.table sides.0 }
     requires right { IsOf derivation.old.table sides.1 }
     ensures table { derivation.new.table ≡ derivation.old.table }
-    ensures equal { OnOk result
-        (AreStatedEqual derivation.new (term_at derivation.old.table sides.0)
-        (term_at derivation.old.table sides.1)) }
-    ensures continues { ContinuesFrom (λ b. (u : Term) × (v : Term)
-        × HasNumber origin.number (written_by b origin.owner) (Equals u v)
-        × (term_at derivation.old.table sides.0
-        ≡ placed origin.owner (term_at derivation.old.table origin.for_self) u)
-        × (term_at derivation.old.table sides.1
-        ≡ placed origin.owner (term_at derivation.old.table origin.for_self) v))
+    ensures equal { OnOk result (StatesEqual derivation.old derivation.new sides.0 sides.1) }
+    ensures continues { ContinuesFrom (AreWrittenOf derivation.old origin sides.0 sides.1)
         derivation.old derivation.new }
 {
     match origin.owner {
@@ -139,8 +119,7 @@ fn put_same(
 }
 
 /// States that the two sides of the equation of a requirement `[U : Q]` are read alike. Lines state that U equals what its word is read as.
-/// `subject` is the id of U, with T for `Self` if there is an
-/// owner.
+/// `subject` is the id of U, with T for `Self` if there is an owner.
 pub(crate) fn give_conf(
     alphabet: &Alphabet,
     derivation: &mut Derivation,
@@ -151,13 +130,10 @@ pub(crate) fn give_conf(
 ) -> Result<(), AllocError>
     requires origin { IsOrigin derivation.old origin }
     requires side { IsReadBy alphabet.now derivation.old origin.for_self subject word.now }
-    ensures both { OnOk result (AreReadEqual alphabet.now derivation.new
-        (term_at derivation.old.table origin.for_self)
-        (word.now ++ Proto protocol.rank ∷ []) word.now) }
-    ensures continues { ContinuesFrom (λ b. (v : Term)
-        × HasNumber origin.number (written_by b origin.owner) (Conforms v protocol)
-        × (term_at derivation.old.table subject
-        ≡ placed origin.owner (term_at derivation.old.table origin.for_self) v))
+    ensures both { OnOk result (ReadsAlike alphabet.now derivation.old derivation.new
+        origin.for_self (word.now ++ Proto protocol.rank ∷ []) word.now) }
+    ensures continues { ContinuesFrom
+        (IsWrittenOf derivation.old origin subject (λ v. Conforms v protocol))
         derivation.old derivation.new }
 {
     put_conf(derivation, origin, subject, protocol)?;
@@ -176,13 +152,10 @@ pub(crate) fn give_layout(
 ) -> Result<(), AllocError>
     requires origin { IsOrigin derivation.old origin }
     requires side { IsReadBy alphabet.now derivation.old origin.for_self subject word.now }
-    ensures both { OnOk result (AreReadEqual alphabet.now derivation.new
-        (term_at derivation.old.table origin.for_self)
-        (word.now ++ Layout ∷ []) word.now) }
-    ensures continues { ContinuesFrom (λ b. (v : Term)
-        × HasNumber origin.number (written_by b origin.owner) (IsAnyObject v)
-        × (term_at derivation.old.table subject
-        ≡ placed origin.owner (term_at derivation.old.table origin.for_self) v))
+    ensures both { OnOk result (ReadsAlike alphabet.now derivation.old derivation.new
+        origin.for_self (word.now ++ Layout ∷ []) word.now) }
+    ensures continues { ContinuesFrom
+        (IsWrittenOf derivation.old origin subject (λ v. IsAnyObject v))
         derivation.old derivation.new }
 {
     put_layout(derivation, origin, subject)?;
@@ -202,14 +175,9 @@ pub(crate) fn give_same(
     requires origin { IsOrigin derivation.old origin }
     requires left { IsReadBy alphabet.now derivation.old origin.for_self ids.0 words.from.now }
     requires right { IsReadBy alphabet.now derivation.old origin.for_self ids.1 words.to.now }
-    ensures both { OnOk result (AreReadEqual alphabet.now derivation.new
-        (term_at derivation.old.table origin.for_self) words.entry.from.now words.entry.to.now) }
-    ensures continues { ContinuesFrom (λ b. (u : Term) × (v : Term)
-        × HasNumber origin.number (written_by b origin.owner) (Equals u v)
-        × (term_at derivation.old.table ids.0
-        ≡ placed origin.owner (term_at derivation.old.table origin.for_self) u)
-        × (term_at derivation.old.table ids.1
-        ≡ placed origin.owner (term_at derivation.old.table origin.for_self) v))
+    ensures both { OnOk result (ReadsAlike alphabet.now derivation.old derivation.new
+        origin.for_self words.entry.from.now words.entry.to.now) }
+    ensures continues { ContinuesFrom (AreWrittenOf derivation.old origin ids.0 ids.1)
         derivation.old derivation.new }
 {
     put_same(derivation, origin, ids)?;

@@ -2,11 +2,11 @@
 ghost use Rattle.std.specs.Prelude.{◌≡◌, ◌-◌, ◌<◌, ◌≤◌, ◌^◌, Some, length, slice_get, take};
 ghost use Rattle.swreq_births.specs.Systems.{rules_at, system_at, systems_of};
 
+use swreq_complete::rule::Rule;
+use swreq_complete::word::Word;
 use swreq_param::{ProtoId, TypeParam};
 use swreq_readings::{Alphabet, Sides};
-use swreq_rule::Rule;
 use swreq_text::Seq;
-use swreq_word::Word;
 
 /// A requirement that has its type parameters in full, not by ids: `[T : P]`, `[T : AnyObject]` or `[T == U]`.
 #[derive(Debug, Drop)]
@@ -54,11 +54,10 @@ pub struct System {
     pub given: Seq<Equation>,
 }
 
-/// The names of a text and of a list, and the systems of the rounds in order: those of the protocols, which are borrowed, and then those of
-/// the list.
+/// What words are read by, and the systems of the rounds in order: those of the protocols, which are borrowed, and then those of the list.
 #[derive(Drop)]
 pub struct History<'b> {
-    pub alphabet: Alphabet,
+    pub alphabet: Alphabet<'b>,
     pub below: &'b [System],
     pub own: Seq<System>,
 }

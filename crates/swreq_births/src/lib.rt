@@ -6,10 +6,8 @@
 
 mod giving;
 mod history;
-mod linking;
 mod members;
 mod pairs;
-mod pairs_by_kind;
 mod stepping;
 mod types;
 mod unfolding;
@@ -18,7 +16,6 @@ pub use history::{
     Equation, History, OwnedRequirement, Reason, RulePlace, System, all_rules, system_at,
     system_count,
 };
-pub use linking::link;
 pub use members::conform_by_member;
 pub use types::ReadingPlace;
-pub use unfolding::{declare, lines_of_rule, read_type};
+pub use unfolding::{declare, lines_of_rule, link, read_type};

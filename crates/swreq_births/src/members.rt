@@ -1,20 +1,16 @@
 //! Conformances of members that one written requirement of a protocol gives, without rules.
 ghost use Rattle.std.specs.Prelude.{◌≡◌, ◌<◌, false, IfOk, IfSome, IsTrue, None, length};
-ghost use Rattle.swreq_param.specs.Tables.{IsOf, term_at};
-ghost use Rattle.swreq_param.specs.Terms.{self};
-ghost use Rattle.swreq_param.specs.Terms.Term.{Member};
-ghost use Rattle.swreq_derive.specs.Derivation.TermRequirement.{Conforms};
-ghost use Rattle.swreq_derive.specs.Derivation.TermStatement.{Requires};
-ghost use Rattle.swreq_derivation.specs.UnderWay.{ContinuesFrom, States};
-ghost use Rattle.swreq_readings.specs.Readable.{IsGiven};
-ghost use Rattle.swreq_births.specs.Members.{AreWritten, IsMemberRequirement, IsWrittenOfMember};
-ghost use Rattle.swreq_births.specs.Systems.{FitsHistory, requirement_by};
+ghost use Rattle.swreq_param.specs.{Tables.{IsOf, term_at}, Terms.{self}, Terms.Term.{Member}};
+ghost use Rattle.swreq_correspondence.specs.swreq_derive.{Derivation.TermRequirement.{Conforms}, Derivation.TermStatement.{Requires}};
+ghost use Rattle.swreq_derivation.specs.UnderWay.{ContinuesFrom, States, StatesConformance};
+ghost use Rattle.swreq_readings.specs.{Alphabets.{lexicon}, Readable.{IsGiven}};
+ghost use Rattle.swreq_births.specs.{Members.{AreWritten, IsMemberRequirement, IsWrittenOfMember}, Systems.{FitsHistory, requirement_by}};
 
 use crate::history::{Equation, History, OwnedRequirement, Reason, system_at};
 use std::alloc::AllocError;
 use swreq_derivation::{Derivation, add_assoc_conf, conf_statement, is_stated};
 use swreq_param::{ParamId, ProtoId, Step, TermId};
-use swreq_readings::{Named, declared_at, given_step, is_of_step};
+use swreq_readings::{ProtocolName, declared_at, given_step, is_of_step};
 
 /// A written requirement of a protocol, by its number, counted from 1.
 #[derive(Clone, Copy, Debug)]
@@ -107,7 +103,7 @@ pub fn conform_by_member(
 ) -> Result<bool, AllocError>
     requires t { IsOf derivation.old.table t }
     ensures says { IfOk result (λ done. IsTrue done
-        → States derivation.new (Requires (Conforms (term_at derivation.old.table t) protocol))) }
+        → StatesConformance derivation.old derivation.new t protocol) }
     ensures unchanged { IfOk result (λ done. done ≡ false → derivation.new ≡ derivation.old) }
     ensures continues { ContinuesFrom (FitsHistory history.now) derivation.old derivation.new }
 {
@@ -136,10 +132,10 @@ fn written_step(
     derivation: &mut Derivation,
     t: TermId,
     step: Step,
-    k: usize,
-) -> Result<Option<Named>, AllocError>
+    k: u32,
+) -> Result<Option<ProtocolName>, AllocError>
     requires t { IsOf derivation.old.table t }
-    requires k { k < length history.now.alphabet.associated }
+    requires k { k < length (lexicon history.now.alphabet).associated }
     ensures given { IfOk result (λ o. IfSome o
         (IsGiven history.now.alphabet derivation.new (term_at derivation.old.table t) step)) }
     ensures unchanged { IfOk result (λ o. o ≡ None → derivation.new ≡ derivation.old) }
@@ -160,7 +156,7 @@ pub(crate) fn known_step(
     derivation: &mut Derivation,
     t: TermId,
     step: Step,
-) -> Result<Option<Named>, AllocError>
+) -> Result<Option<ProtocolName>, AllocError>
     requires t { IsOf derivation.old.table t }
     ensures given { IfOk result (λ o. IfSome o
         (IsGiven history.now.alphabet derivation.new (term_at derivation.old.table t) step)) }
@@ -169,7 +165,7 @@ pub(crate) fn known_step(
     if let Some(named) = given_step(&history.alphabet, derivation, t, step) {
         return Ok(Some(named));
     }
-    for k in 0..history.alphabet.associated.items().len() {
+    for k in 0..history.alphabet.world.lexicon().associated() {
         if let Some(named) = written_step(history, derivation, t, step, k)? {
             return Ok(Some(named));
         }

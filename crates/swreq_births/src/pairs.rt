@@ -1,20 +1,155 @@
 //! If the two sides of each of two rules are read alike, so are the two sides of their pairs.
-ghost use Rattle.std.specs.Prelude.{◌≡◌, ◌++◌, IfOk, OnOk};
+ghost use Rattle.std.specs.Prelude.{◌≡◌, ◌⊎◌, ◌≤◌, OnOk, List, length, drop, take, ◌++◌, IfOk};
 ghost use Rattle.swreq_param.specs.Tables.{IsOf, term_at};
-ghost use Rattle.swreq_rule.specs.Oriented.{IsOriented};
-ghost use Rattle.swreq_pair.specs.Pairs.{HasPair, IsPair};
-ghost use Rattle.swreq_derivation.specs.UnderWay.{Continues, ContinuesFrom};
-ghost use Rattle.swreq_readings.specs.Alphabets.{FitsAssumptions};
-ghost use Rattle.swreq_readings.specs.Readable.{AreReadEqual, read_word};
+ghost use Rattle.swreq_correspondence.specs.swreq_word.declared.symbols.Symbol.{Symbol as SymbolView};
+ghost use Rattle.swreq_complete.specs.swreq_pair.Pairs.{ContainmentPair, OverlapPair, HasPair, IsPair};
+ghost use Rattle.swreq_derivation.specs.UnderWay.{ContinuesFrom, Continues};
+ghost use Rattle.swreq_readings.specs.{Alphabets.{Fits}, Readable.{AreReadEqual, ReadsAlike, read_word}};
+ghost use Rattle.swreq_complete.specs.swreq_rule.Oriented.{IsOriented};
 ghost use Rattle.swreq_births.specs.Readings.{AreReadEqualAfter, AreReadEqualToEnds};
 
 use std::alloc::{AllocError, Global};
+use swreq_complete::pair::write_sides;
+use swreq_complete::rule::{Place, Rule};
+use swreq_complete::word::Symbol;
 use swreq_derivation::Derivation;
-use swreq_pair::write_sides;
 use swreq_param::TermId;
 use swreq_readings::{Alphabet, Sides, join, put_side, replace, turn};
-use swreq_rule::{Place, Rule};
-use swreq_word::Symbol;
+
+/// The first `count` symbols of a word.
+pub(crate) fn first_symbols(word: &[Symbol], count: usize) -> &[Symbol]
+    requires { count ≤ length word.now }
+    ensures { result.now ≡ take count word.now }
+{
+    &word[..count]
+}
+
+/// The word without its first `count` symbols.
+fn later_symbols(word: &[Symbol], count: usize) -> &[Symbol]
+    requires { count ≤ length word.now }
+    ensures { result.now ≡ drop count word.now }
+{
+    &word[count..]
+}
+
+/// If the left sides of two rules overlap at this place, states that the two sides of the pair are read alike.
+pub(crate) fn read_overlap(
+    alphabet: &Alphabet,
+    derivation: &mut Derivation,
+    subject: TermId,
+    first: &Rule,
+    second: &Rule,
+    at: usize,
+) -> Result<(), AllocError>
+    requires subject { IsOf derivation.old.table subject }
+    requires pair { (left : List SymbolView) × (right : List SymbolView)
+        × OverlapPair first.now second.now at left right }
+    requires first { ReadsAlike alphabet.now derivation.old derivation.old subject first.now.left
+        first.now.right }
+    requires second { AreReadEqual alphabet.now derivation.old
+        (read_word alphabet.now (term_at derivation.old.table subject) (take at first.now.left))
+        second.now.left second.now.right }
+    ensures both { OnOk result ((left right : List SymbolView) → OverlapPair first.now second.now
+        at left right → ReadsAlike alphabet.now derivation.old derivation.new subject left right) }
+    ensures continues { ContinuesFrom (Fits alphabet.now) derivation.old derivation.new }
+{
+    let left = first.left.symbols();
+    let common = left.len() - at;
+    read_across(
+        alphabet,
+        derivation,
+        subject,
+        Sides {
+            from: left,
+            to: first.right.symbols(),
+        },
+        Sides {
+            from: second.left.symbols(),
+            to: second.right.symbols(),
+        },
+        Around {
+            before: first_symbols(left, at),
+            after: later_symbols(second.left.symbols(), common),
+        },
+    )?;
+    Ok(())
+}
+
+/// If the left side of the second rule stands in that of the first at this place, states that the two sides of the pair are read alike.
+pub(crate) fn read_containment(
+    alphabet: &Alphabet,
+    derivation: &mut Derivation,
+    subject: TermId,
+    first: &Rule,
+    second: &Rule,
+    at: usize,
+) -> Result<(), AllocError>
+    requires subject { IsOf derivation.old.table subject }
+    requires pair { (left : List SymbolView) × (right : List SymbolView)
+        × ContainmentPair first.now second.now at left right }
+    requires first { ReadsAlike alphabet.now derivation.old derivation.old subject first.now.left
+        first.now.right }
+    requires second { AreReadEqual alphabet.now derivation.old
+        (read_word alphabet.now (term_at derivation.old.table subject) (take at first.now.left))
+        second.now.left second.now.right }
+    ensures both { OnOk result
+        ((left right : List SymbolView) → ContainmentPair first.now second.now at left right
+        → ReadsAlike alphabet.now derivation.old derivation.new subject left right) }
+    ensures continues { ContinuesFrom (Fits alphabet.now) derivation.old derivation.new }
+{
+    let left = first.left.symbols();
+    let end = at + second.left.symbols().len();
+    read_inside(
+        alphabet,
+        derivation,
+        subject,
+        first.right.symbols(),
+        Around {
+            before: first_symbols(left, at),
+            after: later_symbols(left, end),
+        },
+        Sides {
+            from: second.left.symbols(),
+            to: second.right.symbols(),
+        },
+    )?;
+    Ok(())
+}
+
+/// States that the two sides of the pair of the two rules at this place, of either kind, are read alike.
+pub(crate) fn read_pair(
+    alphabet: &Alphabet,
+    derivation: &mut Derivation,
+    subject: TermId,
+    first: &Rule,
+    second: &Rule,
+    at: usize,
+) -> Result<(), AllocError>
+    requires subject { IsOf derivation.old.table subject }
+    requires pair { ((left : List SymbolView) × (right : List SymbolView) × OverlapPair first.now
+        second.now at left right) ⊎ ((left : List SymbolView) × (right : List SymbolView) ×
+        ContainmentPair first.now second.now at left right) }
+    requires first { ReadsAlike alphabet.now derivation.old derivation.old subject first.now.left
+        first.now.right }
+    requires second { AreReadEqual alphabet.now derivation.old
+        (read_word alphabet.now (term_at derivation.old.table subject) (take at first.now.left))
+        second.now.left second.now.right }
+    ensures overlap { OnOk result
+        ((left right : List SymbolView) → OverlapPair first.now second.now at left right
+        → ReadsAlike alphabet.now derivation.old derivation.new subject left right) }
+    ensures containment { OnOk result
+        ((left right : List SymbolView) → ContainmentPair first.now second.now at left right
+        → ReadsAlike alphabet.now derivation.old derivation.new subject left right) }
+    ensures continues { ContinuesFrom (Fits alphabet.now) derivation.old derivation.new }
+{
+    let rest = first.left.symbols().len() - at;
+    if second.left.symbols().len() <= rest {
+        read_containment(alphabet, derivation, subject, first, second, at)?;
+        return Ok(());
+    }
+    read_overlap(alphabet, derivation, subject, first, second, at)?;
+    Ok(())
+}
 
 /// What stands before a part of a word, and what stands after it.
 #[derive(Clone, Copy)]
@@ -24,7 +159,11 @@ pub(crate) struct Around<'a> {
 }
 
 /// The two words, one after the other.
-fn joined(alloc: Global, first: &[Symbol], second: &[Symbol]) -> Result<Vec<Symbol>, AllocError>
+pub(crate) fn joined(
+    alloc: Global,
+    first: &[Symbol],
+    second: &[Symbol],
+) -> Result<Vec<Symbol>, AllocError>
     ensures { IfOk result (λ v. v.items ≡ first.now ++ second.now) }
 {
     let mut word = Vec::from_slice(alloc, first)?;
@@ -42,13 +181,12 @@ fn join_at(
     to: &[Symbol],
 ) -> Result<(), AllocError>
     requires subject { IsOf derivation.old.table subject }
-    requires first { AreReadEqual alphabet.now derivation.old
-        (term_at derivation.old.table subject) via.now from.now }
-    requires second { AreReadEqual alphabet.now derivation.old
-        (term_at derivation.old.table subject) via.now to.now }
+    requires first { ReadsAlike alphabet.now derivation.old derivation.old subject via.now
+        from.now }
+    requires second { ReadsAlike alphabet.now derivation.old derivation.old subject via.now
+        to.now }
     ensures both { OnOk result
-        (AreReadEqual alphabet.now derivation.new
-        (term_at derivation.old.table subject) from.now to.now) }
+        (ReadsAlike alphabet.now derivation.old derivation.new subject from.now to.now) }
     ensures continues { Continues derivation.old derivation.new }
 {
     turn(alphabet, derivation, subject, via, from)?;
@@ -67,17 +205,14 @@ pub(crate) fn read_inside(
     sides: Sides,
 ) -> Result<(), AllocError>
     requires subject { IsOf derivation.old.table subject }
-    requires first { AreReadEqual alphabet.now derivation.old (term_at derivation.old.table subject)
+    requires first { ReadsAlike alphabet.now derivation.old derivation.old subject
         (around.before.now ++ (sides.from.now ++ around.after.now)) reduct.now }
     requires second { AreReadEqual alphabet.now derivation.old
         (read_word alphabet.now (term_at derivation.old.table subject) around.before.now)
         sides.from.now sides.to.now }
-    ensures both { OnOk result (AreReadEqual alphabet.now derivation.new
-        (term_at derivation.old.table subject)
-        reduct.now
-        (around.entry.before.now ++ (sides.entry.to.now ++ around.entry.after.now))) }
-    ensures continues { ContinuesFrom (FitsAssumptions alphabet.now) derivation.old
-        derivation.new }
+    ensures both { OnOk result (ReadsAlike alphabet.now derivation.old derivation.new subject
+        reduct.now (around.entry.before.now ++ (sides.entry.to.now ++ around.entry.after.now))) }
+    ensures continues { ContinuesFrom (Fits alphabet.now) derivation.old derivation.new }
 {
     replace(
         alphabet,
@@ -106,14 +241,13 @@ pub(crate) fn close(
     rule: &Rule,
 ) -> Result<(), AllocError>
     requires subject { IsOf derivation.old.table subject }
-    requires words { AreReadEqual alphabet.now derivation.old
-        (term_at derivation.old.table subject) words.from.now words.to.now }
+    requires words { ReadsAlike alphabet.now derivation.old derivation.old subject words.from.now
+        words.to.now }
     requires ends { AreReadEqualToEnds alphabet.now derivation.old
         (term_at derivation.old.table subject) words ends }
     requires oriented { IsOriented rule.now ends.from.now ends.to.now }
-    ensures both { OnOk result
-        (AreReadEqual alphabet.now derivation.new
-        (term_at derivation.old.table subject) rule.now.left rule.now.right) }
+    ensures both { OnOk result (ReadsAlike alphabet.now derivation.old derivation.new subject
+        rule.now.left rule.now.right) }
     ensures continues { Continues derivation.old derivation.new }
 {
     join_at(
@@ -135,17 +269,15 @@ pub(crate) fn read_across(
     around: Around,
 ) -> Result<(), AllocError>
     requires subject { IsOf derivation.old.table subject }
-    requires first { AreReadEqual alphabet.now derivation.old
-        (term_at derivation.old.table subject) first.from.now first.to.now }
+    requires first { ReadsAlike alphabet.now derivation.old derivation.old subject first.from.now
+        first.to.now }
     requires second { AreReadEqualAfter alphabet.now derivation.old
         (term_at derivation.old.table subject) around.before.now second.from.now second.to.now }
     requires word { first.from.now ++ around.after.now ≡ around.before.now ++ second.from.now }
-    ensures both { OnOk result (AreReadEqual alphabet.now derivation.new
-        (term_at derivation.old.table subject)
+    ensures both { OnOk result (ReadsAlike alphabet.now derivation.old derivation.new subject
         (first.entry.to.now ++ around.entry.after.now)
         (around.entry.before.now ++ second.entry.to.now)) }
-    ensures continues { ContinuesFrom (FitsAssumptions alphabet.now) derivation.old
-        derivation.new }
+    ensures continues { ContinuesFrom (Fits alphabet.now) derivation.old derivation.new }
 {
     put_side(
         alphabet,

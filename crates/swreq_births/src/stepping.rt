@@ -1,19 +1,18 @@
 //! Steps by a rule whose two sides are read alike.
 ghost use Rattle.std.specs.Prelude.{◌≡◌, ◌-◌, ◌<◌, ◌≤◌, OnOk, ◌++◌, Some, length, slice_get};
 ghost use Rattle.swreq_param.specs.Tables.{IsOf, term_at};
-ghost use Rattle.swreq_rule.specs.Steps.{RuleAt};
-ghost use Rattle.swreq_path.specs.Paths.{put_side, replaced_side};
+ghost use Rattle.swreq_complete.specs.swreq_rule.Steps.{RuleAt};
+ghost use Rattle.swreq_complete.specs.swreq_path.Paths.{put_side, replaced_side};
 ghost use Rattle.swreq_derivation.specs.UnderWay.{ContinuesFrom};
-ghost use Rattle.swreq_readings.specs.Alphabets.{FitsAssumptions};
-ghost use Rattle.swreq_readings.specs.Readable.{AllowsWord, AreReadEqual, read_word};
+ghost use Rattle.swreq_readings.specs.{Alphabets.{Fits}, Readable.{AllowsWord, AreReadEqual, ReadsAlike, read_word}};
 
 use crate::history::RulePlace;
 use std::alloc::AllocError;
+use swreq_complete::path::{Path, RewriteStep};
+use swreq_complete::rule::Rule;
 use swreq_derivation::Derivation;
 use swreq_param::TermId;
-use swreq_path::{Path, RewriteStep};
 use swreq_readings::{Alphabet, Sides, replace, replace_back};
-use swreq_rule::Rule;
 
 /// The place of the rule with this number, counted from 1, in the same system.
 pub(crate) fn before(at: RulePlace, number: u32) -> RulePlace
@@ -58,12 +57,10 @@ pub(crate) fn take_step(
         rule.now.left rule.now.right }
     requires word { AllowsWord alphabet.now derivation.old (term_at derivation.old.table subject)
         (step.now.before ++ (replaced_side step.now.forward rule.now ++ step.now.after)) }
-    ensures both { OnOk result (AreReadEqual alphabet.now derivation.new
-        (term_at derivation.old.table subject)
+    ensures both { OnOk result (ReadsAlike alphabet.now derivation.old derivation.new subject
         (step.now.before ++ (replaced_side step.now.forward rule.now ++ step.now.after))
         (step.now.before ++ (put_side step.now.forward rule.now ++ step.now.after))) }
-    ensures continues { ContinuesFrom (FitsAssumptions alphabet.now) derivation.old
-        derivation.new }
+    ensures continues { ContinuesFrom (Fits alphabet.now) derivation.old derivation.new }
 {
     let left = rule.left.symbols();
     let right = rule.right.symbols();

@@ -1,21 +1,22 @@
 //! The steps of type parameters, if rules show them.
 ghost use Rattle.std.specs.Prelude.{◌≡◌, ◌++◌, ◌<◌, ◌-◌, ◌^◌, [], ◌∷◌, IfOk, IfSome, MatchOption, Some, length, slice_get};
-ghost use Rattle.swreq_param.specs.Tables.{IsOf, term_at};
-ghost use Rattle.swreq_param.specs.Terms.Term.{Generic};
-ghost use Rattle.swreq_word.specs.declared.symbols.Symbol.TheVariants.{Proto};
-ghost use Rattle.swreq_path.specs.Paths.{HasTarget};
+ghost use Rattle.swreq_param.specs.{Tables.{IsOf, term_at}, Terms.Term.{Generic}};
+ghost use Rattle.swreq_correspondence.specs.swreq_word.declared.symbols.Symbol.TheVariants.{Proto};
+ghost use Rattle.swreq_complete.specs.swreq_path.Paths.{HasTarget};
 ghost use Rattle.swreq_complete.specs.Alike.{ReduceAlike};
 ghost use Rattle.swreq_derivation.specs.UnderWay.{Continues};
-ghost use Rattle.swreq_readings.specs.declared.alphabet.Named.{Named as NamedView};
+ghost use Rattle.swreq_readings.specs.swreq_lexicon.declared.pair.ProtocolName.{ProtocolName as PairView};
+ghost use Rattle.swreq_readings.specs.Alphabets.{lexicon};
 ghost use Rattle.swreq_births.specs.Types.{HasPath, IsShownAt, IsStepShown, placed};
 
+use crate::pairs::joined;
 use std::alloc::{AllocError, Global};
+use swreq_complete::path::{Path, compose, invert, path_of};
+use swreq_complete::rule::Rule;
+use swreq_complete::word::{Symbol, are_same};
 use swreq_derivation::Derivation;
 use swreq_param::{ParamId, ProtoId, Step, TermId, TypeParam};
-use swreq_path::{Path, compose, invert, path_of};
-use swreq_readings::{Alphabet, Named, declared_at, is_of_step};
-use swreq_rule::Rule;
-use swreq_word::{Symbol, are_same};
+use swreq_readings::{Alphabet, ProtocolName, declared_at, is_of_step};
 
 /// How type parameters are read: by the rules of a system, as type parameters of requirements of the owner, or of the list if there is no
 /// owner, and after the type parameter `for_self`, which stands for `Self` of the owner.
@@ -29,7 +30,7 @@ pub struct ReadingPlace {
 /// An associated type, with the path from a word to the word with the symbol of its protocol after it.
 #[derive(Drop)]
 pub(crate) struct Shown {
-    pub named: Named,
+    pub named: ProtocolName,
     pub path: Path,
 }
 
@@ -72,8 +73,7 @@ pub(crate) fn path_between(
 ) -> Result<Option<Path>, AllocError>
     requires { length rules.now < 2 ^ 32 - 1 }
     ensures start { IfOk result (λ o. IfSome o (λ p. p.start ≡ from.now)) }
-    ensures target { IfOk result (λ o.
-        MatchOption o (ReduceAlike rules.now from.now to.now → ⊥)
+    ensures target { IfOk result (λ o. MatchOption o (ReduceAlike rules.now from.now to.now → ⊥)
         (λ p. HasTarget rules.now p to.now)) }
     ensures alike { IfOk result (λ o. IfSome o (λ p. ReduceAlike rules.now from.now to.now)) }
 {
@@ -89,21 +89,12 @@ pub(crate) fn path_between(
     Ok(None)
 }
 
-/// The word with a protocol symbol after it.
-fn with_proto(alloc: Global, word: &[Symbol], protocol: ProtoId) -> Result<Vec<Symbol>, AllocError>
-    ensures { IfOk result (λ v. v.items ≡ word.now ++ Proto protocol.rank ∷ []) }
-{
-    let mut longer = Vec::from_slice(alloc, word)?;
-    longer.push(Symbol::Proto(protocol.rank))?;
-    Ok(longer)
-}
-
 /// The path that shows the associated type after the word, or None if the rules do not show it there.
 fn shown_behind(
     alloc: Global,
     rules: &[Rule],
     word: &[Symbol],
-    named: Named,
+    named: ProtocolName,
 ) -> Result<Option<Path>, AllocError>
     requires { length rules.now < 2 ^ 32 - 1 }
     ensures start { IfOk result (λ o. IfSome o (λ p. p.start ≡ word.now)) }
@@ -111,7 +102,7 @@ fn shown_behind(
         (ReduceAlike rules.now word.now (word.now ++ Proto named.proto.rank ∷ []) → ⊥)
         (λ p. HasTarget rules.now p (word.now ++ Proto named.proto.rank ∷ []))) }
 {
-    let longer = with_proto(alloc, word, named.proto)?;
+    let longer = joined(alloc, word, &[Symbol::Proto(named.proto.rank)])?;
     path_between(alloc, rules, word, &longer)
 }
 
@@ -122,12 +113,12 @@ fn shown_at(
     rules: &[Rule],
     word: &[Symbol],
     step: Step,
-    rank: usize,
+    rank: u32,
 ) -> Result<Option<Shown>, AllocError>
     requires few { length rules.now < 2 ^ 32 - 1 }
-    requires rank { rank < length alphabet.now.associated }
+    requires rank { rank < length (lexicon alphabet.now).associated }
     ensures { IfOk result (λ o. MatchOption o
-        ((n : NamedView) → IsShownAt alphabet.now rules.now word.now step rank n → ⊥)
+        ((n : PairView) → IsShownAt alphabet.now rules.now word.now step rank n → ⊥)
         (HasPath alphabet.now rules.now word.now step)) }
 {
     let named = declared_at(alphabet, rank);
@@ -152,7 +143,7 @@ pub(crate) fn shown_step(
     requires shown { IsStepShown alphabet.now rules.now word.now step }
     ensures { IfOk result (HasPath alphabet.now rules.now word.now step) }
 {
-    for k in 0..alphabet.associated.items().len() {
+    for k in 0..alphabet.world.lexicon().associated() {
         match shown_at(alloc, alphabet, rules, word, step, k)? {
             Some(shown) => return Ok(shown),
             None => {}

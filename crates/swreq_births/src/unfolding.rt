@@ -1,16 +1,13 @@
 //! The two sides of a rule, read after a type parameter.
-ghost use Rattle.std.specs.Prelude.{◌≡◌, OnOk, IfOk, List};
-ghost use Rattle.swreq_param.specs.Owned.{as_term};
-ghost use Rattle.swreq_param.specs.Tables.{IsOf, term_at};
-ghost use Rattle.swreq_derive.specs.Instances.{HasNumber};
-ghost use Rattle.swreq_word.specs.declared.symbols.Symbol.{Symbol as SymbolView};
-ghost use Rattle.swreq_rule.specs.declared.rules.Birth.TheVariants as births;
-ghost use Rattle.swreq_derivation.specs.UnderWay.{AreStatedEqual, ContinuesFrom};
-ghost use Rattle.swreq_readings.specs.Readable.{AllowsWord, AreReadEqual, IsGiven, read_word};
-ghost use Rattle.swreq_births.specs.Heads.{ConformsIfAny};
-ghost use Rattle.swreq_births.specs.Systems.{FitsHistory, HasRule, HasRules, HasShownSides, HasSystem, IsBornAt, IsShown, ReducesTo, requirement_by, rules_at};
-ghost use Rattle.swreq_births.specs.Types.{IsStepShown, placed, written_by};
-ghost use Rattle.swreq_births.specs.Unfolding.{AllowsEquation, AllowsRule, AllowsScope, IsSaid, LeadsTo};
+ghost use Rattle.std.specs.Prelude.{OnOk, ◌≡◌, IfOk, List};
+ghost use Rattle.swreq_param.specs.{Tables.{IsOf, term_at}, Owned.{as_term}};
+ghost use Rattle.swreq_complete.specs.Alike.{ReduceAlike};
+ghost use Rattle.swreq_derivation.specs.UnderWay.{ContinuesFrom, AreStatedEqual};
+ghost use Rattle.swreq_readings.specs.Readable.{AllowsWord, ReadsAlike, IsGiven, read_word};
+ghost use Rattle.swreq_births.specs.{Systems.{FitsHistory, HasSystem, rules_at, HasRule, HasRules, HasShownSides, IsBornAt, IsShown, ReducesTo, requirement_by}, Heads.{ConformsIfAny}, Types.{IsStepShown, placed, written_by}, Unfolding.{AllowsEquation, AllowsRule, AllowsScope, IsSaid, LeadsTo}};
+ghost use Rattle.swreq_correspondence.specs.swreq_derive.Instances.{HasNumber};
+ghost use Rattle.swreq_correspondence.specs.swreq_word.declared.symbols.Symbol.{Symbol as SymbolView};
+ghost use Rattle.swreq_complete.specs.swreq_rule.declared.rules.Birth.TheVariants as births;
 
 use crate::giving::{Origin, give_conf, give_layout, give_member, give_same};
 use crate::history::{
@@ -18,17 +15,45 @@ use crate::history::{
     rules_before, sides_of, system_at,
 };
 use crate::members::known_step;
-use crate::pairs::{close, pair_sides};
-use crate::pairs_by_kind::{first_symbols, read_pair};
+use crate::pairs::{close, first_symbols, pair_sides, read_pair};
 use crate::stepping::{before, rule_of, step_of, take_step};
-use crate::types::{ReadingPlace, shown_step, start, step_at};
+use crate::types::{ReadingPlace, path_between, shown_step, start, step_at};
 use std::alloc::AllocError;
+use swreq_complete::path::{Path, path_of};
+use swreq_complete::rule::{Birth, Place, Rule};
+use swreq_complete::word::{Symbol, Word};
 use swreq_derivation::Derivation;
 use swreq_param::{Step, TermId, TypeParam};
-use swreq_path::{Path, path_of};
-use swreq_readings::{Named, Sides, are_read_equal, equal_member, join, read_word};
-use swreq_rule::{Birth, Place, Rule};
-use swreq_word::{Symbol, Word};
+use swreq_readings::{ProtocolName, Sides, are_read_equal, equal_member, join, read_word};
+
+/// If two words reduce to one by the rules of a system, and lines allow the first after T, then lines allow the second after T too, and
+/// state that the two are read as equal type parameters.
+pub fn link(
+    history: &History,
+    derivation: &mut Derivation,
+    system: usize,
+    subject: TermId,
+    from: &[Symbol],
+    to: &[Symbol],
+) -> Result<(), AllocError>
+    requires system { HasSystem history.now system }
+    requires subject { IsOf derivation.old.table subject }
+    requires word { AllowsWord history.now.alphabet derivation.old
+        (term_at derivation.old.table subject) from.now }
+    requires alike { ReduceAlike (rules_at history.now system) from.now to.now }
+    ensures both { OnOk result
+        (ReadsAlike history.now.alphabet derivation.old derivation.new subject from.now to.now) }
+    ensures continues { ContinuesFrom (FitsHistory history.now) derivation.old derivation.new }
+{
+    let rules = all_rules(history, system);
+    match path_between(derivation.alloc(), rules, from, to)? {
+        None => unreachable!(),
+        Some(path) => {
+            walk_along(history, derivation, all_of(system, rules), subject, &path)?;
+            Ok(())
+        }
+    }
+}
 
 /// If lines allow the first word of a path over the rules before this place, then they allow the last word too, and state that the two are
 /// read as equal type parameters. Answers the last word.
@@ -46,8 +71,8 @@ pub(crate) fn walk_along(
     requires word { AllowsWord history.now.alphabet derivation.old
         (term_at derivation.old.table subject) path.now.start }
     ensures target { IfOk result (λ w. LeadsTo history.now at path.now w) }
-    ensures both { IfOk result (λ w. AreReadEqual history.now.alphabet derivation.new
-        (term_at derivation.old.table subject) path.now.start w) }
+    ensures both { IfOk result (λ w. ReadsAlike history.now.alphabet derivation.old derivation.new
+        subject path.now.start w) }
     ensures continues { ContinuesFrom (FitsHistory history.now) derivation.old derivation.new }
 {
     let alphabet = &history.alphabet;
@@ -85,11 +110,12 @@ fn settle(
 ) -> Result<(), AllocError>
     requires rule { HasRule history.now at rule.now }
     requires subject { IsOf derivation.old.table subject }
-    requires both { AreReadEqual history.now.alphabet derivation.old
-        (term_at derivation.old.table subject) words.from.now words.to.now }
+    requires both { ReadsAlike history.now.alphabet derivation.old derivation.old subject
+        words.from.now words.to.now }
     requires reduces { ReducesTo (rules_at history.now at.system) at.rule
         words.from.now words.to.now rule.now }
-    ensures both { OnOk result (IsSaid history.now derivation.old derivation.new subject rule.now) }
+    ensures both { OnOk result (IsSaid history.now derivation.old derivation.new subject
+        rule.now) }
     ensures continues { ContinuesFrom (FitsHistory history.now) derivation.old derivation.new }
 {
     let rules = rules_before(history, at);
@@ -116,7 +142,8 @@ pub fn lines_of_rule(
     subject: TermId,
 ) -> Result<(), AllocError>
     requires { AllowsRule history.now derivation.old at rule.now subject }
-    ensures both { OnOk result (IsSaid history.now derivation.old derivation.new subject rule.now) }
+    ensures both { OnOk result (IsSaid history.now derivation.old derivation.new subject
+        rule.now) }
     ensures continues { ContinuesFrom (FitsHistory history.now) derivation.old derivation.new }
 {
     let system = system_at(history, at.system);
@@ -161,7 +188,8 @@ fn from_pair(
 ) -> Result<(), AllocError>
     requires asked { AllowsRule history.now derivation.old at rule.now subject }
     requires born { IsBornAt history.now at rule.now (births.Pair place.i place.j place.at) }
-    ensures both { OnOk result (IsSaid history.now derivation.old derivation.new subject rule.now) }
+    ensures both { OnOk result (IsSaid history.now derivation.old derivation.new subject
+        rule.now) }
     ensures continues { ContinuesFrom (FitsHistory history.now) derivation.old derivation.new }
 {
     let alphabet = &history.alphabet;
@@ -192,8 +220,8 @@ fn give_equation(
     subject: TermId,
 ) -> Result<(), AllocError>
     requires { AllowsEquation history.now derivation.old system equation.now subject }
-    ensures both { OnOk result (AreReadEqual history.now.alphabet derivation.new
-        (term_at derivation.old.table subject) equation.now.left equation.now.right) }
+    ensures both { OnOk result (ReadsAlike history.now.alphabet derivation.old derivation.new
+        subject equation.now.left equation.now.right) }
     ensures continues { ContinuesFrom (FitsHistory history.now) derivation.old derivation.new }
 {
     match &equation.reason {
@@ -232,8 +260,8 @@ fn give_required(
     requires scope { AllowsScope history.now derivation.old scope }
     requires shown { HasShownSides history.now.alphabet scope.owner
         (rules_at history.now scope.system) requirement.now words.from.now words.to.now }
-    ensures both { OnOk result (AreReadEqual history.now.alphabet derivation.new
-        (term_at derivation.old.table scope.for_self) words.entry.from.now words.entry.to.now) }
+    ensures both { OnOk result (ReadsAlike history.now.alphabet derivation.old derivation.new
+        scope.for_self words.entry.from.now words.entry.to.now) }
     ensures continues { ContinuesFrom (λ b. FitsHistory history.now b
         × HasNumber number (written_by b scope.owner) (requirement_by requirement.now))
         derivation.old derivation.new }
@@ -307,7 +335,7 @@ pub fn declare(
     scope: ReadingPlace,
     word: &[Symbol],
     step: Step,
-) -> Result<Named, AllocError>
+) -> Result<ProtocolName, AllocError>
     requires system { HasSystem history.now scope.system }
     requires for_self { IsOf derivation.old.table scope.for_self }
     requires word { AllowsWord history.now.alphabet derivation.old

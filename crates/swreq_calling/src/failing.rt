@@ -1,12 +1,9 @@
 //! Why a text gets no answers.
-ghost use Rattle.std.specs.Prelude.{◌≡◌};
-ghost use Rattle.swreq_calling.specs.declared.failing.Failed.TheVariants.{Memory};
-
 use std::alloc::AllocError;
-use swreq_decl::ParseErr;
-use swreq_resolve::NameErr;
+use swreq_machine::decl::ParseErr;
+use swreq_machine::resolve::NameErr;
+use swreq_machine::valid::Refused;
 use swreq_text::ReadErr;
-use swreq_valid::Refused;
 
 /// Why a text gets no answers, with the status of the program.
 #[derive(Clone, Copy)]
@@ -22,8 +19,6 @@ pub(crate) enum Failed {
 }
 
 impl From<AllocError> for Failed {
-    ghost from_gives = { λ _ e. e ≡ Memory };
-
     fn from(_: AllocError) -> Self {
         Failed::Memory
     }

@@ -1,35 +1,35 @@
 -- Each canonical requirement is a candidate, or follows from canonical requirements of earlier types.
 use Rattle.std.proofs.Common.{◌≡◌, ◌⊎◌, ◌<◌, ◌≤◌, ◌+◌, ℕ, suc, List, [], ◌∷◌, refl, subst, sym, ◌∙◌, inl, inr, arith}
-use Rattle.swreq_param.specs.declared.ids.AssocId.{AssocId}
-use Rattle.swreq_param.specs.declared.ids.NameId.{NameId}
-use Rattle.swreq_param.specs.declared.ids.ParamId.{ParamId}
-use Rattle.swreq_param.specs.declared.ids.ProtoId.{ProtoId}
-use Rattle.swreq_param.specs.declared.ids.Step.TheVariants.{Bound, Name}
-use Rattle.swreq_param.specs.Order.{TermBefore}
-use Rattle.swreq_param.specs.Terms.{Term, member_count}
-use Rattle.swreq_param.specs.Terms.Term.{Generic, Member}
-use Rattle.swreq_param.proofs.TotalOrder.{transitive}
-use Rattle.swreq_derive.specs.Derivation.{Declares, Derivable, Source, TermFacts, TermRequirement}
-use Rattle.swreq_derive.specs.Derivation.Derives.{assoc_bind, assoc_decl, symm, trans}
-use Rattle.swreq_derive.specs.Derivation.Source.{Written}
-use Rattle.swreq_derive.specs.Derivation.TermRequirement.{Conforms, Equals, IsAnyObject}
-use Rattle.swreq_derive.specs.Derivation.TermStatement.{Requires}
-use Rattle.swreq_derive.specs.Reduced.{IsReduced}
-use Rattle.swreq_word.specs.declared.symbols.Symbol.{Symbol}
-use Rattle.swreq_word.specs.declared.symbols.Symbol.TheVariants.{Member as MemberSymbol, Param as ParamSymbol}
-use Rattle.swreq_word.proofs.Chains.{joined}
-use Rattle.swreq_correspondence.specs.Equations.{UsableEquation}
-use Rattle.swreq_correspondence.specs.Readings.{CanRead}
-use Rattle.swreq_correspondence.specs.Symbols.{Symbols, Word, name_of}
-use Rattle.swreq_correspondence.specs.Types.{HasFirsts, IsFirstFor}
-use Rattle.swreq_correspondence.proofs.Chained.{turn_all}
-use Rattle.swreq_correspondence.proofs.Readings.{sides_of, valid_bound}
+use Rattle.swreq_canonical.specs.swreq_param.declared.ids.AssocId.{AssocId}
+use Rattle.swreq_canonical.specs.swreq_param.declared.ids.NameId.{NameId}
+use Rattle.swreq_canonical.specs.swreq_param.declared.ids.ParamId.{ParamId}
+use Rattle.swreq_canonical.specs.swreq_param.declared.ids.ProtoId.{ProtoId}
+use Rattle.swreq_canonical.specs.swreq_param.declared.ids.Step.TheVariants.{Bound, Name}
+use Rattle.swreq_canonical.specs.swreq_param.Order.{TermBefore}
+use Rattle.swreq_canonical.specs.swreq_param.Terms.{Term, member_count}
+use Rattle.swreq_canonical.specs.swreq_param.Terms.Term.{Generic, Member}
+use Rattle.swreq_canonical.proofs.swreq_param.TotalOrder.{transitive}
+use Rattle.swreq_canonical.specs.swreq_derive.Derivation.{Declares, Derivable, Source, TermFacts, TermRequirement}
+use Rattle.swreq_canonical.specs.swreq_derive.Derivation.Derives.{assoc_bind, assoc_decl, symm, trans}
+use Rattle.swreq_canonical.specs.swreq_derive.Derivation.Source.{Written}
+use Rattle.swreq_canonical.specs.swreq_derive.Derivation.TermRequirement.{Conforms, Equals, IsAnyObject}
+use Rattle.swreq_canonical.specs.swreq_derive.Derivation.TermStatement.{Requires}
+use Rattle.swreq_canonical.specs.swreq_derive.Reduced.{IsReduced}
+use Rattle.swreq_canonical.specs.swreq_word.declared.symbols.Symbol.{Symbol}
+use Rattle.swreq_canonical.specs.swreq_word.declared.symbols.Symbol.TheVariants.{Member as MemberSymbol, Param as ParamSymbol}
+use Rattle.swreq_canonical.proofs.swreq_word.Chains.{joined}
+use Rattle.swreq_canonical.specs.swreq_correspondence.Equations.{UsableEquation}
+use Rattle.swreq_canonical.specs.swreq_correspondence.Readings.{CanRead}
+use Rattle.swreq_canonical.specs.swreq_correspondence.Symbols.{Symbols, Word, name_of}
+use Rattle.swreq_canonical.specs.swreq_correspondence.Types.{HasFirsts, IsFirstFor}
+use Rattle.swreq_canonical.proofs.swreq_correspondence.Chained.{turn_all}
+use Rattle.swreq_canonical.proofs.swreq_correspondence.Readings.{sides_of, valid_bound}
 use Rattle.swreq_canonical.specs.Canonical.{IsCanonical, principal}
 use Rattle.swreq_canonical.specs.Generators.{Follows, IsEarlier, IsGenerator}
 use Rattle.swreq_canonical.proofs.Following.{by_one, by_two, wider}
 use Rattle.swreq_canonical.proofs.ReducedLemmas.{not_itself, result_reduced}
 use Rattle.swreq_canonical.proofs.Sides.{IsOfEarlierType, shorter_is_earlier}
-use Rattle.swreq_correspondence.proofs.OneType.{one_assoc}
+use Rattle.swreq_canonical.proofs.swreq_correspondence.OneType.{one_assoc}
 use Rattle.swreq_candidates.specs.Blocks.{AreMembersNamed, Cut}
 use Rattle.swreq_candidates.specs.Blocks.Place.{Outside}
 use Rattle.swreq_candidates.specs.Candidates.{IsCandidate}

@@ -1,36 +1,36 @@
 -- A link leaves the number of blocks, and changes one block to a congruent one.
 use Rattle.std.proofs.Common.{◌≡◌, ℕ, List, [], ◌∷◌, ◌++◌, Contains, refl, subst, subst₂, sym}
 use Rattle.std.specs.List.{AllZip}
-use Rattle.swreq_param.specs.declared.ids.ParamId.{ParamId}
-use Rattle.swreq_param.specs.declared.ids.ProtoId.{ProtoId}
-use Rattle.swreq_param.specs.Terms.{Term, head, self}
-use Rattle.swreq_param.specs.Terms.Term.{Generic}
-use Rattle.swreq_derive.specs.Derivation.{Derivable, Source, TermFacts, TermRequirement, for_self}
-use Rattle.swreq_derive.specs.Derivation.Derives.{assoc_conf, assoc_layout, assoc_same, conf, generic, layout, same, same_conf, same_layout, symm, trans}
-use Rattle.swreq_derive.specs.Derivation.Source.{SelfOf, Written}
-use Rattle.swreq_derive.specs.Derivation.TermRequirement.{Conforms, Equals, IsAnyObject}
-use Rattle.swreq_derive.specs.Derivation.TermStatement.{IsValid, Requires}
-use Rattle.swreq_derive.specs.WellFormed.{HasValidSides}
-use Rattle.swreq_derive.proofs.Substitution.{stands_for_self}
-use Rattle.swreq_word.specs.declared.symbols.Symbol.{Symbol}
-use Rattle.swreq_word.specs.declared.symbols.Symbol.TheVariants.{Layout as LayoutSymbol, Member as MemberSymbol, Name as NameSymbol, Param as ParamSymbol, Proto as ProtoSymbol}
-use Rattle.swreq_word.specs.Relations.Chain.{done, more}
-use Rattle.swreq_word.proofs.Chains.{at_once, joined}
-use Rattle.swreq_correspondence.specs.Equations.{AreCongruent, Equation, Gives, Link, UsableIn, UsableOf}
-use Rattle.swreq_correspondence.specs.Equations.Equation.{member, of_protocol, of_source, twice}
-use Rattle.swreq_correspondence.specs.Equations.Link.{back, forth, there}
-use Rattle.swreq_correspondence.specs.Readings.{CanRead, HasName, after, first}
-use Rattle.swreq_correspondence.specs.Symbols.{AreSymbolsOf, IsRank, Symbols, Word, left_side, name_of, proto_of, right_side, spell, steps}
-use Rattle.swreq_correspondence.proofs.Chained.{conf_link, layout_link, same_link, turn}
-use Rattle.swreq_correspondence.proofs.Correspondence.{own, read, root_param, self_conforms, valid_first}
-use Rattle.swreq_correspondence.proofs.Links.{of_self}
-use Rattle.swreq_correspondence.proofs.Readings.{unbound, valid_after}
-use Rattle.swreq_correspondence.proofs.Spelling.{spell-append}
+use Rattle.swreq_canonical.specs.swreq_param.declared.ids.ParamId.{ParamId}
+use Rattle.swreq_canonical.specs.swreq_param.declared.ids.ProtoId.{ProtoId}
+use Rattle.swreq_canonical.specs.swreq_param.Terms.{Term, head, self}
+use Rattle.swreq_canonical.specs.swreq_param.Terms.Term.{Generic}
+use Rattle.swreq_canonical.specs.swreq_derive.Derivation.{Derivable, Source, TermFacts, TermRequirement, for_self}
+use Rattle.swreq_canonical.specs.swreq_derive.Derivation.Derives.{assoc_conf, assoc_layout, assoc_same, conf, generic, layout, same, same_conf, same_layout, symm, trans}
+use Rattle.swreq_canonical.specs.swreq_derive.Derivation.Source.{SelfOf, Written}
+use Rattle.swreq_canonical.specs.swreq_derive.Derivation.TermRequirement.{Conforms, Equals, IsAnyObject}
+use Rattle.swreq_canonical.specs.swreq_derive.Derivation.TermStatement.{IsValid, Requires}
+use Rattle.swreq_canonical.specs.swreq_derive.WellFormed.{HasValidSides}
+use Rattle.swreq_canonical.proofs.swreq_derive.Substitution.{stands_for_self}
+use Rattle.swreq_canonical.specs.swreq_word.declared.symbols.Symbol.{Symbol}
+use Rattle.swreq_canonical.specs.swreq_word.declared.symbols.Symbol.TheVariants.{Layout as LayoutSymbol, Member as MemberSymbol, Name as NameSymbol, Param as ParamSymbol, Proto as ProtoSymbol}
+use Rattle.swreq_canonical.specs.swreq_word.Relations.Chain.{done, more}
+use Rattle.swreq_canonical.proofs.swreq_word.Chains.{at_once, joined}
+use Rattle.swreq_canonical.specs.swreq_correspondence.Equations.{AreCongruent, Equation, Gives, Link, UsableIn, UsableOf}
+use Rattle.swreq_canonical.specs.swreq_correspondence.Equations.Equation.{member, of_protocol, of_source, twice}
+use Rattle.swreq_canonical.specs.swreq_correspondence.Equations.Link.{back, forth, there}
+use Rattle.swreq_canonical.specs.swreq_correspondence.Readings.{CanRead, HasName, after, first}
+use Rattle.swreq_canonical.specs.swreq_correspondence.Symbols.{AreSymbolsOf, IsRank, Symbols, Word, left_side, name_of, proto_of, right_side, spell, steps}
+use Rattle.swreq_canonical.proofs.swreq_correspondence.Chained.{conf_link, layout_link, same_link, turn}
+use Rattle.swreq_canonical.proofs.swreq_correspondence.Correspondence.{own, read, root_param, self_conforms, valid_first}
+use Rattle.swreq_canonical.proofs.swreq_correspondence.Links.{of_self}
+use Rattle.swreq_canonical.proofs.swreq_correspondence.Readings.{unbound, valid_after}
+use Rattle.swreq_canonical.proofs.swreq_correspondence.Spelling.{spell-append}
 use Rattle.swreq_candidates.specs.Blocks.{AreMembersNamed, Cut, GoesOn, Place, blocks, current, over}
 use Rattle.swreq_candidates.specs.Blocks.Cut.{alone, on, opened}
 use Rattle.swreq_candidates.specs.Blocks.Place.{Inside, Outside}
 use Rattle.swreq_candidates.proofs.InsideBlocks.{AreStepsRead, Changes, HasCut, all_same, appears, equal_steps, goes_on, no_steps_read, steps_read, vanishes}
-use Rattle.swreq_correspondence.proofs.Context.{chain_before}
+use Rattle.swreq_canonical.proofs.swreq_correspondence.Context.{chain_before}
 
 module _ (m : Symbols) (f : TermFacts) (s : Source) (fit : AreSymbolsOf m f) where
   abbrev C : Word → Word → Type 0

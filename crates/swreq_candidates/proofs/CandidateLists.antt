@@ -2,38 +2,38 @@
 use Rattle.std.proofs.Common.{◌≡◌, ◌↔◌, ℕ, List, [], ◌∷◌, ◌++◌, Contains, Some, length, length-append, refl, ap, subst, sym, ◌∙◌, inl, inr, arith}
 use Rattle.std.specs.List.{slice_get}
 use Rattle.std.proofs.Math.Decide.{dec_lt}
-use Rattle.swreq_param.specs.declared.ids.NameId.{NameId}
-use Rattle.swreq_param.specs.declared.ids.ParamId.{ParamId}
-use Rattle.swreq_param.specs.declared.ids.ProtoId.{ProtoId}
-use Rattle.swreq_param.specs.declared.ids.Step.TheVariants.{Bound, Name}
-use Rattle.swreq_param.specs.Terms.{Term}
-use Rattle.swreq_param.specs.Terms.Term.{Generic, Member}
-use Rattle.swreq_derive.specs.Derivation.{Derivable, Source, TermFacts, TermRequirement}
-use Rattle.swreq_derive.specs.Derivation.Derives.{assoc_decl, generic}
-use Rattle.swreq_derive.specs.Derivation.Source.{Written}
-use Rattle.swreq_derive.specs.Derivation.TermRequirement.{Conforms, Equals, IsAnyObject}
-use Rattle.swreq_derive.specs.Derivation.TermStatement.{IsValid}
-use Rattle.swreq_lemmas.proofs.Members.{first_member, later_member, member_cases, no_member}
-use Rattle.swreq_word.specs.declared.symbols.Symbol.{Symbol}
-use Rattle.swreq_word.specs.declared.symbols.Symbol.TheVariants.{Layout as LayoutSymbol, Member as MemberSymbol, Name as NameSymbol, Param as ParamSymbol, Proto as ProtoSymbol}
-use Rattle.swreq_word.specs.Least.{IsLeast, IsMinimal}
-use Rattle.swreq_word.specs.Order.{WordLess}
-use Rattle.swreq_word.proofs.Chains.{joined}
-use Rattle.swreq_word.proofs.Comparing.{not_below_itself, trichotomy}
-use Rattle.swreq_word.proofs.LeastWords.{one_least}
-use Rattle.swreq_rule.specs.declared.rules.Rule.{Rule}
-use Rattle.swreq_complete.specs.Reduced.{IsReducedSystem}
-use Rattle.swreq_correspondence.specs.Equations.{AreCongruent}
-use Rattle.swreq_correspondence.specs.Readings.{CanReadAll, HasName, HasReading, after, first}
-use Rattle.swreq_correspondence.specs.Symbols.{Symbols, Word, name_of}
-use Rattle.swreq_correspondence.specs.Types.{IsTypeOf}
-use Rattle.swreq_correspondence.proofs.Chained.{turn_all}
-use Rattle.swreq_correspondence.proofs.OneType.{one_param, one_type}
-use Rattle.swreq_correspondence.proofs.Orders.{has_type}
-use Rattle.swreq_correspondence.proofs.Readings.{sides_of, valid_base, valid_generic}
+use Rattle.swreq_canonical.specs.swreq_param.declared.ids.NameId.{NameId}
+use Rattle.swreq_canonical.specs.swreq_param.declared.ids.ParamId.{ParamId}
+use Rattle.swreq_canonical.specs.swreq_param.declared.ids.ProtoId.{ProtoId}
+use Rattle.swreq_canonical.specs.swreq_param.declared.ids.Step.TheVariants.{Bound, Name}
+use Rattle.swreq_canonical.specs.swreq_param.Terms.{Term}
+use Rattle.swreq_canonical.specs.swreq_param.Terms.Term.{Generic, Member}
+use Rattle.swreq_canonical.specs.swreq_derive.Derivation.{Derivable, Source, TermFacts, TermRequirement}
+use Rattle.swreq_canonical.specs.swreq_derive.Derivation.Derives.{assoc_decl, generic}
+use Rattle.swreq_canonical.specs.swreq_derive.Derivation.Source.{Written}
+use Rattle.swreq_canonical.specs.swreq_derive.Derivation.TermRequirement.{Conforms, Equals, IsAnyObject}
+use Rattle.swreq_canonical.specs.swreq_derive.Derivation.TermStatement.{IsValid}
+use Rattle.swreq_canonical.proofs.swreq_lemmas.Members.{first_member, later_member, member_cases, no_member}
+use Rattle.swreq_canonical.specs.swreq_word.declared.symbols.Symbol.{Symbol}
+use Rattle.swreq_canonical.specs.swreq_word.declared.symbols.Symbol.TheVariants.{Layout as LayoutSymbol, Member as MemberSymbol, Name as NameSymbol, Param as ParamSymbol, Proto as ProtoSymbol}
+use Rattle.swreq_canonical.specs.swreq_word.Least.{IsLeast, IsMinimal}
+use Rattle.swreq_canonical.specs.swreq_word.Order.{WordLess}
+use Rattle.swreq_canonical.proofs.swreq_word.Chains.{joined}
+use Rattle.swreq_canonical.proofs.swreq_word.Comparing.{not_below_itself, trichotomy}
+use Rattle.swreq_canonical.proofs.swreq_word.LeastWords.{one_least}
+use Rattle.swreq_rounds.specs.swreq_rule.declared.rules.Rule.{Rule}
+use Rattle.swreq_rounds.specs.swreq_complete.Reduced.{IsReducedSystem}
+use Rattle.swreq_canonical.specs.swreq_correspondence.Equations.{AreCongruent}
+use Rattle.swreq_canonical.specs.swreq_correspondence.Readings.{CanReadAll, HasName, HasReading, after, first}
+use Rattle.swreq_canonical.specs.swreq_correspondence.Symbols.{Symbols, Word, name_of}
+use Rattle.swreq_canonical.specs.swreq_correspondence.Types.{IsTypeOf}
+use Rattle.swreq_canonical.proofs.swreq_correspondence.Chained.{turn_all}
+use Rattle.swreq_canonical.proofs.swreq_correspondence.OneType.{one_param, one_type}
+use Rattle.swreq_canonical.proofs.swreq_correspondence.Orders.{has_type}
+use Rattle.swreq_canonical.proofs.swreq_correspondence.Readings.{sides_of, valid_base, valid_generic}
 use Rattle.swreq_canonical.proofs.ReducedLemmas.{same_or_not}
 use Rattle.swreq_canonical.proofs.Sorting.{some_sorted}
-use Rattle.swreq_lemmas.proofs.Elements.{contains_get, get_contains}
+use Rattle.swreq_canonical.proofs.swreq_lemmas.Elements.{contains_get, get_contains}
 use Rattle.swreq_candidates.specs.Candidates.{IsCandidate, IsCandidateList, IsNamed, IsReadOff, IsReducedRule, SpeaksOf}
 use Rattle.swreq_candidates.specs.Completed.{IsCompleted}
 use Rattle.swreq_candidates.proofs.Completions.{canonical_here, firsts_here, over_text, param_decided, reads_here}

@@ -1,18 +1,18 @@
 -- What ended completions give the laws on candidates.
 use Rattle.std.proofs.Common.{◌≡◌, ◌⊎◌, ◌↔◌, List, [], ◌∷◌, Contains, length, refl, subst, subst₂, sym, inl, inr}
 use Rattle.std.proofs.Math.Decide.{dec_lt}
-use Rattle.swreq_param.specs.declared.ids.ParamId.{ParamId}
-use Rattle.swreq_param.specs.Terms.{Term}
-use Rattle.swreq_derive.specs.Derivation.{Derivable, Source, TermFacts, TermRequirement, TermStatement}
-use Rattle.swreq_derive.specs.Derivation.Source.{SelfOf, Written}
-use Rattle.swreq_derive.specs.Derivation.TermStatement.{Requires}
-use Rattle.swreq_derive.specs.Equivalence.{AreEquivalent}
-use Rattle.swreq_word.specs.declared.symbols.Symbol.{Symbol}
-use Rattle.swreq_word.specs.declared.symbols.Symbol.TheVariants.{Layout as LayoutSymbol, Member as MemberSymbol, Name as NameSymbol, Param as ParamSymbol, Proto as ProtoSymbol}
-use Rattle.swreq_correspondence.specs.Readings.{CanRead, after, first}
-use Rattle.swreq_correspondence.specs.Symbols.{IsOfText, Symbols, Word}
-use Rattle.swreq_correspondence.specs.Types.{HasFirsts}
-use Rattle.swreq_correspondence.proofs.Chained.{self_in_range}
+use Rattle.swreq_canonical.specs.swreq_param.declared.ids.ParamId.{ParamId}
+use Rattle.swreq_canonical.specs.swreq_param.Terms.{Term}
+use Rattle.swreq_canonical.specs.swreq_derive.Derivation.{Derivable, Source, TermFacts, TermRequirement, TermStatement}
+use Rattle.swreq_canonical.specs.swreq_derive.Derivation.Source.{SelfOf, Written}
+use Rattle.swreq_canonical.specs.swreq_derive.Derivation.TermStatement.{Requires}
+use Rattle.swreq_canonical.specs.swreq_derive.Equivalence.{AreEquivalent}
+use Rattle.swreq_canonical.specs.swreq_word.declared.symbols.Symbol.{Symbol}
+use Rattle.swreq_canonical.specs.swreq_word.declared.symbols.Symbol.TheVariants.{Layout as LayoutSymbol, Member as MemberSymbol, Name as NameSymbol, Param as ParamSymbol, Proto as ProtoSymbol}
+use Rattle.swreq_canonical.specs.swreq_correspondence.Readings.{CanRead, after, first}
+use Rattle.swreq_canonical.specs.swreq_correspondence.Symbols.{IsOfText, Symbols, Word}
+use Rattle.swreq_canonical.specs.swreq_correspondence.Types.{HasFirsts}
+use Rattle.swreq_canonical.proofs.swreq_correspondence.Chained.{self_in_range}
 use Rattle.swreq_canonical.specs.Canonical.{HasReducedTypes, IsCanonical, principal}
 use Rattle.swreq_canonical.specs.Generators.{AreDecided, AreEnough, AreGeneratorsTold, Follows, IsGenerator, IsGeneratorList, Takes}
 use Rattle.swreq_canonical.specs.Minimised.{IsMinimised, Leaves}

@@ -1,18 +1,18 @@
 -- A word is cut in one way, its blocks make the word, and words are congruent if and only if their blocks are.
 use Rattle.std.proofs.Common.{◌≡◌, ◌↔◌, List, [], ◌∷◌, ◌++◌, refl, ap, ap₂, subst, subst₂}
 use Rattle.std.specs.List.{AllZip}
-use Rattle.swreq_param.specs.declared.ids.ParamId.{ParamId}
-use Rattle.swreq_derive.specs.Derivation.{Source, TermFacts, TermRequirement}
-use Rattle.swreq_derive.specs.Derivation.Source.{Written}
-use Rattle.swreq_word.specs.Relations.Chain.{done}
-use Rattle.swreq_word.proofs.Chains.{joined}
-use Rattle.swreq_correspondence.specs.Equations.{AreCongruent, Linking, UsableEquation}
-use Rattle.swreq_correspondence.specs.Symbols.{AreSymbolsOf, Symbols, Word}
+use Rattle.swreq_canonical.specs.swreq_param.declared.ids.ParamId.{ParamId}
+use Rattle.swreq_canonical.specs.swreq_derive.Derivation.{Source, TermFacts, TermRequirement}
+use Rattle.swreq_canonical.specs.swreq_derive.Derivation.Source.{Written}
+use Rattle.swreq_canonical.specs.swreq_word.Relations.Chain.{done}
+use Rattle.swreq_canonical.proofs.swreq_word.Chains.{joined}
+use Rattle.swreq_canonical.specs.swreq_correspondence.Equations.{AreCongruent, Linking, UsableEquation}
+use Rattle.swreq_canonical.specs.swreq_correspondence.Symbols.{AreSymbolsOf, Symbols, Word}
 use Rattle.swreq_candidates.specs.Blocks.{AreMembersNamed, Cut, Place, blocks, current, joined_words}
 use Rattle.swreq_candidates.specs.Blocks.Cut.{alone, at_end, on, opened}
 use Rattle.swreq_candidates.specs.Blocks.Place.{Outside}
 use Rattle.swreq_candidates.proofs.Blocks.{blocks_law}
-use Rattle.swreq_correspondence.proofs.Context.{chain_after, chain_before}
+use Rattle.swreq_canonical.proofs.swreq_correspondence.Context.{chain_after, chain_before}
 
 module _ {m : Symbols} {f : TermFacts} {s : Source} where
   one_cut : {o : Place} {w : Word} → (k l : Cut m f s o w) → (current k ≡ current l) × (blocks k ≡ blocks l)

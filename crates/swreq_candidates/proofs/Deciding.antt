@@ -1,31 +1,31 @@
 -- Least words decide congruence, and so what is derivable.
 use Rattle.std.proofs.Common.{◌≡◌, [], ◌∷◌, Contains, length, refl, subst, sym, inl, inr}
 use Rattle.std.proofs.Math.Decide.{dec_lt}
-use Rattle.swreq_param.specs.declared.ids.NameId.{NameId}
-use Rattle.swreq_param.specs.declared.ids.ParamId.{ParamId}
-use Rattle.swreq_param.specs.declared.ids.ProtoId.{ProtoId}
-use Rattle.swreq_param.specs.declared.ids.Step.TheVariants.{Bound, Name}
-use Rattle.swreq_param.specs.Terms.{Term, self_param}
-use Rattle.swreq_param.specs.Terms.Term.{Generic, Member}
-use Rattle.swreq_derive.specs.Derivation.{AssociatedType, Declares, Derivable, HasParam, Source, TermFacts, TermStatement}
-use Rattle.swreq_derive.specs.Derivation.Derives.{assoc_decl, assoc_name, generic}
-use Rattle.swreq_derive.specs.Derivation.Source.{SelfOf, Written}
-use Rattle.swreq_derive.specs.Derivation.TermRequirement.{Conforms, Equals, IsAnyObject}
-use Rattle.swreq_derive.specs.Derivation.TermStatement.{IsValid, Requires}
-use Rattle.swreq_word.specs.declared.symbols.Symbol.{Symbol}
-use Rattle.swreq_word.specs.declared.symbols.Symbol.TheVariants.{Layout as LayoutSymbol, Member as MemberSymbol, Name as NameSymbol, Param as ParamSymbol, Proto as ProtoSymbol}
-use Rattle.swreq_word.proofs.Chains.{joined}
-use Rattle.swreq_word.proofs.Comparing.{trichotomy}
-use Rattle.swreq_correspondence.specs.Equations.{Linking, UsableEquation}
-use Rattle.swreq_correspondence.specs.Equations.Equation.{member, of_protocol, of_source, twice}
-use Rattle.swreq_correspondence.specs.Readings.{CanRead, HasName}
-use Rattle.swreq_correspondence.specs.Symbols.{AreOfText, AreSymbolsOf, IsInText, IsOfText, Symbols, Word, left_side, name_of, proto_of, right_side, spell}
-use Rattle.swreq_correspondence.specs.Types.{HasFirsts}
-use Rattle.swreq_correspondence.proofs.Chained.{turn_all}
-use Rattle.swreq_correspondence.proofs.Correspondence.{conforming_words, equal_words, layout_words}
-use Rattle.swreq_correspondence.proofs.Orders.{none_less}
-use Rattle.swreq_correspondence.proofs.Readings.{sides_of, valid_base, valid_bound, valid_generic, valid_name}
-use Rattle.swreq_correspondence.proofs.Shown.{linking_to}
+use Rattle.swreq_canonical.specs.swreq_param.declared.ids.NameId.{NameId}
+use Rattle.swreq_canonical.specs.swreq_param.declared.ids.ParamId.{ParamId}
+use Rattle.swreq_canonical.specs.swreq_param.declared.ids.ProtoId.{ProtoId}
+use Rattle.swreq_canonical.specs.swreq_param.declared.ids.Step.TheVariants.{Bound, Name}
+use Rattle.swreq_canonical.specs.swreq_param.Terms.{Term, self_param}
+use Rattle.swreq_canonical.specs.swreq_param.Terms.Term.{Generic, Member}
+use Rattle.swreq_canonical.specs.swreq_derive.Derivation.{AssociatedType, Declares, Derivable, HasParam, Source, TermFacts, TermStatement}
+use Rattle.swreq_canonical.specs.swreq_derive.Derivation.Derives.{assoc_decl, assoc_name, generic}
+use Rattle.swreq_canonical.specs.swreq_derive.Derivation.Source.{SelfOf, Written}
+use Rattle.swreq_canonical.specs.swreq_derive.Derivation.TermRequirement.{Conforms, Equals, IsAnyObject}
+use Rattle.swreq_canonical.specs.swreq_derive.Derivation.TermStatement.{IsValid, Requires}
+use Rattle.swreq_canonical.specs.swreq_word.declared.symbols.Symbol.{Symbol}
+use Rattle.swreq_canonical.specs.swreq_word.declared.symbols.Symbol.TheVariants.{Layout as LayoutSymbol, Member as MemberSymbol, Name as NameSymbol, Param as ParamSymbol, Proto as ProtoSymbol}
+use Rattle.swreq_canonical.proofs.swreq_word.Chains.{joined}
+use Rattle.swreq_canonical.proofs.swreq_word.Comparing.{trichotomy}
+use Rattle.swreq_canonical.specs.swreq_correspondence.Equations.{Linking, UsableEquation}
+use Rattle.swreq_canonical.specs.swreq_correspondence.Equations.Equation.{member, of_protocol, of_source, twice}
+use Rattle.swreq_canonical.specs.swreq_correspondence.Readings.{CanRead, HasName}
+use Rattle.swreq_canonical.specs.swreq_correspondence.Symbols.{AreOfText, AreSymbolsOf, IsInText, IsOfText, Symbols, Word, left_side, name_of, proto_of, right_side, spell}
+use Rattle.swreq_canonical.specs.swreq_correspondence.Types.{HasFirsts}
+use Rattle.swreq_canonical.proofs.swreq_correspondence.Chained.{turn_all}
+use Rattle.swreq_canonical.proofs.swreq_correspondence.Correspondence.{conforming_words, equal_words, layout_words}
+use Rattle.swreq_canonical.proofs.swreq_correspondence.Orders.{none_less}
+use Rattle.swreq_canonical.proofs.swreq_correspondence.Readings.{sides_of, valid_base, valid_bound, valid_generic, valid_name}
+use Rattle.swreq_canonical.proofs.swreq_correspondence.Shown.{linking_to}
 use Rattle.swreq_rounds.specs.Presents.{ProtocolEquation}
 use Rattle.swreq_candidates.specs.Completed.{HasLeastWords}
 use Rattle.swreq_candidates.proofs.Searches.{assocs_decided, both_decided, least_member, names_decided, params_decided, some_member}

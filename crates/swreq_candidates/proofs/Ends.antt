@@ -2,25 +2,25 @@
 -- least.
 use Rattle.std.proofs.Common.{◌≡◌, ◌⊎◌, ℕ, ◌-◌, ◌<◌, List, [], ◌∷◌, ◌++◌, length, length-append, take, append-nil, refl, ap, subst, sym, ◌∙◌, inl, inr, arith}
 use Rattle.std.proofs.Math.Seq.{take-append_seam}
-use Rattle.swreq_param.specs.declared.ids.ParamId.{ParamId}
-use Rattle.swreq_param.specs.declared.ids.ProtoId.{ProtoId}
-use Rattle.swreq_derive.specs.Derivation.{Source, TermFacts, TermRequirement}
-use Rattle.swreq_derive.specs.Derivation.Source.{Written}
-use Rattle.swreq_derive.specs.Derivation.TermRequirement.{Conforms, Equals, IsAnyObject}
-use Rattle.swreq_word.specs.declared.symbols.Symbol.{Symbol}
-use Rattle.swreq_word.specs.declared.symbols.Symbol.TheVariants.{Layout as LayoutSymbol, Member as MemberSymbol, Name as NameSymbol, Param as ParamSymbol, Proto as ProtoSymbol}
-use Rattle.swreq_word.specs.Least.{EachFactor, IsLeast, IsMinimal}
-use Rattle.swreq_word.specs.Order.{WordLess, symbol_cmp}
-use Rattle.swreq_word.specs.OrderLaws.{nat_less, then_less}
+use Rattle.swreq_canonical.specs.swreq_param.declared.ids.ParamId.{ParamId}
+use Rattle.swreq_canonical.specs.swreq_param.declared.ids.ProtoId.{ProtoId}
+use Rattle.swreq_canonical.specs.swreq_derive.Derivation.{Source, TermFacts, TermRequirement}
+use Rattle.swreq_canonical.specs.swreq_derive.Derivation.Source.{Written}
+use Rattle.swreq_canonical.specs.swreq_derive.Derivation.TermRequirement.{Conforms, Equals, IsAnyObject}
+use Rattle.swreq_canonical.specs.swreq_word.declared.symbols.Symbol.{Symbol}
+use Rattle.swreq_canonical.specs.swreq_word.declared.symbols.Symbol.TheVariants.{Layout as LayoutSymbol, Member as MemberSymbol, Name as NameSymbol, Param as ParamSymbol, Proto as ProtoSymbol}
+use Rattle.swreq_canonical.specs.swreq_word.Least.{EachFactor, IsLeast, IsMinimal}
+use Rattle.swreq_canonical.specs.swreq_word.Order.{WordLess, symbol_cmp}
+use Rattle.swreq_canonical.specs.swreq_word.OrderLaws.{nat_less, then_less}
 use Rattle.std.specs.declared.cmp.Ordering.TheVariants.{Less}
 use Rattle.std.specs.Ordering.{nat_cmp}
-use Rattle.swreq_word.specs.Relations.Chain.{done, more}
-use Rattle.swreq_word.proofs.Comparing.{less_cases}
-use Rattle.swreq_word.proofs.LeastWords.{each_by_ends}
-use Rattle.swreq_correspondence.specs.Equations.{AreCongruent, Equation, Link, Linking, UsableIn, UsableOf}
-use Rattle.swreq_correspondence.specs.Equations.Equation.{member, of_protocol, of_source, twice}
-use Rattle.swreq_correspondence.specs.Equations.Link.{back, forth, there}
-use Rattle.swreq_correspondence.specs.Symbols.{Symbols, Word, proto_of}
+use Rattle.swreq_canonical.specs.swreq_word.Relations.Chain.{done, more}
+use Rattle.swreq_canonical.proofs.swreq_word.Comparing.{less_cases}
+use Rattle.swreq_canonical.proofs.swreq_word.LeastWords.{each_by_ends}
+use Rattle.swreq_canonical.specs.swreq_correspondence.Equations.{AreCongruent, Equation, Link, Linking, UsableIn, UsableOf}
+use Rattle.swreq_canonical.specs.swreq_correspondence.Equations.Equation.{member, of_protocol, of_source, twice}
+use Rattle.swreq_canonical.specs.swreq_correspondence.Equations.Link.{back, forth, there}
+use Rattle.swreq_canonical.specs.swreq_correspondence.Symbols.{Symbols, Word, proto_of}
 use Rattle.swreq_candidates.proofs.LessParts.{less_at, nothing_less}
 use Rattle.swreq_candidates.proofs.Longer.{factor_least, least_by_none}
 

@@ -1,30 +1,30 @@
 -- Evidence by a list whose types are plain in it is a derivation.
 use Rattle.std.proofs.Common.{◌≡◌, ◌⊎◌, List, [], ◌∷◌, ◌++◌, Contains, append-nil, subst, subst₂, sym, inl, inr}
 use Rattle.std.proofs.lemmas.List.Elements.{Contains-append_left, Contains-append_right, Contains-append_cases}
-use Rattle.swreq_param.specs.declared.ids.ParamId.{ParamId}
-use Rattle.swreq_param.specs.declared.ids.Step.TheVariants.{Bound, Name}
-use Rattle.swreq_param.specs.Terms.{Term}
-use Rattle.swreq_param.specs.Terms.Term.{Generic, Member}
-use Rattle.swreq_derive.specs.Derivation.{Derivable, Source, TermFacts, TermRequirement}
-use Rattle.swreq_derive.specs.Derivation.Derives.{assoc_decl, conf, generic}
-use Rattle.swreq_derive.specs.Derivation.Source.{Written}
-use Rattle.swreq_derive.specs.Derivation.TermRequirement.{Conforms, Equals, IsAnyObject}
-use Rattle.swreq_derive.specs.Derivation.TermStatement.{IsValid, Requires}
-use Rattle.swreq_derive.specs.WellFormed.{HasValidSides}
-use Rattle.swreq_lemmas.proofs.Members.{first_member, later_member, member_cases}
-use Rattle.swreq_word.specs.Relations.{Linked}
-use Rattle.swreq_word.specs.Relations.Chain.{done, more}
-use Rattle.swreq_word.specs.Relations.Linked.{here as no_step, forth as step_forth, back as step_back}
-use Rattle.swreq_word.proofs.Chains.{at_once, joined}
-use Rattle.swreq_rule.specs.declared.rules.Rule.{Rule}
-use Rattle.swreq_rule.specs.Steps.{Step}
-use Rattle.swreq_correspondence.specs.Equations.{AreCongruent, Link, Linking, UsableEquation}
-use Rattle.swreq_correspondence.specs.Equations.Equation.{member, of_protocol, of_source, twice}
-use Rattle.swreq_correspondence.specs.Equations.Link.{back, forth, there}
-use Rattle.swreq_correspondence.specs.Symbols.{AreOfText, AreSymbolsOf, IsInText, Symbols, Word, left_side, right_side}
-use Rattle.swreq_correspondence.proofs.Chained.{chained_usable, turn, turn_all}
-use Rattle.swreq_correspondence.proofs.Correspondence.{conforming_words, equal_words, layout_words}
-use Rattle.swreq_correspondence.proofs.Shown.{linking_to}
+use Rattle.swreq_canonical.specs.swreq_param.declared.ids.ParamId.{ParamId}
+use Rattle.swreq_canonical.specs.swreq_param.declared.ids.Step.TheVariants.{Bound, Name}
+use Rattle.swreq_canonical.specs.swreq_param.Terms.{Term}
+use Rattle.swreq_canonical.specs.swreq_param.Terms.Term.{Generic, Member}
+use Rattle.swreq_canonical.specs.swreq_derive.Derivation.{Derivable, Source, TermFacts, TermRequirement}
+use Rattle.swreq_canonical.specs.swreq_derive.Derivation.Derives.{assoc_decl, conf, generic}
+use Rattle.swreq_canonical.specs.swreq_derive.Derivation.Source.{Written}
+use Rattle.swreq_canonical.specs.swreq_derive.Derivation.TermRequirement.{Conforms, Equals, IsAnyObject}
+use Rattle.swreq_canonical.specs.swreq_derive.Derivation.TermStatement.{IsValid, Requires}
+use Rattle.swreq_canonical.specs.swreq_derive.WellFormed.{HasValidSides}
+use Rattle.swreq_canonical.proofs.swreq_lemmas.Members.{first_member, later_member, member_cases}
+use Rattle.swreq_canonical.specs.swreq_word.Relations.{Linked}
+use Rattle.swreq_canonical.specs.swreq_word.Relations.Chain.{done, more}
+use Rattle.swreq_canonical.specs.swreq_word.Relations.Linked.{here as no_step, forth as step_forth, back as step_back}
+use Rattle.swreq_canonical.proofs.swreq_word.Chains.{at_once, joined}
+use Rattle.swreq_rounds.specs.swreq_rule.declared.rules.Rule.{Rule}
+use Rattle.swreq_rounds.specs.swreq_rule.Steps.{Step}
+use Rattle.swreq_canonical.specs.swreq_correspondence.Equations.{AreCongruent, Link, Linking, UsableEquation}
+use Rattle.swreq_canonical.specs.swreq_correspondence.Equations.Equation.{member, of_protocol, of_source, twice}
+use Rattle.swreq_canonical.specs.swreq_correspondence.Equations.Link.{back, forth, there}
+use Rattle.swreq_canonical.specs.swreq_correspondence.Symbols.{AreOfText, AreSymbolsOf, IsInText, Symbols, Word, left_side, right_side}
+use Rattle.swreq_canonical.proofs.swreq_correspondence.Chained.{chained_usable, turn, turn_all}
+use Rattle.swreq_canonical.proofs.swreq_correspondence.Correspondence.{conforming_words, equal_words, layout_words}
+use Rattle.swreq_canonical.proofs.swreq_correspondence.Shown.{linking_to}
 use Rattle.swreq_rounds.specs.Presents.{ProtocolEquation}
 use Rattle.swreq_canonical.specs.Canonical.{IsCanonical, principal}
 use Rattle.swreq_canonical.specs.CanonicalOrder.{IsStrictlySorted, RequirementBefore}
@@ -35,7 +35,7 @@ use Rattle.swreq_canonical.proofs.Ordered.{strict_requirements, transitive_requi
 use Rattle.swreq_canonical.proofs.Sides.{IsOfEarlierType, sides_by_earlier}
 use Rattle.swreq_candidates.specs.Evidence.{AreRulesOfRest, HasEvidence, HasPlainTypes, IsPlain, IsPlainIn, RestEquation}
 use Rattle.swreq_candidates.proofs.Inherited.{reached}
-use Rattle.swreq_correspondence.proofs.Context.{chain_after, chain_before, link_before}
+use Rattle.swreq_canonical.proofs.swreq_correspondence.Context.{chain_after, chain_before, link_before}
 
 -- ---- steps by rules
 

@@ -1,14 +1,14 @@
 -- Inheritance leads from a conformance to others, so the names that a protocol inherits are declared for `Self`.
 use Rattle.std.proofs.Common.{refl}
-use Rattle.swreq_param.specs.declared.ids.ProtoId.{ProtoId}
-use Rattle.swreq_param.specs.Terms.{Term, self}
-use Rattle.swreq_derive.specs.Derivation.{Derivable, Source, TermFacts}
-use Rattle.swreq_derive.specs.Derivation.Derives.{assoc_conf, conf, generic}
-use Rattle.swreq_derive.specs.Derivation.TermRequirement.{Conforms}
-use Rattle.swreq_derive.specs.Derivation.TermStatement.{Requires}
-use Rattle.swreq_derive.specs.Inheritance.{LeadsTo}
-use Rattle.swreq_derive.specs.Inheritance.LeadsTo.{further, here}
-use Rattle.swreq_correspondence.specs.Symbols.{Symbols}
+use Rattle.swreq_canonical.specs.swreq_param.declared.ids.ProtoId.{ProtoId}
+use Rattle.swreq_canonical.specs.swreq_param.Terms.{Term, self}
+use Rattle.swreq_canonical.specs.swreq_derive.Derivation.{Derivable, Source, TermFacts}
+use Rattle.swreq_canonical.specs.swreq_derive.Derivation.Derives.{assoc_conf, conf, generic}
+use Rattle.swreq_canonical.specs.swreq_derive.Derivation.TermRequirement.{Conforms}
+use Rattle.swreq_canonical.specs.swreq_derive.Derivation.TermStatement.{Requires}
+use Rattle.swreq_canonical.specs.swreq_derive.Inheritance.{LeadsTo}
+use Rattle.swreq_canonical.specs.swreq_derive.Inheritance.LeadsTo.{further, here}
+use Rattle.swreq_canonical.specs.swreq_correspondence.Symbols.{Symbols}
 use Rattle.swreq_candidates.specs.Blocks.{AreMembersDeclared, AreMembersNamed}
 
 pub reached : {f : TermFacts} {s : Source} {t : Term} {p q : ProtoId} → Derivable f s (Requires (Conforms t q)) → LeadsTo f q p

@@ -1,24 +1,24 @@
 -- What is cut inside a block, and how it changes where the words after a type change.
 use Rattle.std.proofs.Common.{◌≡◌, List, [], ◌∷◌, refl, ap, subst, subst₂, sym, ◌∙◌, arith}
 use Rattle.std.specs.List.{AllZip}
-use Rattle.swreq_param.specs.Terms.{Term, member_count}
-use Rattle.swreq_param.specs.Terms.Term.{Generic, Member}
-use Rattle.swreq_derive.specs.Derivation.{Derivable, Source, TermFacts}
-use Rattle.swreq_derive.specs.Derivation.Derives.{symm}
-use Rattle.swreq_derive.specs.Derivation.TermRequirement.{Equals}
-use Rattle.swreq_derive.specs.Derivation.TermStatement.{Requires}
-use Rattle.swreq_word.specs.declared.symbols.Symbol.{Symbol}
-use Rattle.swreq_word.specs.Relations.Chain.{done, more}
-use Rattle.swreq_word.proofs.Chains.{joined}
-use Rattle.swreq_correspondence.specs.Equations.{AreCongruent}
-use Rattle.swreq_correspondence.specs.Readings.{CanRead, CanReadAll, after}
-use Rattle.swreq_correspondence.specs.Symbols.{Symbols, Word, steps, symbol}
-use Rattle.swreq_correspondence.proofs.Chained.{behind}
-use Rattle.swreq_correspondence.proofs.Readings.{read_same, rest_is_read, unbound}
+use Rattle.swreq_canonical.specs.swreq_param.Terms.{Term, member_count}
+use Rattle.swreq_canonical.specs.swreq_param.Terms.Term.{Generic, Member}
+use Rattle.swreq_canonical.specs.swreq_derive.Derivation.{Derivable, Source, TermFacts}
+use Rattle.swreq_canonical.specs.swreq_derive.Derivation.Derives.{symm}
+use Rattle.swreq_canonical.specs.swreq_derive.Derivation.TermRequirement.{Equals}
+use Rattle.swreq_canonical.specs.swreq_derive.Derivation.TermStatement.{Requires}
+use Rattle.swreq_canonical.specs.swreq_word.declared.symbols.Symbol.{Symbol}
+use Rattle.swreq_canonical.specs.swreq_word.Relations.Chain.{done, more}
+use Rattle.swreq_canonical.proofs.swreq_word.Chains.{joined}
+use Rattle.swreq_canonical.specs.swreq_correspondence.Equations.{AreCongruent}
+use Rattle.swreq_canonical.specs.swreq_correspondence.Readings.{CanRead, CanReadAll, after}
+use Rattle.swreq_canonical.specs.swreq_correspondence.Symbols.{Symbols, Word, steps, symbol}
+use Rattle.swreq_canonical.proofs.swreq_correspondence.Chained.{behind}
+use Rattle.swreq_canonical.proofs.swreq_correspondence.Readings.{read_same, rest_is_read, unbound}
 use Rattle.swreq_candidates.specs.Blocks.{Cut, Place, blocks, current}
 use Rattle.swreq_candidates.specs.Blocks.Cut.{alone, at_end, on, opened}
 use Rattle.swreq_candidates.specs.Blocks.Place.{Inside}
-use Rattle.swreq_correspondence.proofs.Context.{chain_before}
+use Rattle.swreq_canonical.proofs.swreq_correspondence.Context.{chain_before}
 
 module _ (m : Symbols) (f : TermFacts) (s : Source) where
   abbrev C : Word → Word → Type 0

@@ -4,11 +4,11 @@ use Rattle.std.specs.declared.cmp.Ordering.TheVariants.{Less}
 use Rattle.std.specs.Cmp.Lexicographic.{slice_cmp}
 use Rattle.std.proofs.lemmas.Bool.{cases_order}
 use Rattle.std.proofs.lemmas.Cmp.{tied_itself}
-use Rattle.swreq_word.specs.declared.symbols.Symbol.{Symbol}
-use Rattle.swreq_word.specs.Order.{WordLess, symbol_cmp}
-use Rattle.swreq_word.specs.OrderLaws.{symbol_exact, symbol_total, then_less}
-use Rattle.swreq_word.proofs.Comparing.{by_length, by_symbols, less_cases}
-use Rattle.swreq_correspondence.specs.Symbols.{Word}
+use Rattle.swreq_canonical.specs.swreq_word.declared.symbols.Symbol.{Symbol}
+use Rattle.swreq_canonical.specs.swreq_word.Order.{WordLess, symbol_cmp}
+use Rattle.swreq_canonical.specs.swreq_word.OrderLaws.{symbol_exact, symbol_total, then_less}
+use Rattle.swreq_canonical.proofs.swreq_word.Comparing.{by_length, by_symbols, less_cases}
+use Rattle.swreq_canonical.specs.swreq_correspondence.Symbols.{Word}
 
 -- symbols from the left
 abbrev pub SymbolsLess : Word → Word → Type 0

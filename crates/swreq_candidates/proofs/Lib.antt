@@ -1,3 +1,8 @@
+pub use Rattle.swreq_canonical.proofs.swreq_param as swreq_param
+pub use Rattle.swreq_rounds.proofs.swreq_watch as swreq_watch
+pub use Rattle.swreq_rounds.proofs.swreq_complete as swreq_complete
+pub use Rattle.swreq_canonical.proofs.swreq_correspondence as swreq_correspondence
+pub use Rattle.swreq_canonical.proofs as swreq_canonical
 pub mod Longer
 pub mod LessParts
 pub mod Searches

@@ -1,12 +1,12 @@
 -- Congruence goes on in longer words, so the factors of least words are least.
 use Rattle.std.proofs.Common.{◌≡◌, ◌++◌, subst, sym, inl, inr}
-use Rattle.swreq_word.specs.Least.{IsLeast}
-use Rattle.swreq_word.specs.Order.{WordLess}
-use Rattle.swreq_word.proofs.Comparing.{less_in_context, trichotomy}
-use Rattle.swreq_correspondence.specs.Equations.{Linking}
-use Rattle.swreq_correspondence.specs.Symbols.{Word}
-use Rattle.swreq_correspondence.proofs.Context.{chain_after, chain_before}
-use Rattle.swreq_correspondence.proofs.Orders.{none_less}
+use Rattle.swreq_canonical.specs.swreq_word.Least.{IsLeast}
+use Rattle.swreq_canonical.specs.swreq_word.Order.{WordLess}
+use Rattle.swreq_canonical.proofs.swreq_word.Comparing.{less_in_context, trichotomy}
+use Rattle.swreq_canonical.specs.swreq_correspondence.Equations.{Linking}
+use Rattle.swreq_canonical.specs.swreq_correspondence.Symbols.{Word}
+use Rattle.swreq_canonical.proofs.swreq_correspondence.Context.{chain_after, chain_before}
+use Rattle.swreq_canonical.proofs.swreq_correspondence.Orders.{none_less}
 
 -- a word is least where no word of its class is less
 pub least_by_none : (Class : Word → Word → Type 0) (u : Word) → ((v : Word) → Class u v → WordLess v u → ⊥) → IsLeast Class u

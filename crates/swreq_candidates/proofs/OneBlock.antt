@@ -2,14 +2,14 @@
 use Rattle.std.proofs.Common.{◌≡◌, ◌<◌, List, [], ◌∷◌, ◌++◌, length, length-append, append_assoc, append-nil, refl, ap, subst, subst₂, sym, ◌∙◌, inl, inr, arith}
 use Rattle.std.specs.List.{All, AllZip}
 use Rattle.std.proofs.lemmas.List.Elements.{All-cons, All-head, All-nil, All-tail}
-use Rattle.swreq_param.specs.declared.ids.ParamId.{ParamId}
-use Rattle.swreq_derive.specs.Derivation.{Source, TermFacts, TermRequirement}
-use Rattle.swreq_derive.specs.Derivation.Source.{Written}
-use Rattle.swreq_word.specs.Least.{EachFactor, IsLeast, IsMinimal}
-use Rattle.swreq_word.specs.Order.{WordLess}
-use Rattle.swreq_correspondence.specs.Equations.{AreCongruent, UsableEquation}
-use Rattle.swreq_correspondence.specs.Symbols.{AreSymbolsOf, Symbols, Word}
-use Rattle.swreq_correspondence.proofs.Orders.{none_less}
+use Rattle.swreq_canonical.specs.swreq_param.declared.ids.ParamId.{ParamId}
+use Rattle.swreq_canonical.specs.swreq_derive.Derivation.{Source, TermFacts, TermRequirement}
+use Rattle.swreq_canonical.specs.swreq_derive.Derivation.Source.{Written}
+use Rattle.swreq_canonical.specs.swreq_word.Least.{EachFactor, IsLeast, IsMinimal}
+use Rattle.swreq_canonical.specs.swreq_word.Order.{WordLess}
+use Rattle.swreq_canonical.specs.swreq_correspondence.Equations.{AreCongruent, UsableEquation}
+use Rattle.swreq_canonical.specs.swreq_correspondence.Symbols.{AreSymbolsOf, Symbols, Word}
+use Rattle.swreq_canonical.proofs.swreq_correspondence.Orders.{none_less}
 use Rattle.swreq_candidates.specs.Blocks.{AreMembersNamed, Cut, Place, blocks, current, joined_words}
 use Rattle.swreq_candidates.specs.Blocks.Cut.{alone, at_end, on, opened}
 use Rattle.swreq_candidates.specs.Blocks.Place.{Outside}

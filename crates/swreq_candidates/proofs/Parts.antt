@@ -1,25 +1,25 @@
 -- The parts of the word of a reduced type, and what is read over `[τ_0_0 : P]` from a member symbol `[P:A]` of it on.
 use Rattle.std.proofs.Common.{◌≡◌, ℕ, suc, ◌<◌, ◌≤◌, ◌+◌, List, [], ◌∷◌, ◌++◌, append_assoc, length, length-append, refl, ap, subst, sym, ◌∙◌, arith}
 use Rattle.std.proofs.Math.Decide.{ℕ_discrete}
-use Rattle.swreq_param.specs.declared.ids.AssocId.{AssocId}
-use Rattle.swreq_param.specs.declared.ids.ParamId.{ParamId}
-use Rattle.swreq_param.specs.declared.ids.ProtoId.{ProtoId}
-use Rattle.swreq_param.specs.declared.ids.Step.TheVariants.{Bound, Name}
-use Rattle.swreq_param.specs.Terms.{Term, member_count, self}
-use Rattle.swreq_param.specs.Terms.Term.{Generic, Member}
-use Rattle.swreq_derive.specs.Derivation.{Derivable, Source, TermFacts, TermRequirement, TermStatement, for_self}
-use Rattle.swreq_derive.specs.Derivation.Derives.{assoc_bind, reflex, same_conf, same_layout, same_name, symm, trans}
-use Rattle.swreq_derive.specs.Derivation.Source.{SelfOf, Written}
-use Rattle.swreq_derive.specs.Derivation.TermRequirement.{Conforms, Equals, IsAnyObject}
-use Rattle.swreq_derive.specs.Derivation.TermStatement.{Requires}
-use Rattle.swreq_derive.specs.Reduced.{IsReduced}
-use Rattle.swreq_derive.proofs.Substitution.{stands_for_self}
-use Rattle.swreq_word.specs.declared.symbols.Symbol.{Symbol}
-use Rattle.swreq_word.specs.declared.symbols.Symbol.TheVariants.{Layout as LayoutSymbol, Member as MemberSymbol, Name as NameSymbol, Param as ParamSymbol, Proto as ProtoSymbol}
-use Rattle.swreq_word.proofs.Cuts.{same_cut}
-use Rattle.swreq_correspondence.specs.Readings.{CanRead, CanReadAll, after, read_on}
-use Rattle.swreq_correspondence.specs.Symbols.{Symbols, Word, name_of, proto_of}
-use Rattle.swreq_correspondence.specs.Types.{BeginsAs, IsFirstFor, IsTypeOf}
+use Rattle.swreq_canonical.specs.swreq_param.declared.ids.AssocId.{AssocId}
+use Rattle.swreq_canonical.specs.swreq_param.declared.ids.ParamId.{ParamId}
+use Rattle.swreq_canonical.specs.swreq_param.declared.ids.ProtoId.{ProtoId}
+use Rattle.swreq_canonical.specs.swreq_param.declared.ids.Step.TheVariants.{Bound, Name}
+use Rattle.swreq_canonical.specs.swreq_param.Terms.{Term, member_count, self}
+use Rattle.swreq_canonical.specs.swreq_param.Terms.Term.{Generic, Member}
+use Rattle.swreq_canonical.specs.swreq_derive.Derivation.{Derivable, Source, TermFacts, TermRequirement, TermStatement, for_self}
+use Rattle.swreq_canonical.specs.swreq_derive.Derivation.Derives.{assoc_bind, reflex, same_conf, same_layout, same_name, symm, trans}
+use Rattle.swreq_canonical.specs.swreq_derive.Derivation.Source.{SelfOf, Written}
+use Rattle.swreq_canonical.specs.swreq_derive.Derivation.TermRequirement.{Conforms, Equals, IsAnyObject}
+use Rattle.swreq_canonical.specs.swreq_derive.Derivation.TermStatement.{Requires}
+use Rattle.swreq_canonical.specs.swreq_derive.Reduced.{IsReduced}
+use Rattle.swreq_canonical.proofs.swreq_derive.Substitution.{stands_for_self}
+use Rattle.swreq_canonical.specs.swreq_word.declared.symbols.Symbol.{Symbol}
+use Rattle.swreq_canonical.specs.swreq_word.declared.symbols.Symbol.TheVariants.{Layout as LayoutSymbol, Member as MemberSymbol, Name as NameSymbol, Param as ParamSymbol, Proto as ProtoSymbol}
+use Rattle.swreq_canonical.proofs.swreq_word.Cuts.{same_cut}
+use Rattle.swreq_canonical.specs.swreq_correspondence.Readings.{CanRead, CanReadAll, after, read_on}
+use Rattle.swreq_canonical.specs.swreq_correspondence.Symbols.{Symbols, Word, name_of, proto_of}
+use Rattle.swreq_canonical.specs.swreq_correspondence.Types.{BeginsAs, IsFirstFor, IsTypeOf}
 use Rattle.swreq_canonical.specs.Generators.{Follows}
 use Rattle.swreq_canonical.proofs.Following.{by_one, by_two}
 use Rattle.swreq_canonical.proofs.ReducedLemmas.{base_reduced}

@@ -1,32 +1,32 @@
 -- What is read off a rule of the reduced system is canonical, so a sorted list of all candidates is enough. A rule says at most one thing.
 use Rattle.std.proofs.Common.{◌≡◌, ◌⊎◌, ℕ, List, [], ◌∷◌, ◌++◌, length, length-append, ap, ap₂, subst, sym, ◌∙◌, inl, inr, arith}
 use Rattle.std.proofs.lemmas.List.{same_from_push}
-use Rattle.swreq_lemmas.proofs.Elements.{same_heads}
-use Rattle.swreq_param.specs.declared.ids.NameId.{NameId}
-use Rattle.swreq_param.specs.declared.ids.ParamId.{ParamId}
-use Rattle.swreq_param.specs.declared.ids.ProtoId.{ProtoId}
-use Rattle.swreq_param.specs.declared.ids.Step.TheVariants.{Bound, Name}
-use Rattle.swreq_param.specs.Terms.{Term}
-use Rattle.swreq_param.specs.Terms.Term.{Generic, Member}
-use Rattle.swreq_derive.specs.Derivation.{Derivable, Source, TermFacts, TermRequirement}
-use Rattle.swreq_derive.specs.Derivation.Derives.{assoc_bind, same_conf, same_name, symm, trans}
-use Rattle.swreq_derive.specs.Derivation.Source.{Written}
-use Rattle.swreq_derive.specs.Derivation.TermRequirement.{Conforms, Equals, IsAnyObject}
-use Rattle.swreq_derive.specs.Derivation.TermStatement.{IsValid, Requires}
-use Rattle.swreq_derive.specs.Reduced.{IsReduced, IsReducedTypeOf}
-use Rattle.swreq_word.specs.declared.symbols.Symbol.{Symbol}
-use Rattle.swreq_word.specs.declared.symbols.Symbol.TheVariants.{Layout as LayoutSymbol, Member as MemberSymbol, Name as NameSymbol, Param as ParamSymbol, Proto as ProtoSymbol}
-use Rattle.swreq_word.specs.Least.{IsLeast}
-use Rattle.swreq_word.proofs.Chains.{joined}
-use Rattle.swreq_correspondence.specs.Equations.{AreCongruent}
-use Rattle.swreq_correspondence.specs.Readings.{CanRead, HasName, HasReading, after, first, reading}
-use Rattle.swreq_correspondence.specs.Symbols.{Symbols, Word, spell}
-use Rattle.swreq_correspondence.specs.Types.{IsFirstFor, IsTypeOf}
-use Rattle.swreq_correspondence.proofs.Chained.{turn_all}
-use Rattle.swreq_correspondence.proofs.Correspondence.{chain_leads, conforming_words, layout_words, word_is_read}
-use Rattle.swreq_correspondence.proofs.OneType.{one_first, one_param, one_type, typed_length}
-use Rattle.swreq_correspondence.proofs.Orders.{type_is_reduced}
-use Rattle.swreq_correspondence.proofs.Readings.{valid_base}
+use Rattle.swreq_canonical.proofs.swreq_lemmas.Elements.{same_heads}
+use Rattle.swreq_canonical.specs.swreq_param.declared.ids.NameId.{NameId}
+use Rattle.swreq_canonical.specs.swreq_param.declared.ids.ParamId.{ParamId}
+use Rattle.swreq_canonical.specs.swreq_param.declared.ids.ProtoId.{ProtoId}
+use Rattle.swreq_canonical.specs.swreq_param.declared.ids.Step.TheVariants.{Bound, Name}
+use Rattle.swreq_canonical.specs.swreq_param.Terms.{Term}
+use Rattle.swreq_canonical.specs.swreq_param.Terms.Term.{Generic, Member}
+use Rattle.swreq_canonical.specs.swreq_derive.Derivation.{Derivable, Source, TermFacts, TermRequirement}
+use Rattle.swreq_canonical.specs.swreq_derive.Derivation.Derives.{assoc_bind, same_conf, same_name, symm, trans}
+use Rattle.swreq_canonical.specs.swreq_derive.Derivation.Source.{Written}
+use Rattle.swreq_canonical.specs.swreq_derive.Derivation.TermRequirement.{Conforms, Equals, IsAnyObject}
+use Rattle.swreq_canonical.specs.swreq_derive.Derivation.TermStatement.{IsValid, Requires}
+use Rattle.swreq_canonical.specs.swreq_derive.Reduced.{IsReduced, IsReducedTypeOf}
+use Rattle.swreq_canonical.specs.swreq_word.declared.symbols.Symbol.{Symbol}
+use Rattle.swreq_canonical.specs.swreq_word.declared.symbols.Symbol.TheVariants.{Layout as LayoutSymbol, Member as MemberSymbol, Name as NameSymbol, Param as ParamSymbol, Proto as ProtoSymbol}
+use Rattle.swreq_canonical.specs.swreq_word.Least.{IsLeast}
+use Rattle.swreq_canonical.proofs.swreq_word.Chains.{joined}
+use Rattle.swreq_canonical.specs.swreq_correspondence.Equations.{AreCongruent}
+use Rattle.swreq_canonical.specs.swreq_correspondence.Readings.{CanRead, HasName, HasReading, after, first, reading}
+use Rattle.swreq_canonical.specs.swreq_correspondence.Symbols.{Symbols, Word, spell}
+use Rattle.swreq_canonical.specs.swreq_correspondence.Types.{IsFirstFor, IsTypeOf}
+use Rattle.swreq_canonical.proofs.swreq_correspondence.Chained.{turn_all}
+use Rattle.swreq_canonical.proofs.swreq_correspondence.Correspondence.{chain_leads, conforming_words, layout_words, word_is_read}
+use Rattle.swreq_canonical.proofs.swreq_correspondence.OneType.{one_first, one_param, one_type, typed_length}
+use Rattle.swreq_canonical.proofs.swreq_correspondence.Orders.{type_is_reduced}
+use Rattle.swreq_canonical.proofs.swreq_correspondence.Readings.{valid_base}
 use Rattle.swreq_canonical.specs.Canonical.{CanBePrincipal, IsCanonical, principal}
 use Rattle.swreq_canonical.specs.Generators.{AreEnough, Follows, IsEarlier}
 use Rattle.swreq_canonical.proofs.Following.{wider}

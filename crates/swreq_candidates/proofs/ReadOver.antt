@@ -1,26 +1,26 @@
 -- A chain from a word that is read over `[τ_0_0 : P]` uses no equation of the list, and what is read over it is read after a type that
 -- conforms to P.
 use Rattle.std.proofs.Common.{[], ◌∷◌, ◌++◌, List}
-use Rattle.swreq_param.specs.declared.ids.NameId.{NameId}
-use Rattle.swreq_param.specs.declared.ids.ParamId.{ParamId}
-use Rattle.swreq_param.specs.declared.ids.ProtoId.{ProtoId}
-use Rattle.swreq_param.specs.declared.ids.Step.TheVariants.{Name}
-use Rattle.swreq_param.specs.Terms.{Term, self}
-use Rattle.swreq_param.specs.Terms.Term.{Member}
-use Rattle.swreq_derive.specs.Derivation.{Derivable, Source, TermFacts, TermRequirement, for_self}
-use Rattle.swreq_derive.specs.Derivation.Source.{SelfOf, Written}
-use Rattle.swreq_derive.specs.Derivation.TermRequirement.{Conforms, Equals, IsAnyObject}
-use Rattle.swreq_derive.specs.Derivation.TermStatement.{Requires}
-use Rattle.swreq_derive.proofs.Substitution.{stands_for_self}
-use Rattle.swreq_word.specs.declared.symbols.Symbol.{Symbol}
-use Rattle.swreq_word.specs.declared.symbols.Symbol.TheVariants.{Layout as LayoutSymbol, Member as MemberSymbol, Name as NameSymbol, Param as ParamSymbol, Proto as ProtoSymbol}
-use Rattle.swreq_word.specs.Relations.Chain.{done, more}
-use Rattle.swreq_correspondence.specs.Equations.{AreCongruent, Equation, Link, UsableIn, UsableOf}
-use Rattle.swreq_correspondence.specs.Equations.Equation.{member, of_protocol, of_source, twice}
-use Rattle.swreq_correspondence.specs.Equations.Link.{back, forth, there}
-use Rattle.swreq_correspondence.specs.Readings.{CanReadAll, HasName, HasReading}
-use Rattle.swreq_correspondence.specs.Symbols.{AreSymbolsOf, Symbols, Word, name_of, proto_of}
-use Rattle.swreq_correspondence.proofs.Correspondence.{link_leads, to_self}
+use Rattle.swreq_canonical.specs.swreq_param.declared.ids.NameId.{NameId}
+use Rattle.swreq_canonical.specs.swreq_param.declared.ids.ParamId.{ParamId}
+use Rattle.swreq_canonical.specs.swreq_param.declared.ids.ProtoId.{ProtoId}
+use Rattle.swreq_canonical.specs.swreq_param.declared.ids.Step.TheVariants.{Name}
+use Rattle.swreq_canonical.specs.swreq_param.Terms.{Term, self}
+use Rattle.swreq_canonical.specs.swreq_param.Terms.Term.{Member}
+use Rattle.swreq_canonical.specs.swreq_derive.Derivation.{Derivable, Source, TermFacts, TermRequirement, for_self}
+use Rattle.swreq_canonical.specs.swreq_derive.Derivation.Source.{SelfOf, Written}
+use Rattle.swreq_canonical.specs.swreq_derive.Derivation.TermRequirement.{Conforms, Equals, IsAnyObject}
+use Rattle.swreq_canonical.specs.swreq_derive.Derivation.TermStatement.{Requires}
+use Rattle.swreq_canonical.proofs.swreq_derive.Substitution.{stands_for_self}
+use Rattle.swreq_canonical.specs.swreq_word.declared.symbols.Symbol.{Symbol}
+use Rattle.swreq_canonical.specs.swreq_word.declared.symbols.Symbol.TheVariants.{Layout as LayoutSymbol, Member as MemberSymbol, Name as NameSymbol, Param as ParamSymbol, Proto as ProtoSymbol}
+use Rattle.swreq_canonical.specs.swreq_word.Relations.Chain.{done, more}
+use Rattle.swreq_canonical.specs.swreq_correspondence.Equations.{AreCongruent, Equation, Link, UsableIn, UsableOf}
+use Rattle.swreq_canonical.specs.swreq_correspondence.Equations.Equation.{member, of_protocol, of_source, twice}
+use Rattle.swreq_canonical.specs.swreq_correspondence.Equations.Link.{back, forth, there}
+use Rattle.swreq_canonical.specs.swreq_correspondence.Readings.{CanReadAll, HasName, HasReading}
+use Rattle.swreq_canonical.specs.swreq_correspondence.Symbols.{AreSymbolsOf, Symbols, Word, name_of, proto_of}
+use Rattle.swreq_canonical.proofs.swreq_correspondence.Correspondence.{link_leads, to_self}
 
 -- ---- words without generic parameters
 

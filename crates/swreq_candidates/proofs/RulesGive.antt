@@ -1,20 +1,20 @@
 -- Complete rules give the least word of each class, and their reduced system is that of the congruence for which they stand.
 use Rattle.std.proofs.Common.{◌⊎◌, List, inl, inr}
-use Rattle.swreq_word.specs.Relations.{IsIrreducible, Linked}
-use Rattle.swreq_word.proofs.Chains.{linked_chain}
-use Rattle.swreq_word.proofs.LeastWords.{least_along, minimal_along}
-use Rattle.swreq_word.proofs.Newman.{normal}
-use Rattle.swreq_word.proofs.WordsFounded.{words_founded}
-use Rattle.swreq_rule.specs.declared.rules.Rule.{Rule}
-use Rattle.swreq_rule.specs.Steps.{Step}
-use Rattle.swreq_rule.proofs.Downward.{step_down}
-use Rattle.swreq_rule.proofs.Search.{a_step, reduction_step}
-use Rattle.swreq_pair.specs.CriticalPairs.{PairsMeet}
-use Rattle.swreq_pair.proofs.CriticalPairs.{locally}
-use Rattle.swreq_complete.specs.Reduced.{IsReducedSystem}
-use Rattle.swreq_complete.proofs.ReducedSystem.{irreducible_least}
-use Rattle.swreq_correspondence.specs.Equations.{Linking}
-use Rattle.swreq_correspondence.specs.Symbols.{Word}
+use Rattle.swreq_canonical.specs.swreq_word.Relations.{IsIrreducible, Linked}
+use Rattle.swreq_canonical.proofs.swreq_word.Chains.{linked_chain}
+use Rattle.swreq_canonical.proofs.swreq_word.LeastWords.{least_along, minimal_along}
+use Rattle.swreq_canonical.proofs.swreq_word.Newman.{normal}
+use Rattle.swreq_canonical.proofs.swreq_word.WordsFounded.{words_founded}
+use Rattle.swreq_rounds.specs.swreq_rule.declared.rules.Rule.{Rule}
+use Rattle.swreq_rounds.specs.swreq_rule.Steps.{Step}
+use Rattle.swreq_rounds.proofs.swreq_rule.Downward.{step_down}
+use Rattle.swreq_rounds.proofs.swreq_rule.Search.{a_step, reduction_step}
+use Rattle.swreq_rounds.specs.swreq_pair.CriticalPairs.{PairsMeet}
+use Rattle.swreq_rounds.proofs.swreq_pair.CriticalPairs.{locally}
+use Rattle.swreq_rounds.specs.swreq_complete.Reduced.{IsReducedSystem}
+use Rattle.swreq_rounds.proofs.swreq_complete.ReducedSystem.{irreducible_least}
+use Rattle.swreq_canonical.specs.swreq_correspondence.Equations.{Linking}
+use Rattle.swreq_canonical.specs.swreq_correspondence.Symbols.{Word}
 use Rattle.swreq_rounds.specs.Presents.{Presents}
 use Rattle.swreq_candidates.specs.Completed.{HasLeastWords}
 

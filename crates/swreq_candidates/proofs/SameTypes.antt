@@ -1,45 +1,45 @@
 -- A canonical same-type requirement is read off a rule of the reduced system, or follows from canonical requirements of earlier types.
 use Rattle.std.proofs.Common.{◌≡◌, ◌⊎◌, ◌<◌, ◌≤◌, ◌+◌, ℕ, List, [], ◌∷◌, ◌++◌, length, length-append, append-nil, refl, ap, subst, subst₂, sym, inl, inr, arith}
 use Rattle.std.specs.declared.cmp.Ordering.TheVariants.{Less}
-use Rattle.swreq_param.specs.declared.ids.AssocId.{AssocId}
-use Rattle.swreq_param.specs.declared.ids.NameId.{NameId}
-use Rattle.swreq_param.specs.declared.ids.ParamId.{ParamId}
-use Rattle.swreq_param.specs.declared.ids.ProtoId.{ProtoId}
-use Rattle.swreq_param.specs.declared.ids.Step.TheVariants.{Bound, Name}
-use Rattle.swreq_param.specs.Order.{TermBefore}
-use Rattle.swreq_param.specs.Terms.{Term, member_count, self}
-use Rattle.swreq_param.specs.Terms.Term.{Generic, Member}
-use Rattle.swreq_param.proofs.TotalOrder.{total, transitive}
-use Rattle.swreq_derive.specs.Derivation.{Declares, Derivable, Source, TermFacts, TermRequirement, TermStatement}
-use Rattle.swreq_derive.specs.Derivation.Derives.{assoc_bind, assoc_decl, reflex, same_conf, same_name, symm, trans}
-use Rattle.swreq_derive.specs.Derivation.Source.{SelfOf, Written}
-use Rattle.swreq_derive.specs.Derivation.TermRequirement.{Conforms, Equals}
-use Rattle.swreq_derive.specs.Derivation.TermStatement.{IsValid, Requires}
-use Rattle.swreq_derive.specs.Reduced.{IsReduced, IsReducedTypeOf}
-use Rattle.swreq_derive.proofs.Substitution.{stands_for_self}
-use Rattle.swreq_word.specs.declared.symbols.Symbol.{Symbol}
-use Rattle.swreq_word.specs.declared.symbols.Symbol.TheVariants.{Layout as LayoutSymbol, Member as MemberSymbol, Name as NameSymbol, Param as ParamSymbol, Proto as ProtoSymbol}
-use Rattle.swreq_word.specs.Least.{IsLeast, IsMinimal}
-use Rattle.swreq_word.specs.Order.{WordLess, symbol_cmp}
-use Rattle.swreq_word.specs.OrderLaws.{nat_less}
-use Rattle.swreq_word.specs.Relations.Chain.{done}
-use Rattle.swreq_word.proofs.Chains.{joined}
-use Rattle.swreq_word.proofs.Comparing.{by_symbols, less_before, less_cases, less_trans}
-use Rattle.swreq_correspondence.specs.Equations.{AreCongruent, UsableEquation}
-use Rattle.swreq_correspondence.specs.Readings.{CanRead, CanReadAll, HasName, HasReading, after, read_on}
-use Rattle.swreq_correspondence.specs.Symbols.{Symbols, Word, name_of, proto_of, spell}
-use Rattle.swreq_correspondence.specs.Types.{BeginsAs, HasFirsts, IsFirstFor, IsTypeOf}
-use Rattle.swreq_correspondence.proofs.Chained.{chained_usable, turn_all}
-use Rattle.swreq_correspondence.proofs.Correspondence.{chain_leads, to_self}
-use Rattle.swreq_correspondence.proofs.Orders.{Stands, as_name, conf_chain, front, none_less, type_order}
-use Rattle.swreq_correspondence.proofs.Readings.{read_same, sides_of, valid_reading}
+use Rattle.swreq_canonical.specs.swreq_param.declared.ids.AssocId.{AssocId}
+use Rattle.swreq_canonical.specs.swreq_param.declared.ids.NameId.{NameId}
+use Rattle.swreq_canonical.specs.swreq_param.declared.ids.ParamId.{ParamId}
+use Rattle.swreq_canonical.specs.swreq_param.declared.ids.ProtoId.{ProtoId}
+use Rattle.swreq_canonical.specs.swreq_param.declared.ids.Step.TheVariants.{Bound, Name}
+use Rattle.swreq_canonical.specs.swreq_param.Order.{TermBefore}
+use Rattle.swreq_canonical.specs.swreq_param.Terms.{Term, member_count, self}
+use Rattle.swreq_canonical.specs.swreq_param.Terms.Term.{Generic, Member}
+use Rattle.swreq_canonical.proofs.swreq_param.TotalOrder.{total, transitive}
+use Rattle.swreq_canonical.specs.swreq_derive.Derivation.{Declares, Derivable, Source, TermFacts, TermRequirement, TermStatement}
+use Rattle.swreq_canonical.specs.swreq_derive.Derivation.Derives.{assoc_bind, assoc_decl, reflex, same_conf, same_name, symm, trans}
+use Rattle.swreq_canonical.specs.swreq_derive.Derivation.Source.{SelfOf, Written}
+use Rattle.swreq_canonical.specs.swreq_derive.Derivation.TermRequirement.{Conforms, Equals}
+use Rattle.swreq_canonical.specs.swreq_derive.Derivation.TermStatement.{IsValid, Requires}
+use Rattle.swreq_canonical.specs.swreq_derive.Reduced.{IsReduced, IsReducedTypeOf}
+use Rattle.swreq_canonical.proofs.swreq_derive.Substitution.{stands_for_self}
+use Rattle.swreq_canonical.specs.swreq_word.declared.symbols.Symbol.{Symbol}
+use Rattle.swreq_canonical.specs.swreq_word.declared.symbols.Symbol.TheVariants.{Layout as LayoutSymbol, Member as MemberSymbol, Name as NameSymbol, Param as ParamSymbol, Proto as ProtoSymbol}
+use Rattle.swreq_canonical.specs.swreq_word.Least.{IsLeast, IsMinimal}
+use Rattle.swreq_canonical.specs.swreq_word.Order.{WordLess, symbol_cmp}
+use Rattle.swreq_canonical.specs.swreq_word.OrderLaws.{nat_less}
+use Rattle.swreq_canonical.specs.swreq_word.Relations.Chain.{done}
+use Rattle.swreq_canonical.proofs.swreq_word.Chains.{joined}
+use Rattle.swreq_canonical.proofs.swreq_word.Comparing.{by_symbols, less_before, less_cases, less_trans}
+use Rattle.swreq_canonical.specs.swreq_correspondence.Equations.{AreCongruent, UsableEquation}
+use Rattle.swreq_canonical.specs.swreq_correspondence.Readings.{CanRead, CanReadAll, HasName, HasReading, after, read_on}
+use Rattle.swreq_canonical.specs.swreq_correspondence.Symbols.{Symbols, Word, name_of, proto_of, spell}
+use Rattle.swreq_canonical.specs.swreq_correspondence.Types.{BeginsAs, HasFirsts, IsFirstFor, IsTypeOf}
+use Rattle.swreq_canonical.proofs.swreq_correspondence.Chained.{chained_usable, turn_all}
+use Rattle.swreq_canonical.proofs.swreq_correspondence.Correspondence.{chain_leads, to_self}
+use Rattle.swreq_canonical.proofs.swreq_correspondence.Orders.{Stands, as_name, conf_chain, front, none_less, type_order}
+use Rattle.swreq_canonical.proofs.swreq_correspondence.Readings.{read_same, sides_of, valid_reading}
 use Rattle.swreq_canonical.specs.Canonical.{HasReducedTypes, principal}
 use Rattle.swreq_canonical.specs.Generators.{Follows}
 use Rattle.swreq_canonical.proofs.Covering.{follows_in_list}
 use Rattle.swreq_canonical.proofs.Following.{by_one, by_two}
 use Rattle.swreq_canonical.proofs.ReducedLemmas.{member_before, reduced_valid, result_reduced}
 use Rattle.swreq_canonical.proofs.Sides.{IsOfEarlierType, IsShorter, no_longer, shorter_is_earlier, valid_by_shorter}
-use Rattle.swreq_correspondence.proofs.OneType.{one_assoc}
+use Rattle.swreq_canonical.proofs.swreq_correspondence.OneType.{one_assoc}
 use Rattle.swreq_candidates.specs.Blocks.{AreMembersNamed, Cut}
 use Rattle.swreq_candidates.specs.Blocks.Place.{Outside}
 use Rattle.swreq_candidates.specs.Completed.{HasLeastWords, IsWordOfText}

@@ -1,11 +1,11 @@
 -- Finite searches for what is decided.
 use Rattle.std.proofs.Common.{◌≡◌, ◌⊎◌, ◌<◌, ◌≤◌, ℕ, zero, suc, List, [], ◌∷◌, Contains, ap, subst, sym, inl, inr, arith}
 use Rattle.std.proofs.Math.Decide.{dec_lt, ℕ_discrete}
-use Rattle.swreq_correspondence.proofs.OneType.{one_assoc}
-use Rattle.swreq_param.specs.declared.ids.AssocId.{AssocId}
-use Rattle.swreq_param.specs.declared.ids.NameId.{NameId}
-use Rattle.swreq_param.specs.declared.ids.ParamId.{ParamId}
-use Rattle.swreq_lemmas.proofs.Members.{first_member, later_member, member_cases, no_member}
+use Rattle.swreq_canonical.proofs.swreq_correspondence.OneType.{one_assoc}
+use Rattle.swreq_canonical.specs.swreq_param.declared.ids.AssocId.{AssocId}
+use Rattle.swreq_canonical.specs.swreq_param.declared.ids.NameId.{NameId}
+use Rattle.swreq_canonical.specs.swreq_param.declared.ids.ParamId.{ParamId}
+use Rattle.swreq_canonical.proofs.swreq_lemmas.Members.{first_member, later_member, member_cases, no_member}
 
 pub both_decided : {A B : Type 0} → Dec A → Dec B → Dec (A × B)
 both_decided (yes a) (yes b) = yes (a, b)

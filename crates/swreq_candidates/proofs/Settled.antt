@@ -1,30 +1,30 @@
 -- A canonical conformance or layout is read off a rule of the reduced system, or follows from canonical requirements of earlier types.
 use Rattle.std.proofs.Common.{◌≡◌, ◌⊎◌, ◌<◌, ℕ, List, [], ◌∷◌, ◌++◌, length, length-append, append-nil, refl, subst, sym, ◌∙◌, inl, inr, arith}
-use Rattle.swreq_param.specs.declared.ids.ParamId.{ParamId}
-use Rattle.swreq_param.specs.declared.ids.ProtoId.{ProtoId}
-use Rattle.swreq_param.specs.declared.ids.Step.TheVariants.{Bound}
-use Rattle.swreq_param.specs.Terms.{Term, member_count, self}
-use Rattle.swreq_param.specs.Terms.Term.{Member}
-use Rattle.swreq_derive.specs.Derivation.{Derivable, Source, TermFacts, TermRequirement}
-use Rattle.swreq_derive.specs.Derivation.Derives.{symm, trans}
-use Rattle.swreq_derive.specs.Derivation.Source.{SelfOf, Written}
-use Rattle.swreq_derive.specs.Derivation.TermRequirement.{Conforms, Equals, IsAnyObject}
-use Rattle.swreq_derive.specs.Derivation.TermStatement.{IsValid, Requires}
-use Rattle.swreq_derive.specs.Reduced.{IsReduced, IsReducedTypeOf}
-use Rattle.swreq_derive.proofs.ReducedTypes.{reduced_is_one}
-use Rattle.swreq_word.specs.declared.symbols.Symbol.{Symbol}
-use Rattle.swreq_word.specs.declared.symbols.Symbol.TheVariants.{Layout as LayoutSymbol, Member as MemberSymbol, Name as NameSymbol, Param as ParamSymbol, Proto as ProtoSymbol}
-use Rattle.swreq_word.specs.Least.{IsLeast, IsMinimal}
-use Rattle.swreq_word.proofs.Chains.{joined}
-use Rattle.swreq_word.proofs.Comparing.{by_length}
-use Rattle.swreq_correspondence.specs.Equations.{AreCongruent, UsableEquation}
-use Rattle.swreq_correspondence.specs.Readings.{CanRead, CanReadAll, HasReading}
-use Rattle.swreq_correspondence.specs.Symbols.{AreOfText, AreSymbolsOf, IsInText, IsRank, Symbols, Word, proto_of, spell}
-use Rattle.swreq_correspondence.specs.Types.{AreRanked, HasFirsts, IsTypeOf}
-use Rattle.swreq_correspondence.proofs.Chained.{chained_usable, turn_all}
-use Rattle.swreq_correspondence.proofs.Correspondence.{to_self}
-use Rattle.swreq_correspondence.proofs.Orders.{Stands, conf_chain, front, none_less, some_type, type_is_reduced}
-use Rattle.swreq_correspondence.proofs.Readings.{sides_of}
+use Rattle.swreq_canonical.specs.swreq_param.declared.ids.ParamId.{ParamId}
+use Rattle.swreq_canonical.specs.swreq_param.declared.ids.ProtoId.{ProtoId}
+use Rattle.swreq_canonical.specs.swreq_param.declared.ids.Step.TheVariants.{Bound}
+use Rattle.swreq_canonical.specs.swreq_param.Terms.{Term, member_count, self}
+use Rattle.swreq_canonical.specs.swreq_param.Terms.Term.{Member}
+use Rattle.swreq_canonical.specs.swreq_derive.Derivation.{Derivable, Source, TermFacts, TermRequirement}
+use Rattle.swreq_canonical.specs.swreq_derive.Derivation.Derives.{symm, trans}
+use Rattle.swreq_canonical.specs.swreq_derive.Derivation.Source.{SelfOf, Written}
+use Rattle.swreq_canonical.specs.swreq_derive.Derivation.TermRequirement.{Conforms, Equals, IsAnyObject}
+use Rattle.swreq_canonical.specs.swreq_derive.Derivation.TermStatement.{IsValid, Requires}
+use Rattle.swreq_canonical.specs.swreq_derive.Reduced.{IsReduced, IsReducedTypeOf}
+use Rattle.swreq_canonical.proofs.swreq_derive.ReducedTypes.{reduced_is_one}
+use Rattle.swreq_canonical.specs.swreq_word.declared.symbols.Symbol.{Symbol}
+use Rattle.swreq_canonical.specs.swreq_word.declared.symbols.Symbol.TheVariants.{Layout as LayoutSymbol, Member as MemberSymbol, Name as NameSymbol, Param as ParamSymbol, Proto as ProtoSymbol}
+use Rattle.swreq_canonical.specs.swreq_word.Least.{IsLeast, IsMinimal}
+use Rattle.swreq_canonical.proofs.swreq_word.Chains.{joined}
+use Rattle.swreq_canonical.proofs.swreq_word.Comparing.{by_length}
+use Rattle.swreq_canonical.specs.swreq_correspondence.Equations.{AreCongruent, UsableEquation}
+use Rattle.swreq_canonical.specs.swreq_correspondence.Readings.{CanRead, CanReadAll, HasReading}
+use Rattle.swreq_canonical.specs.swreq_correspondence.Symbols.{AreOfText, AreSymbolsOf, IsInText, IsRank, Symbols, Word, proto_of, spell}
+use Rattle.swreq_canonical.specs.swreq_correspondence.Types.{AreRanked, HasFirsts, IsTypeOf}
+use Rattle.swreq_canonical.proofs.swreq_correspondence.Chained.{chained_usable, turn_all}
+use Rattle.swreq_canonical.proofs.swreq_correspondence.Correspondence.{to_self}
+use Rattle.swreq_canonical.proofs.swreq_correspondence.Orders.{Stands, conf_chain, front, none_less, some_type, type_is_reduced}
+use Rattle.swreq_canonical.proofs.swreq_correspondence.Readings.{sides_of}
 use Rattle.swreq_canonical.specs.Canonical.{HasReducedTypes, principal}
 use Rattle.swreq_canonical.specs.Generators.{Follows}
 use Rattle.swreq_canonical.proofs.ReducedLemmas.{reduced_valid}

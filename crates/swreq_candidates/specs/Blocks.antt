@@ -1,16 +1,16 @@
 -- How a word is cut into blocks, from the left. A block is the longest stretch that has a reading, and a symbol that begins no reading is a
 -- block by itself.
 use Rattle.std.specs.Prelude.{ℕ, List, [], ◌∷◌, ◌++◌}
-use Rattle.swreq_param.specs.declared.ids.AssocId.{AssocId}
-use Rattle.swreq_param.specs.declared.ids.ProtoId.{ProtoId}
-use Rattle.swreq_param.specs.Terms.{Term, self}
-use Rattle.swreq_derive.specs.Derivation.{TermFacts, Source, Declares}
-use Rattle.swreq_derive.specs.Inheritance.{LeadsTo}
-use Rattle.swreq_derive.specs.Derivation.Source.{SelfOf}
-use Rattle.swreq_word.specs.declared.symbols.Symbol.{Symbol}
-use Rattle.swreq_word.specs.declared.symbols.Symbol.TheVariants.{Proto as ProtoSymbol, Member as MemberSymbol, Param as ParamSymbol, Name as NameSymbol, Layout as LayoutSymbol}
-use Rattle.swreq_correspondence.specs.Symbols.{Word, Symbols, IsRank, proto_of, name_of}
-use Rattle.swreq_correspondence.specs.Readings.{CanRead, CanBegin, HasName, after, first}
+use Rattle.swreq_canonical.specs.swreq_param.declared.ids.AssocId.{AssocId}
+use Rattle.swreq_canonical.specs.swreq_param.declared.ids.ProtoId.{ProtoId}
+use Rattle.swreq_canonical.specs.swreq_param.Terms.{Term, self}
+use Rattle.swreq_canonical.specs.swreq_derive.Derivation.{TermFacts, Source, Declares}
+use Rattle.swreq_canonical.specs.swreq_derive.Inheritance.{LeadsTo}
+use Rattle.swreq_canonical.specs.swreq_derive.Derivation.Source.{SelfOf}
+use Rattle.swreq_canonical.specs.swreq_word.declared.symbols.Symbol.{Symbol}
+use Rattle.swreq_canonical.specs.swreq_word.declared.symbols.Symbol.TheVariants.{Proto as ProtoSymbol, Member as MemberSymbol, Param as ParamSymbol, Name as NameSymbol, Layout as LayoutSymbol}
+use Rattle.swreq_canonical.specs.swreq_correspondence.Symbols.{Word, Symbols, IsRank, proto_of, name_of}
+use Rattle.swreq_canonical.specs.swreq_correspondence.Readings.{CanRead, CanBegin, HasName, after, first}
 
 -- Where one stands in a word: outside of a block, or inside one that is read over s, up to here as t.
 pub data Place : Type 0 where

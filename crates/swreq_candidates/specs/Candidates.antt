@@ -1,19 +1,19 @@
 -- The candidates of a list: what the rules of its reduced system say.
 use Rattle.std.specs.Prelude.{◌≡◌, ◌↔◌, List, [], ◌∷◌, ◌++◌, Contains}
-use Rattle.swreq_param.specs.declared.ids.NameId.{NameId}
-use Rattle.swreq_param.specs.declared.ids.Step.TheVariants.{Bound, Name}
-use Rattle.swreq_param.specs.Terms.{Term}
-use Rattle.swreq_param.specs.Terms.Term.{Generic, Member}
-use Rattle.swreq_derive.specs.Derivation.{TermFacts, TermRequirement, Source, Derivable}
-use Rattle.swreq_derive.specs.Derivation.TermRequirement.{Conforms, IsAnyObject, Equals}
-use Rattle.swreq_derive.specs.Derivation.TermStatement.{IsValid}
-use Rattle.swreq_word.specs.declared.symbols.Symbol.{Symbol}
-use Rattle.swreq_word.specs.declared.symbols.Symbol.TheVariants.{Proto as ProtoSymbol, Member as MemberSymbol, Param as ParamSymbol, Name as NameSymbol, Layout as LayoutSymbol}
-use Rattle.swreq_word.specs.Least.{IsLeast, IsMinimal}
+use Rattle.swreq_canonical.specs.swreq_param.declared.ids.NameId.{NameId}
+use Rattle.swreq_canonical.specs.swreq_param.declared.ids.Step.TheVariants.{Bound, Name}
+use Rattle.swreq_canonical.specs.swreq_param.Terms.{Term}
+use Rattle.swreq_canonical.specs.swreq_param.Terms.Term.{Generic, Member}
+use Rattle.swreq_canonical.specs.swreq_derive.Derivation.{TermFacts, TermRequirement, Source, Derivable}
+use Rattle.swreq_canonical.specs.swreq_derive.Derivation.TermRequirement.{Conforms, IsAnyObject, Equals}
+use Rattle.swreq_canonical.specs.swreq_derive.Derivation.TermStatement.{IsValid}
+use Rattle.swreq_canonical.specs.swreq_word.declared.symbols.Symbol.{Symbol}
+use Rattle.swreq_canonical.specs.swreq_word.declared.symbols.Symbol.TheVariants.{Proto as ProtoSymbol, Member as MemberSymbol, Param as ParamSymbol, Name as NameSymbol, Layout as LayoutSymbol}
+use Rattle.swreq_canonical.specs.swreq_word.Least.{IsLeast, IsMinimal}
 use Rattle.swreq_canonical.specs.CanonicalOrder.{IsStrictlySorted}
-use Rattle.swreq_correspondence.specs.Symbols.{Word, Symbols, IsRank, name_of}
-use Rattle.swreq_correspondence.specs.Equations.{AreCongruent}
-use Rattle.swreq_correspondence.specs.Types.{IsFirstFor, IsTypeOf}
+use Rattle.swreq_canonical.specs.swreq_correspondence.Symbols.{Word, Symbols, IsRank, name_of}
+use Rattle.swreq_canonical.specs.swreq_correspondence.Equations.{AreCongruent}
+use Rattle.swreq_canonical.specs.swreq_correspondence.Types.{IsFirstFor, IsTypeOf}
 
 -- This is a rule of the reduced system of the class: its left side is minimal, and its right side the least word of the left side's class.
 abbrev pub IsReducedRule : (Word → Word → Type 0) → Word → Word → Type 0

@@ -1,14 +1,14 @@
 -- What the ended completions of the protocols and of a list give.
 use Rattle.std.specs.Prelude.{List, [], ◌∷◌}
-use Rattle.swreq_param.specs.declared.ids.ParamId.{ParamId}
-use Rattle.swreq_derive.specs.Derivation.{TermFacts, TermRequirement}
-use Rattle.swreq_derive.specs.Derivation.Source.{Written}
-use Rattle.swreq_word.specs.declared.symbols.Symbol.{Symbol}
-use Rattle.swreq_word.specs.declared.symbols.Symbol.TheVariants.{Proto as ProtoSymbol, Member as MemberSymbol}
-use Rattle.swreq_word.specs.Least.{IsLeast}
-use Rattle.swreq_correspondence.specs.Symbols.{Word, Symbols, IsOfText, IsRank, proto_of, AreSymbolsOf, AreOfText, IsInText}
-use Rattle.swreq_correspondence.specs.Equations.{Linking, UsableEquation}
-use Rattle.swreq_correspondence.specs.Types.{AreRanked}
+use Rattle.swreq_canonical.specs.swreq_param.declared.ids.ParamId.{ParamId}
+use Rattle.swreq_canonical.specs.swreq_derive.Derivation.{TermFacts, TermRequirement}
+use Rattle.swreq_canonical.specs.swreq_derive.Derivation.Source.{Written}
+use Rattle.swreq_canonical.specs.swreq_word.declared.symbols.Symbol.{Symbol}
+use Rattle.swreq_canonical.specs.swreq_word.declared.symbols.Symbol.TheVariants.{Proto as ProtoSymbol, Member as MemberSymbol}
+use Rattle.swreq_canonical.specs.swreq_word.Least.{IsLeast}
+use Rattle.swreq_canonical.specs.swreq_correspondence.Symbols.{Word, Symbols, IsOfText, IsRank, proto_of, AreSymbolsOf, AreOfText, IsInText}
+use Rattle.swreq_canonical.specs.swreq_correspondence.Equations.{Linking, UsableEquation}
+use Rattle.swreq_canonical.specs.swreq_correspondence.Types.{AreRanked}
 use Rattle.swreq_rounds.specs.Presents.{ProtocolEquation}
 use Rattle.swreq_candidates.specs.Blocks.{AreMembersNamed}
 

@@ -1,18 +1,18 @@
 -- When a requirement may be dropped on evidence, without completing a list.
 use Rattle.std.specs.Prelude.{◌≡◌, ◌⊎◌, ℕ, List, Some, Contains, slice_get}
-use Rattle.swreq_param.specs.declared.ids.NameId.{NameId}
-use Rattle.swreq_param.specs.declared.ids.ParamId.{ParamId}
-use Rattle.swreq_param.specs.declared.ids.ProtoId.{ProtoId}
-use Rattle.swreq_param.specs.declared.ids.Step.TheVariants.{Bound, Name}
-use Rattle.swreq_param.specs.Terms.{Term}
-use Rattle.swreq_param.specs.Terms.Term.{Generic, Member}
-use Rattle.swreq_derive.specs.Derivation.{TermFacts, TermRequirement, Declares}
-use Rattle.swreq_derive.specs.Derivation.Source.{Written}
-use Rattle.swreq_derive.specs.Derivation.TermRequirement.{Conforms, IsAnyObject, Equals}
-use Rattle.swreq_derive.specs.Inheritance.{LeadsTo}
-use Rattle.swreq_rule.specs.declared.rules.Rule.{Rule}
-use Rattle.swreq_correspondence.specs.Symbols.{Word, Symbols, left_side, right_side}
-use Rattle.swreq_correspondence.specs.Equations.{Linking}
+use Rattle.swreq_canonical.specs.swreq_param.declared.ids.NameId.{NameId}
+use Rattle.swreq_canonical.specs.swreq_param.declared.ids.ParamId.{ParamId}
+use Rattle.swreq_canonical.specs.swreq_param.declared.ids.ProtoId.{ProtoId}
+use Rattle.swreq_canonical.specs.swreq_param.declared.ids.Step.TheVariants.{Bound, Name}
+use Rattle.swreq_canonical.specs.swreq_param.Terms.{Term}
+use Rattle.swreq_canonical.specs.swreq_param.Terms.Term.{Generic, Member}
+use Rattle.swreq_canonical.specs.swreq_derive.Derivation.{TermFacts, TermRequirement, Declares}
+use Rattle.swreq_canonical.specs.swreq_derive.Derivation.Source.{Written}
+use Rattle.swreq_canonical.specs.swreq_derive.Derivation.TermRequirement.{Conforms, IsAnyObject, Equals}
+use Rattle.swreq_canonical.specs.swreq_derive.Inheritance.{LeadsTo}
+use Rattle.swreq_rounds.specs.swreq_rule.declared.rules.Rule.{Rule}
+use Rattle.swreq_canonical.specs.swreq_correspondence.Symbols.{Word, Symbols, left_side, right_side}
+use Rattle.swreq_canonical.specs.swreq_correspondence.Equations.{Linking}
 use Rattle.swreq_rounds.specs.Presents.{ProtocolEquation}
 
 -- A type is plain in a list: it is a generic parameter, or a bound member [P]A of a plain type of which the list holds a conformance to P

@@ -1,12 +1,12 @@
 -- Words and symbols of worked texts. The texts stand in `swreq_derive` and `swreq_canonical`, and other symbols in `swreq_correspondence`.
 use Rattle.std.specs.Prelude.{List, [], ◌∷◌}
-use Rattle.swreq_word.specs.declared.symbols.Symbol.TheVariants.{Proto as ProtoSymbol, Member as MemberSymbol, Name as NameSymbol}
-use Rattle.swreq_param.specs.Terms.{self}
-use Rattle.swreq_derive.specs.Derivation.{TermRequirement, TermFacts}
-use Rattle.swreq_derive.specs.Derivation.TermRequirement.{Conforms, Equals}
-use Rattle.swreq_derive.specs.Worked.{◌·◌, bound, declared, facts, τ_0_0, τ_0_1, P, Q, A, A_of_P}
-use Rattle.swreq_correspondence.specs.Symbols.{Symbols, Word}
-use Rattle.swreq_correspondence.specs.Worked.{first_param, member_of, symbols}
+use Rattle.swreq_canonical.specs.swreq_word.declared.symbols.Symbol.TheVariants.{Proto as ProtoSymbol, Member as MemberSymbol, Name as NameSymbol}
+use Rattle.swreq_canonical.specs.swreq_param.Terms.{self}
+use Rattle.swreq_canonical.specs.swreq_derive.Derivation.{TermRequirement, TermFacts}
+use Rattle.swreq_canonical.specs.swreq_derive.Derivation.TermRequirement.{Conforms, Equals}
+use Rattle.swreq_canonical.specs.swreq_derive.Worked.{◌·◌, bound, declared, facts, τ_0_0, τ_0_1, P, Q, A, A_of_P}
+use Rattle.swreq_canonical.specs.swreq_correspondence.Symbols.{Symbols, Word}
+use Rattle.swreq_canonical.specs.swreq_correspondence.Worked.{first_param, member_of, symbols}
 use Rattle.swreq_canonical.specs.Worked.{Base, Derived}
 
 -- ---- words

@@ -1,15 +1,10 @@
 //! Laws on dropping by evidence, over the definitions alone.
 ghost use Rattle.std.specs.Prelude.{◌≡◌, List, ◌∷◌, ◌++◌, Contains};
-ghost use Rattle.swreq_param.specs.declared.ids.ParamId.{ParamId};
-ghost use Rattle.swreq_derive.specs.Derivation.{TermRequirement, TermFacts, Derivable};
-ghost use Rattle.swreq_derive.specs.Derivation.Source.{Written};
-ghost use Rattle.swreq_derive.specs.Derivation.TermStatement.{Requires};
-ghost use Rattle.swreq_derive.specs.WellFormed.{HasValidSides};
-ghost use Rattle.swreq_word.specs.Relations.{Linked};
-ghost use Rattle.swreq_rule.specs.declared.rules.Rule.{Rule};
-ghost use Rattle.swreq_rule.specs.Steps.{Step};
-ghost use Rattle.swreq_correspondence.specs.Symbols.{Word, Symbols, AreSymbolsOf, AreOfText, IsInText};
-ghost use Rattle.swreq_correspondence.specs.Equations.{Linking};
+ghost use Rattle.swreq_canonical.specs.swreq_param.declared.ids.ParamId.{ParamId};
+ghost use Rattle.swreq_canonical.specs.swreq_derive.{Derivation.{TermRequirement, TermFacts, Derivable}, Derivation.Source.{Written}, Derivation.TermStatement.{Requires}, WellFormed.{HasValidSides}};
+ghost use Rattle.swreq_canonical.specs.swreq_word.Relations.{Linked};
+ghost use Rattle.swreq_rounds.specs.swreq_rule.{declared.rules.Rule.{Rule}, Steps.{Step}};
+ghost use Rattle.swreq_canonical.specs.swreq_correspondence.{Symbols.{Word, Symbols, AreSymbolsOf, AreOfText, IsInText}, Equations.{Linking}};
 ghost use Rattle.swreq_canonical.specs.Generators.{IsGeneratorList, AreGeneratorsTold};
 ghost use Rattle.swreq_candidates.specs.Evidence.{IsPlain, RestEquation, HasEvidence, AreRulesOfRest};
 

@@ -1,27 +1,15 @@
 //! Laws on blocks and candidates, over the definitions alone.
-ghost use Rattle.std.specs.Prelude.{◌≡◌, ◌↔◌, ℕ, List, [], ◌∷◌, Some, Contains, slice_get};
-ghost use Rattle.std.specs.List.{All, AllZip};
-ghost use Rattle.swreq_param.specs.declared.ids.ParamId.{ParamId};
-ghost use Rattle.swreq_derive.specs.Derivation.{TermRequirement, TermStatement, TermFacts, Source, Derivable};
-ghost use Rattle.swreq_derive.specs.Derivation.Source.{Written};
-ghost use Rattle.swreq_derive.specs.Equivalence.{AreEquivalent};
-ghost use Rattle.swreq_canonical.specs.Canonical.{IsCanonical, HasReducedTypes};
-ghost use Rattle.swreq_canonical.specs.Generators.{IsGenerator, IsGeneratorList, AreEnough, Takes, AreDecided};
-ghost use Rattle.swreq_canonical.specs.Minimised.{Leaves, IsMinimised};
-ghost use Rattle.swreq_word.specs.Least.{IsLeast, IsMinimal};
-ghost use Rattle.swreq_word.specs.Relations.{Linked};
-ghost use Rattle.swreq_rule.specs.declared.rules.Rule.{Rule};
-ghost use Rattle.swreq_rule.specs.Steps.{Step};
-ghost use Rattle.swreq_pair.specs.CriticalPairs.{PairsMeet};
-ghost use Rattle.swreq_complete.specs.Reduced.{IsReducedSystem};
+ghost use Rattle.std.specs.{Prelude.{◌≡◌, ◌↔◌, ℕ, List, [], ◌∷◌, Some, Contains, slice_get}, List.{All, AllZip}};
+ghost use Rattle.swreq_canonical.specs.swreq_param.declared.ids.ParamId.{ParamId};
+ghost use Rattle.swreq_canonical.specs.swreq_derive.{Derivation.{TermRequirement, TermStatement, TermFacts, Source, Derivable}, Derivation.Source.{Written}, Equivalence.{AreEquivalent}};
+ghost use Rattle.swreq_canonical.specs.{Canonical.{IsCanonical, HasReducedTypes}, Generators.{IsGenerator, IsGeneratorList, AreEnough, Takes, AreDecided}, Minimised.{Leaves, IsMinimised}};
+ghost use Rattle.swreq_canonical.specs.swreq_word.{Least.{IsLeast, IsMinimal}, Relations.{Linked}};
+ghost use Rattle.swreq_rounds.specs.swreq_rule.{declared.rules.Rule.{Rule}, Steps.{Step}};
+ghost use Rattle.swreq_rounds.specs.swreq_pair.CriticalPairs.{PairsMeet};
+ghost use Rattle.swreq_rounds.specs.swreq_complete.Reduced.{IsReducedSystem};
 ghost use Rattle.swreq_rounds.specs.Presents.{ProtocolEquation, AreProtocolRules, AreListRules};
-ghost use Rattle.swreq_correspondence.specs.Symbols.{Word, Symbols, AreSymbolsOf};
-ghost use Rattle.swreq_correspondence.specs.Equations.{AreCongruent, UsableEquation};
-ghost use Rattle.swreq_correspondence.specs.Types.{HasFirsts};
-ghost use Rattle.swreq_candidates.specs.Blocks.{Cut, AreMembersDeclared, AreMembersNamed, blocks, joined_words};
-ghost use Rattle.swreq_candidates.specs.Blocks.Place.{Outside};
-ghost use Rattle.swreq_candidates.specs.Candidates.{IsCandidate, IsCandidateList, IsReadOff};
-ghost use Rattle.swreq_candidates.specs.Completed.{HasLeastWords, IsCompleted, IsWordOfText};
+ghost use Rattle.swreq_canonical.specs.swreq_correspondence.{Symbols.{Word, Symbols, AreSymbolsOf}, Equations.{AreCongruent, UsableEquation}, Types.{HasFirsts}};
+ghost use Rattle.swreq_candidates.specs.{Blocks.{Cut, AreMembersDeclared, AreMembersNamed, blocks, joined_words}, Blocks.Place.{Outside}, Candidates.{IsCandidate, IsCandidateList, IsReadOff}, Completed.{HasLeastWords, IsCompleted, IsWordOfText}};
 
 /// A word is cut into blocks in one way, and its blocks make the word. Two words are congruent if and only if they have the same number of
 /// blocks, which are congruent one by one. So a word is least if and only if its blocks are, and a minimal word is one block.

@@ -3,17 +3,11 @@
 //! Each function is one text, whose facts and lists stand in `swreq_derive` or `swreq_canonical`, and whose symbols in `swreq_correspondence` or
 //! in `specs/Worked.antt`. Nothing is computed: the clauses are theorems.
 ghost use Rattle.std.specs.Prelude.{◌≡◌, [], ◌∷◌};
-ghost use Rattle.swreq_word.specs.declared.symbols.Symbol.TheVariants.{Proto, Member, Name};
-ghost use Rattle.swreq_derive.specs.Derivation.{TermRequirement};
-ghost use Rattle.swreq_derive.specs.Derivation.TermRequirement.{Conforms, IsAnyObject, Equals};
-ghost use Rattle.swreq_derive.specs.Worked.{of_one, of_two, τ_0_0, τ_0_1, bound, N, Q, A_of_P, endless, endless_f, shared, shared_f, layouts, layouts_f};
-ghost use Rattle.swreq_correspondence.specs.Worked.{first_param, endless_symbols, shared_symbols};
-ghost use Rattle.swreq_candidates.specs.Blocks.{Cut, AreMembersNamed, blocks};
-ghost use Rattle.swreq_candidates.specs.Blocks.Place.{Outside};
-ghost use Rattle.swreq_candidates.specs.Candidates.{IsCandidate, IsReadOff};
+ghost use Rattle.swreq_canonical.specs.swreq_word.declared.symbols.Symbol.TheVariants.{Proto, Member, Name};
+ghost use Rattle.swreq_canonical.specs.swreq_derive.{Derivation.{TermRequirement}, Derivation.TermRequirement.{Conforms, IsAnyObject, Equals}, Worked.{of_one, of_two, τ_0_0, τ_0_1, bound, N, Q, A_of_P, endless, endless_f, shared, shared_f, layouts, layouts_f}};
+ghost use Rattle.swreq_canonical.specs.swreq_correspondence.Worked.{first_param, endless_symbols, shared_symbols};
+ghost use Rattle.swreq_candidates.specs.{Blocks.{Cut, AreMembersNamed, blocks}, Blocks.Place.{Outside}, Candidates.{IsCandidate, IsReadOff}, Evidence.{IsPlain, HasEvidence}, Worked.{read_word, broken_word, layouts_symbols, inherited_symbols, implied, implied_symbols, implied_rest}};
 ghost use Rattle.swreq_canonical.specs.Worked.{one, two, Base, inherited, inherited_g};
-ghost use Rattle.swreq_candidates.specs.Evidence.{IsPlain, HasEvidence};
-ghost use Rattle.swreq_candidates.specs.Worked.{read_word, broken_word, layouts_symbols, inherited_symbols, implied, implied_symbols, implied_rest};
 
 /// `protocol N { associatedtype Next: N }` and `func f<T: N>()`: a word that is read is one block. Where a name is not read, it stands
 /// alone, and a protocol after it begins a block of its own. The conformance of T is a candidate.

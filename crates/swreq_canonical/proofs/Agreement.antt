@@ -1,16 +1,16 @@
 -- Minimised lists, and that equivalent lists have one.
 use Rattle.std.proofs.Common.{◌≡◌, ◌↔◌, List, [], Contains, subst}
-use Rattle.swreq_param.specs.declared.ids.ParamId.{ParamId}
-use Rattle.swreq_param.specs.declared.ids.Step.TheVariants.{Bound, Name}
-use Rattle.swreq_param.specs.Terms.{Term}
-use Rattle.swreq_param.specs.Terms.Term.{Generic, Member}
+use Rattle.swreq_derive.specs.swreq_param.declared.ids.ParamId.{ParamId}
+use Rattle.swreq_derive.specs.swreq_param.declared.ids.Step.TheVariants.{Bound, Name}
+use Rattle.swreq_derive.specs.swreq_param.Terms.{Term}
+use Rattle.swreq_derive.specs.swreq_param.Terms.Term.{Generic, Member}
 use Rattle.swreq_derive.specs.Derivation.{TermFacts, TermRequirement}
 use Rattle.swreq_derive.specs.Derivation.Source.{Written}
 use Rattle.swreq_derive.specs.Derivation.TermRequirement.{Conforms, Equals, IsAnyObject}
 use Rattle.swreq_derive.specs.Derivation.TermStatement.{Requires}
 use Rattle.swreq_derive.specs.Equivalence.{AreEquivalent}
 use Rattle.swreq_derive.specs.Reduced.{IsReduced, IsReducedTypeOf}
-use Rattle.swreq_lemmas.proofs.Members.{no_member}
+use Rattle.swreq_derive.proofs.swreq_lemmas.Members.{no_member}
 use Rattle.swreq_canonical.specs.Canonical.{CanBePrincipal, HasCanonicalForm, HasReducedTypes, IsCanonical}
 use Rattle.swreq_canonical.specs.CanonicalOrder.{IsStrictlySorted}
 use Rattle.swreq_canonical.specs.Generators.{AreDecided, AreEnough, AreGeneratorsTold, IsGenerator, IsGeneratorList}

@@ -1,8 +1,8 @@
 -- A list of canonical requirements such that each canonical requirement is a member or follows from earlier ones derives them all.
 use Rattle.std.proofs.Common.{◌≡◌, ◌⊎◌, List, Contains, refl, subst, sym, inl, inr}
-use Rattle.swreq_param.specs.declared.ids.ParamId.{ParamId}
-use Rattle.swreq_lemmas.specs.WellFounded.{IsAccessible}
-use Rattle.swreq_lemmas.specs.WellFounded.IsAccessible.{reached}
+use Rattle.swreq_derive.specs.swreq_param.declared.ids.ParamId.{ParamId}
+use Rattle.swreq_derive.specs.swreq_lemmas.WellFounded.{IsAccessible}
+use Rattle.swreq_derive.specs.swreq_lemmas.WellFounded.IsAccessible.{reached}
 use Rattle.swreq_derive.specs.Derivation.{Derivable, Source, TermFacts, TermRequirement, TermStatement}
 use Rattle.swreq_derive.specs.Derivation.Source.{Written}
 use Rattle.swreq_derive.specs.Derivation.TermStatement.{Requires}

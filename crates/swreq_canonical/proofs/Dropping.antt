@@ -1,13 +1,13 @@
 -- What is left after dropping derives the same, and none of it is derivable from the others.
 use Rattle.std.proofs.Common.{◌≡◌, List, [], ◌∷◌, ◌++◌, Contains, refl, ap, subst, sym, inl, inr, append_assoc}
 use Rattle.std.proofs.lemmas.List.Elements.{Contains-append_left, Contains-append_right, Contains-append_cases, Contains-push_cases}
-use Rattle.swreq_param.specs.declared.ids.ParamId.{ParamId}
+use Rattle.swreq_derive.specs.swreq_param.declared.ids.ParamId.{ParamId}
 use Rattle.swreq_derive.specs.Derivation.{Derivable, TermFacts, TermRequirement, TermStatement}
 use Rattle.swreq_derive.specs.Derivation.Source.{Written}
 use Rattle.swreq_derive.specs.Derivation.TermStatement.{Requires}
 use Rattle.swreq_derive.specs.Equivalence.{AreEquivalent}
-use Rattle.swreq_lemmas.proofs.Members.{first_member, later_member, member_cases}
-use Rattle.swreq_lemmas.proofs.Elements.{same_heads, same_tails}
+use Rattle.swreq_derive.proofs.swreq_lemmas.Members.{first_member, later_member, member_cases}
+use Rattle.swreq_derive.proofs.swreq_lemmas.Elements.{same_heads, same_tails}
 use Rattle.swreq_correspondence.proofs.Correspondence.{of_usable}
 use Rattle.swreq_canonical.specs.CanonicalOrder.{IsStrictlySorted}
 use Rattle.swreq_canonical.specs.Generators.{AreDecided}

@@ -1,15 +1,15 @@
 -- What follows from requirements of a kind.
 use Rattle.std.proofs.Common.{true, List, [], ◌∷◌, ◌++◌, Contains, subst, sym, inl, inr}
 use Rattle.std.proofs.lemmas.List.Elements.{Contains-append_left, Contains-append_right, Contains-append_cases, Contains-push, Contains-push_cases}
-use Rattle.swreq_param.specs.declared.ids.ParamId.{ParamId}
-use Rattle.swreq_param.specs.Terms.Term.{Generic}
+use Rattle.swreq_derive.specs.swreq_param.declared.ids.ParamId.{ParamId}
+use Rattle.swreq_derive.specs.swreq_param.Terms.Term.{Generic}
 use Rattle.swreq_derive.specs.Derivation.{Derivable, TermFacts, TermRequirement, TermStatement}
 use Rattle.swreq_derive.specs.Derivation.Derives.{generic}
 use Rattle.swreq_derive.specs.Derivation.Source.{Written}
 use Rattle.swreq_derive.specs.Derivation.TermRequirement.{Conforms, Equals, IsAnyObject}
 use Rattle.swreq_derive.specs.Derivation.TermStatement.{IsValid, Requires}
 use Rattle.swreq_derive.specs.WellFormed.{HasValidSides}
-use Rattle.swreq_lemmas.proofs.Members.{first_member, later_member, member_cases, no_member}
+use Rattle.swreq_derive.proofs.swreq_lemmas.Members.{first_member, later_member, member_cases, no_member}
 use Rattle.swreq_derive.proofs.Monotone.{grows}
 use Rattle.swreq_derive.proofs.Substitution.{derives_members, derives_with, substitute_in-generic, substitute_into-generic}
 use Rattle.swreq_correspondence.proofs.Correspondence.{of_usable}

@@ -1,3 +1,8 @@
+pub use Rattle.swreq_derive.proofs.swreq_lemmas as swreq_lemmas
+pub use Rattle.swreq_derive.proofs.swreq_param as swreq_param
+pub use Rattle.swreq_derive.proofs as swreq_derive
+pub use Rattle.swreq_correspondence.proofs.swreq_word as swreq_word
+pub use Rattle.swreq_correspondence.proofs as swreq_correspondence
 pub mod ReducedLemmas
 pub mod Ordered
 pub mod Sorting

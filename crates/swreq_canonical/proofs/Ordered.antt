@@ -1,17 +1,17 @@
 -- The order of canonical requirements.
 use Rattle.std.proofs.Common.{◌≡◌, ◌⊎◌, ◌↔◌, ℕ, zero, suc, ◌<◌, List, [], ◌∷◌, Contains, refl, ap, ap₂, subst, sym, ◌∙◌, inl, inr, arith}
 use Rattle.std.proofs.lemmas.Bool.{cases_order}
-use Rattle.swreq_param.specs.declared.ids.ProtoId.{ProtoId}
-use Rattle.swreq_param.specs.Order.{TermBefore}
-use Rattle.swreq_param.specs.Terms.{Term}
-use Rattle.swreq_param.proofs.Founded.{terms_founded}
-use Rattle.swreq_param.proofs.TotalOrder.{strict, total, transitive}
-use Rattle.swreq_lemmas.specs.WellFounded.{IsAccessible, IsWellFounded}
-use Rattle.swreq_lemmas.specs.WellFounded.IsAccessible.{reached}
+use Rattle.swreq_derive.specs.swreq_param.declared.ids.ProtoId.{ProtoId}
+use Rattle.swreq_derive.specs.swreq_param.Order.{TermBefore}
+use Rattle.swreq_derive.specs.swreq_param.Terms.{Term}
+use Rattle.swreq_derive.proofs.swreq_param.Founded.{terms_founded}
+use Rattle.swreq_derive.proofs.swreq_param.TotalOrder.{strict, total, transitive}
+use Rattle.swreq_derive.specs.swreq_lemmas.WellFounded.{IsAccessible, IsWellFounded}
+use Rattle.swreq_derive.specs.swreq_lemmas.WellFounded.IsAccessible.{reached}
 use Rattle.swreq_derive.specs.Derivation.{Source, TermFacts, TermRequirement}
 use Rattle.swreq_derive.specs.Derivation.TermRequirement.{Conforms, IsAnyObject, Equals}
 use Rattle.swreq_derive.specs.Reduced.{IsReduced, IsReducedTypeOf}
-use Rattle.swreq_lemmas.proofs.Members.{first_member, later_member, member_cases, no_member}
+use Rattle.swreq_derive.proofs.swreq_lemmas.Members.{first_member, later_member, member_cases, no_member}
 use Rattle.swreq_derive.proofs.ReducedTypes.{reduced_is_one}
 use Rattle.swreq_canonical.specs.Canonical.{IsCanonical, principal}
 use Rattle.swreq_canonical.specs.CanonicalOrder.{KindBefore, RequirementBefore, IsStrictlySorted}

@@ -1,13 +1,13 @@
 -- Reduced types: their bases are reduced, and the reduced type of a type parameter is reduced.
 use Rattle.std.proofs.Common.{◌≡◌, ◌+◌, refl, ap, subst, sym, inl, inr, arith}
-use Rattle.swreq_param.specs.declared.ids.AssocId.{AssocId}
-use Rattle.swreq_param.specs.declared.ids.NameId.{NameId}
-use Rattle.swreq_param.specs.declared.ids.Step.{Step}
-use Rattle.swreq_param.specs.declared.ids.Step.TheVariants.{Bound, Name}
-use Rattle.swreq_param.specs.Order.{TermBefore}
-use Rattle.swreq_param.specs.Terms.{Term}
-use Rattle.swreq_param.specs.Terms.Term.{Member}
-use Rattle.swreq_param.proofs.TotalOrder.{total, strict}
+use Rattle.swreq_derive.specs.swreq_param.declared.ids.AssocId.{AssocId}
+use Rattle.swreq_derive.specs.swreq_param.declared.ids.NameId.{NameId}
+use Rattle.swreq_derive.specs.swreq_param.declared.ids.Step.{Step}
+use Rattle.swreq_derive.specs.swreq_param.declared.ids.Step.TheVariants.{Bound, Name}
+use Rattle.swreq_derive.specs.swreq_param.Order.{TermBefore}
+use Rattle.swreq_derive.specs.swreq_param.Terms.{Term}
+use Rattle.swreq_derive.specs.swreq_param.Terms.Term.{Member}
+use Rattle.swreq_derive.proofs.swreq_param.TotalOrder.{total, strict}
 use Rattle.swreq_derive.specs.Derivation.{TermFacts, Source, Derivable}
 use Rattle.swreq_derive.specs.Derivation.TermStatement.{IsValid}
 use Rattle.swreq_derive.specs.Derivation.Derives.{assoc_bind, reflex, symm, trans, same_conf, same_decl}

@@ -1,19 +1,19 @@
 -- Reduced types are valid by canonical conformances of types with fewer members, and the sides of a canonical requirement by canonical
 -- requirements that come before it.
 use Rattle.std.proofs.Common.{ℕ, ◌<◌, ◌≤◌, [], List, inl, arith}
-use Rattle.swreq_param.specs.declared.ids.ParamId.{ParamId}
-use Rattle.swreq_param.specs.declared.ids.ProtoId.{ProtoId}
-use Rattle.swreq_param.specs.declared.ids.Step.TheVariants.{Bound, Name}
-use Rattle.swreq_param.specs.Order.{TermBefore}
-use Rattle.swreq_param.specs.Terms.{Term, member_count}
-use Rattle.swreq_param.specs.Terms.Term.{Generic, Member}
+use Rattle.swreq_derive.specs.swreq_param.declared.ids.ParamId.{ParamId}
+use Rattle.swreq_derive.specs.swreq_param.declared.ids.ProtoId.{ProtoId}
+use Rattle.swreq_derive.specs.swreq_param.declared.ids.Step.TheVariants.{Bound, Name}
+use Rattle.swreq_derive.specs.swreq_param.Order.{TermBefore}
+use Rattle.swreq_derive.specs.swreq_param.Terms.{Term, member_count}
+use Rattle.swreq_derive.specs.swreq_param.Terms.Term.{Generic, Member}
 use Rattle.swreq_derive.specs.Derivation.{Derivable, Source, TermFacts, TermRequirement, TermStatement}
 use Rattle.swreq_derive.specs.Derivation.Derives.{assoc_decl, generic, reflex}
 use Rattle.swreq_derive.specs.Derivation.Source.{Written}
 use Rattle.swreq_derive.specs.Derivation.TermRequirement.{Conforms, Equals, IsAnyObject}
 use Rattle.swreq_derive.specs.Derivation.TermStatement.{IsValid, Requires}
 use Rattle.swreq_derive.specs.Reduced.{IsReduced, IsReducedTypeOf}
-use Rattle.swreq_lemmas.proofs.Members.{no_member}
+use Rattle.swreq_derive.proofs.swreq_lemmas.Members.{no_member}
 use Rattle.swreq_correspondence.proofs.Readings.{sides_of, valid_bound, valid_generic}
 use Rattle.swreq_canonical.specs.Canonical.{IsCanonical, principal}
 use Rattle.swreq_canonical.specs.Generators.{Follows}

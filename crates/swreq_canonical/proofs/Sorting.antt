@@ -1,7 +1,7 @@
 -- Canonical requirements can be sorted.
 use Rattle.std.proofs.Common.{◌↔◌, List, [], ◌∷◌, Contains, subst, sym, ◌∙◌, inl, inr}
 use Rattle.swreq_derive.specs.Derivation.{Source, TermFacts, TermRequirement}
-use Rattle.swreq_lemmas.proofs.Members.{first_member, later_member, member_cases, no_member}
+use Rattle.swreq_derive.proofs.swreq_lemmas.Members.{first_member, later_member, member_cases, no_member}
 use Rattle.swreq_canonical.specs.Canonical.{IsCanonical}
 use Rattle.swreq_canonical.specs.CanonicalOrder.{IsStrictlySorted, RequirementBefore}
 use Rattle.swreq_canonical.proofs.Ordered.{canonical_total, transitive_requirements}

@@ -1,20 +1,20 @@
 -- What a list derives follows from its canonical requirements.
 use Rattle.std.proofs.Common.{◌≡◌, List, [], subst, sym, inl, inr, arith}
-use Rattle.swreq_param.specs.declared.ids.AssocId.{AssocId}
-use Rattle.swreq_param.specs.declared.ids.NameId.{NameId}
-use Rattle.swreq_param.specs.declared.ids.ParamId.{ParamId}
-use Rattle.swreq_param.specs.declared.ids.ProtoId.{ProtoId}
-use Rattle.swreq_param.specs.declared.ids.Step.TheVariants.{Bound, Name}
-use Rattle.swreq_param.specs.Terms.{Term, member_count}
-use Rattle.swreq_param.specs.Terms.Term.{Generic, Member}
-use Rattle.swreq_param.proofs.TotalOrder.{total}
+use Rattle.swreq_derive.specs.swreq_param.declared.ids.AssocId.{AssocId}
+use Rattle.swreq_derive.specs.swreq_param.declared.ids.NameId.{NameId}
+use Rattle.swreq_derive.specs.swreq_param.declared.ids.ParamId.{ParamId}
+use Rattle.swreq_derive.specs.swreq_param.declared.ids.ProtoId.{ProtoId}
+use Rattle.swreq_derive.specs.swreq_param.declared.ids.Step.TheVariants.{Bound, Name}
+use Rattle.swreq_derive.specs.swreq_param.Terms.{Term, member_count}
+use Rattle.swreq_derive.specs.swreq_param.Terms.Term.{Generic, Member}
+use Rattle.swreq_derive.proofs.swreq_param.TotalOrder.{total}
 use Rattle.swreq_derive.specs.Derivation.{Declares, Derivable, Source, TermFacts, TermRequirement, TermStatement}
 use Rattle.swreq_derive.specs.Derivation.Derives.{assoc_bind, assoc_decl, generic, reflex, same_conf, same_decl, same_layout, same_name, symm, trans}
 use Rattle.swreq_derive.specs.Derivation.Source.{Written}
 use Rattle.swreq_derive.specs.Derivation.TermRequirement.{Conforms, Equals, IsAnyObject}
 use Rattle.swreq_derive.specs.Derivation.TermStatement.{IsValid, Requires}
 use Rattle.swreq_derive.specs.Reduced.{IsReduced, IsReducedTypeOf}
-use Rattle.swreq_lemmas.proofs.Members.{no_member}
+use Rattle.swreq_derive.proofs.swreq_lemmas.Members.{no_member}
 use Rattle.swreq_correspondence.proofs.Readings.{sides_of, valid_base, valid_bound, valid_generic, valid_name}
 use Rattle.swreq_canonical.specs.Canonical.{CanBePrincipal, HasReducedTypes, IsCanonical}
 use Rattle.swreq_canonical.specs.Generators.{Follows}

@@ -1,11 +1,11 @@
 -- Of candidates that are enough, those that are taken are exactly the generators.
 use Rattle.std.proofs.Common.{◌⊎◌, List, [], ◌∷◌, ◌++◌, Contains, subst, sym, inl, inr}
 use Rattle.std.proofs.lemmas.List.Elements.{Contains-append_left, Contains-push, Contains-push_cases}
-use Rattle.swreq_param.specs.declared.ids.ParamId.{ParamId}
+use Rattle.swreq_derive.specs.swreq_param.declared.ids.ParamId.{ParamId}
 use Rattle.swreq_derive.specs.Derivation.{Derivable, Source, TermFacts, TermRequirement}
 use Rattle.swreq_derive.specs.Derivation.Source.{Written}
 use Rattle.swreq_derive.specs.Derivation.TermStatement.{Requires}
-use Rattle.swreq_lemmas.proofs.Members.{first_member, later_member, member_cases, no_member}
+use Rattle.swreq_derive.proofs.swreq_lemmas.Members.{first_member, later_member, member_cases, no_member}
 use Rattle.swreq_canonical.specs.Canonical.{IsCanonical}
 use Rattle.swreq_canonical.specs.CanonicalOrder.{IsStrictlySorted, RequirementBefore}
 use Rattle.swreq_canonical.specs.Generators.{AreDecided, AreEnough, AreGeneratorsTold, FollowsFromEarlier, IsEarlier, IsGenerator, IsGeneratorList, Takes}

@@ -1,7 +1,7 @@
 -- The canonical requirements of a list.
-use Rattle.swreq_param.specs.declared.ids.Step.TheVariants.{Bound, Name}
-use Rattle.swreq_param.specs.Terms.{Term}
-use Rattle.swreq_param.specs.Terms.Term.{Generic, Member}
+use Rattle.swreq_derive.specs.swreq_param.declared.ids.Step.TheVariants.{Bound, Name}
+use Rattle.swreq_derive.specs.swreq_param.Terms.{Term}
+use Rattle.swreq_derive.specs.swreq_param.Terms.Term.{Generic, Member}
 use Rattle.swreq_derive.specs.Derivation.{TermRequirement, TermFacts, Source, Derivable}
 use Rattle.swreq_derive.specs.Derivation.TermRequirement.{Conforms, IsAnyObject, Equals}
 use Rattle.swreq_derive.specs.Derivation.TermStatement.{IsValid, Requires}

@@ -1,6 +1,6 @@
 -- The order of canonical requirements.
 use Rattle.std.specs.Prelude.{◌≡◌, ◌<◌, ◌⊎◌, List, [], ◌∷◌, Contains}
-use Rattle.swreq_param.specs.Order.{TermBefore}
+use Rattle.swreq_derive.specs.swreq_param.Order.{TermBefore}
 use Rattle.swreq_derive.specs.Derivation.{TermRequirement}
 use Rattle.swreq_derive.specs.Derivation.TermRequirement.{Conforms, IsAnyObject, Equals}
 use Rattle.swreq_canonical.specs.Canonical.{principal}

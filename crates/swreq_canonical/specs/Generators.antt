@@ -1,6 +1,6 @@
 -- The generators of a list, and how they are found among candidates.
 use Rattle.std.specs.Prelude.{◌↔◌, ◌⊎◌, List, [], ◌∷◌, ◌++◌, Contains}
-use Rattle.swreq_param.specs.declared.ids.ParamId.{ParamId}
+use Rattle.swreq_derive.specs.swreq_param.declared.ids.ParamId.{ParamId}
 use Rattle.swreq_derive.specs.Derivation.{TermRequirement, TermStatement, TermFacts, Source, Derivable}
 use Rattle.swreq_derive.specs.Derivation.TermStatement.{Requires}
 use Rattle.swreq_derive.specs.Derivation.Source.{Written}

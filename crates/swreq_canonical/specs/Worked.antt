@@ -1,8 +1,8 @@
 -- Lists of worked texts. Other texts stand in `swreq_derive`.
 use Rattle.std.specs.Prelude.{List, [], ◌∷◌}
-use Rattle.swreq_param.specs.declared.ids.ParamId.{ParamId}
-use Rattle.swreq_param.specs.declared.ids.ProtoId.{ProtoId}
-use Rattle.swreq_param.specs.Terms.{self}
+use Rattle.swreq_derive.specs.swreq_param.declared.ids.ParamId.{ParamId}
+use Rattle.swreq_derive.specs.swreq_param.declared.ids.ProtoId.{ProtoId}
+use Rattle.swreq_derive.specs.swreq_param.Terms.{self}
 use Rattle.swreq_derive.specs.Derivation.{TermRequirement, TermFacts}
 use Rattle.swreq_derive.specs.Derivation.TermRequirement.{Conforms, IsAnyObject, Equals}
 use Rattle.swreq_derive.specs.Worked.{protocol, param, facts, τ_0_0, τ_0_1, P}

@@ -1,17 +1,9 @@
 //! Laws on canonical requirements, generators and minimised lists, over the definitions alone.
 ghost use Rattle.std.specs.Prelude.{◌≡◌, ◌↔◌, ◌⊎◌, List, [], ◌∷◌, ◌++◌, Contains};
-ghost use Rattle.swreq_param.specs.declared.ids.ParamId.{ParamId};
-ghost use Rattle.swreq_param.specs.Terms.{Term};
-ghost use Rattle.swreq_derive.specs.Derivation.{TermRequirement, TermStatement, TermFacts, Source, Derivable};
-ghost use Rattle.swreq_derive.specs.Derivation.TermRequirement.{Equals};
-ghost use Rattle.swreq_derive.specs.Derivation.TermStatement.{Requires};
-ghost use Rattle.swreq_derive.specs.Derivation.Source.{Written};
-ghost use Rattle.swreq_derive.specs.Equivalence.{AreEquivalent};
-ghost use Rattle.swreq_lemmas.specs.WellFounded.{IsWellFounded};
-ghost use Rattle.swreq_canonical.specs.Canonical.{IsCanonical, HasReducedTypes, principal};
-ghost use Rattle.swreq_canonical.specs.CanonicalOrder.{RequirementBefore, IsStrictlySorted};
-ghost use Rattle.swreq_canonical.specs.Generators.{Follows, IsGenerator, IsGeneratorList, AreGeneratorsTold, AreEnough, Takes, AreDecided};
-ghost use Rattle.swreq_canonical.specs.Minimised.{Leaves, IsMinimised, IsIndependent};
+ghost use Rattle.swreq_derive.specs.swreq_param.{declared.ids.ParamId.{ParamId}, Terms.{Term}};
+ghost use Rattle.swreq_derive.specs.{Derivation.{TermRequirement, TermStatement, TermFacts, Source, Derivable}, Derivation.TermRequirement.{Equals}, Derivation.TermStatement.{Requires}, Derivation.Source.{Written}, Equivalence.{AreEquivalent}};
+ghost use Rattle.swreq_derive.specs.swreq_lemmas.WellFounded.{IsWellFounded};
+ghost use Rattle.swreq_canonical.specs.{Canonical.{IsCanonical, HasReducedTypes, principal}, CanonicalOrder.{RequirementBefore, IsStrictlySorted}, Generators.{Follows, IsGenerator, IsGeneratorList, AreGeneratorsTold, AreEnough, Takes, AreDecided}, Minimised.{Leaves, IsMinimised, IsIndependent}};
 
 /// The order of requirements is strict and transitive, and nothing goes down in it for ever. It is total on the canonical requirements of a
 /// list, of which a same-type requirement shares its principal type with no other. Such requirements can be sorted strictly, and a strictly

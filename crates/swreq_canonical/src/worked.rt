@@ -3,15 +3,8 @@
 //! Each function is one text, whose facts and lists stand in `specs/Worked.antt` here and in `swreq_derive`. Nothing is computed: the
 //! clauses are theorems.
 ghost use Rattle.std.specs.Prelude.{[], Contains};
-ghost use Rattle.swreq_derive.specs.Derivation.{TermRequirement};
-ghost use Rattle.swreq_derive.specs.Derivation.TermRequirement.{Conforms, IsAnyObject, Equals};
-ghost use Rattle.swreq_derive.specs.Equivalence.{AreEquivalent};
-ghost use Rattle.swreq_derive.specs.Worked.{◌·◌, bound, of_one, of_two, τ_0_0, τ_0_1, P, A, A_of_P, A_of_Q, shared, shared_f, layouts, layouts_f, members};
-ghost use Rattle.swreq_canonical.specs.Canonical.{IsCanonical};
-ghost use Rattle.swreq_canonical.specs.CanonicalOrder.{IsStrictlySorted};
-ghost use Rattle.swreq_canonical.specs.Generators.{IsGenerator, IsGeneratorList};
-ghost use Rattle.swreq_canonical.specs.Minimised.{Leaves, IsMinimised};
-ghost use Rattle.swreq_canonical.specs.Worked.{one, two, inherited, inherited_f, inherited_g, members_h, members_left, layouts_canonical, layouts_minimised};
+ghost use Rattle.swreq_derive.specs.{Derivation.{TermRequirement}, Derivation.TermRequirement.{Conforms, IsAnyObject, Equals}, Equivalence.{AreEquivalent}, Worked.{◌·◌, bound, of_one, of_two, τ_0_0, τ_0_1, P, A, A_of_P, A_of_Q, shared, shared_f, layouts, layouts_f, members}};
+ghost use Rattle.swreq_canonical.specs.{Canonical.{IsCanonical}, CanonicalOrder.{IsStrictlySorted}, Generators.{IsGenerator, IsGeneratorList}, Minimised.{Leaves, IsMinimised}, Worked.{one, two, inherited, inherited_f, inherited_g, members_h, members_left, layouts_canonical, layouts_minimised}};
 
 /// `protocol Base { }`, `protocol Derived: Base { }`, `func f<T: Base & Derived>()` and `func g<T: Derived>()`: equivalent lists. Both
 /// conformances are generators, since the one to `Base` comes first, and then that one is dropped.

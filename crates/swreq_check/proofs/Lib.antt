@@ -5,3 +5,4 @@ pub mod OneCheck
 pub mod PiecesMade
 pub mod Placed
 pub mod Settled
+pub mod Asking

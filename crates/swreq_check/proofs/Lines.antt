@@ -1,34 +1,32 @@
 -- Lines, and the lines of queries.
-use Rattle.std.proofs.Common.{◌≡◌, ◌∙◌, refl, sym, ap, subst, ℕ, ◌+◌, ◌<◌, ◌≤◌, true, List, [], ◌∷◌, ◌++◌, take, get_or, length, append-nil, Contains, Option, Some}
+use Rattle.std.proofs.Common.{◌≡◌, ◌≢◌, ◌∙◌, refl, sym, ap, subst, ℕ, ◌+◌, ◌<◌, ◌≤◌, true, List, [], ◌∷◌, ◌++◌, take, get_or, length, append-nil, Contains, Option, Some}
 use Rattle.std.specs.List.{concat}
 use Rattle.std.proofs.lemmas.List.{take_all, take_more}
 use Rattle.std.proofs.lemmas.List.Folds.{concat-append}
-use Rattle.swreq_derive.specs.Derivation.{Derivable, Source}
-use Rattle.swreq_derive.specs.Derivation.Source.{Written}
-use Rattle.swreq_derive.specs.Facts.{generic_params}
-use Rattle.swreq_derive.specs.declared.known.Params.{Params}
-use Rattle.swreq_lemmas.proofs.Members.{first_member, later_member}
-use Rattle.swreq_print.specs.Names.{Text}
-use Rattle.swreq_param.specs.Terms.{Term}
-use Rattle.swreq_lowering.specs.declared.ids.FuncId.{FuncId}
-use Rattle.swreq_lowering.specs.Queries.{TermQuery}
-use Rattle.swreq_lowering.specs.Queries.TermQuery.{AsksSignature}
-use Rattle.swreq_world.specs.Closed.{IsQueryOf}
-use Rattle.swreq_world.specs.Worlds.{TextWorld, signature_at}
-use Rattle.swreq_symbols.specs.Meaning.{facts_of}
+use Rattle.swreq_machine.specs.swreq_derive.Derivation.{Derivable, Source, TermRequirement}
+use Rattle.swreq_machine.specs.swreq_derive.Derivation.Source.{Written}
+use Rattle.swreq_machine.specs.swreq_derive.Facts.{generic_params}
+use Rattle.swreq_machine.specs.swreq_derive.declared.known.Params.{Params}
+use Rattle.swreq_machine.proofs.swreq_lemmas.Members.{first_member, later_member}
+use Rattle.swreq_lines.specs.swreq_print.Names.{Text}
+use Rattle.swreq_machine.specs.swreq_param.Terms.{Term}
+use Rattle.swreq_machine.specs.swreq_lowering.declared.ids.FuncId.{FuncId}
+use Rattle.swreq_machine.specs.swreq_lowering.Queries.{TermAsks, TermQuery}
+use Rattle.swreq_machine.specs.swreq_lowering.Queries.TermAsks.{AsksRequirement, AsksSignature}
+use Rattle.swreq_machine.specs.swreq_world.Worlds.{TextWorld, signature_at}
+use Rattle.swreq_machine.specs.swreq_symbols.Meaning.{facts_of}
 use Rattle.swreq_machine.specs.Machines.{MachineView}
 use Rattle.swreq_query.specs.Answers.{Answer}
 use Rattle.swreq_query.specs.Answers.Answer.{Yes}
-use Rattle.swreq_query.specs.Asked.{IsOfTypes}
 use Rattle.swreq_query.specs.declared.verdict.Verdict.{Verdict}
 use Rattle.swreq_query.specs.declared.verdict.Verdict.TheVariants as verdicts
 use Rattle.swreq_query.proofs.OneAnswer.{one_answer}
-use Rattle.swreq_world.specs.FactsAt.{source_of, written_list}
+use Rattle.swreq_machine.specs.swreq_world.FactsAt.{source_of, written_list}
 use Rattle.swreq_check.specs.Lines.{AreLines, AreLinesIn}
 use Rattle.swreq_check.specs.Lines.AreLines.{none, more}
 use Rattle.swreq_check.specs.declared.content.Backing.{Backing}
 use Rattle.swreq_check.specs.declared.setting.Setting.{Setting}
-use Rattle.swreq_check.specs.QueryLines.{AnswersByTypes, Backs, BacksYes, HasAnswer, HasVerdict, IsLineOf, signature_of}
+use Rattle.swreq_check.specs.QueryLines.{AnswersByTypes, Backs, BacksYes, HasAnswer, HasVerdict, IsLineOf, IsLineWhere}
 use Rattle.swreq_check.specs.Settings.{IsMachineFor, world_in}
 
 -- ---- lines after lines
@@ -64,37 +62,39 @@ lines_by P Q by (more {x} {xs} {line} is rest) =
 
 -- what holds from the list of a signature with the generic parameters of its machine holds from what a query of that signature asks
 pub by_machine : (terms : List Term) (s : Setting) (f : FuncId) (m : MachineView) → IsMachineFor terms s f m → (q : TermQuery)
-    → signature_of q ≡ f → (P : Source → Type 0)
+    → q.f ≡ f → (P : Source → Type 0)
     → P (Written (generic_params m.params) (written_list (signature_at (world_in terms s) f)))
-    → P (source_of (signature_at (world_in terms s) (signature_of q)))
+    → P (source_of (signature_at (world_in terms s) q.f))
 by_machine terms s f m is q asks P holds =
     let w = world_in terms s in
     subst (λ (g : FuncId). P (source_of (signature_at w g))) (sym asks)
     (subst (λ (p : Params). P (Written (generic_params p) (written_list (signature_at w f)))) is.params holds)
 
 -- a text that answers a query of types is its line
-pub line_by_types : (w : TextWorld) (b : Backing) (q : TermQuery) (text : Text) → IsOfTypes q → AnswersByTypes w true b q text
+line_where : (w : TextWorld) (b : Backing) (q : TermQuery) (text : Text) (a : TermAsks) → a ≢ AsksSignature
+    → AnswersByTypes w true b q text → IsLineWhere w true a b q text
+line_where w b q text AsksSignature types h = absurd (types refl)
+line_where w b q text _ types h = h
+
+pub line_by_types : (w : TextWorld) (b : Backing) (q : TermQuery) (text : Text) → q.asks ≢ AsksSignature → AnswersByTypes w true b q text
     → IsLineOf w true b q text
-line_by_types w b (AsksSignature f) text types h = absurd (types f refl)
-line_by_types w b q text types h = h
+line_by_types w b q text = line_where w b q text q.asks
 
 module _ (w : TextWorld) (b : Backing) (q : TermQuery) where
   -- what backs a `yes` follows each answer that the query has, where it has that one
-  pub behind_yes : (text : Text) → HasAnswer w true Yes q → BacksYes w b q text
+  pub behind_yes : (text : Text) (r : TermRequirement) → HasAnswer w true Yes q → q.asks ≡ AsksRequirement r → BacksYes w b q.f r text
       → (a : Answer) → HasAnswer w true a q → Backs w b q a text
-  behind_yes text is backs a has =
+  behind_yes text r is asks backs a has =
       subst (λ (o : Answer). Backs w b q o text)
-      (one_answer (Derivable (facts_of w) (source_of (signature_at w (signature_of q)))) q Yes a is has) backs
+      (one_answer (Derivable (facts_of w) (source_of (signature_at w q.f))) q.asks Yes a is has) (r, asks, backs)
+
+  -- nothing follows where no requirement is asked
+  pub behind_types : ((r : TermRequirement) → q.asks ≢ AsksRequirement r) → (a : Answer) → HasAnswer w true a q → Backs w b q a []
+  behind_types other Yes has = absurd (other has.1.0 has.1.1)
+  behind_types other _ has = refl
 
   -- and nothing follows it where the verdict is another, or none
   pub behind_others : (verdict : Option Verdict) → HasVerdict w true verdict q → (verdict ≡ Some verdicts.Yes → ⊥)
       → (a : Answer) → HasAnswer w true a q → Backs w b q a []
   behind_others verdict is other Yes has = absurd (other ((is verdicts.Yes).0 has))
   behind_others verdict is other _ has = refl
-
--- ---- what a query asks
-
--- a query asks a signature of the world
-pub query_signature : (w : TextWorld) (q : TermQuery) → IsQueryOf w q → (signature_of q).place < length w.signatures
-query_signature w (AsksSignature f) h = h
-query_signature w _ h = h.0

@@ -1,27 +1,27 @@
 -- The check of a text: its parts one after another, what is told of them, and what a check without a refusal gives.
 use Rattle.std.proofs.Common.{IsErrAnd, ◌≢◌, ◌∙◌, inl, inr, refl, sym, ap, subst, List, ◌++◌, append_assoc, Contains, Option, None, Result, Ok, Err, map, length, ◌≡◌, ℕ, suc, ◌+◌, ◌<◌, ◌∷◌, append-nil, drop, drop-cons, take, Some}
-use Rattle.swreq_derive.specs.Derivation.{TermFacts}
-use Rattle.swreq_derive.specs.WellFormed.{IsListWellFormed, IsWellFormed}
-use Rattle.swreq_lemmas.proofs.Members.{member_cases, no_member, contains_of_map}
-use Rattle.swreq_rule.specs.declared.rules.Rule.{Rule}
-use Rattle.swreq_complete.specs.Limits.{IsWithin}
-use Rattle.swreq_rounds.specs.Plan.{Plan, given}
-use Rattle.swreq_rounds.specs.Rounds.{ComesTo, IsOutcome, IsStoppedRound}
-use Rattle.swreq_rounds.proofs.Turning.{stopped_comes}
-use Rattle.swreq_watch.specs.declared.events.Event.{Event}
-use Rattle.swreq_lowering.specs.Requirements.{PlacedRequirement}
-use Rattle.swreq_world.specs.Closed.{IsClosed}
-use Rattle.swreq_world.specs.Worlds.{SignatureOver, TextWorld, no_signature, signature_at}
-use Rattle.swreq_symbols.specs.Meaning.{facts_of}
-use Rattle.swreq_valid.specs.Built.{Builds, IsBuilt, IsOnlyBuilt}
-use Rattle.swreq_valid.specs.Protocols.{protocols_of}
+use Rattle.swreq_machine.specs.swreq_derive.Derivation.{TermFacts}
+use Rattle.swreq_machine.specs.swreq_derive.WellFormed.{IsListWellFormed, IsWellFormed}
+use Rattle.swreq_machine.proofs.swreq_lemmas.Members.{member_cases, no_member, contains_of_map}
+use Rattle.swreq_machine.specs.swreq_rule.declared.rules.Rule.{Rule}
+use Rattle.swreq_machine.specs.swreq_complete.Limits.{IsWithin}
+use Rattle.swreq_machine.specs.swreq_rounds.Plan.{Plan, given}
+use Rattle.swreq_machine.specs.swreq_rounds.Rounds.{ComesTo, IsOutcome, IsStoppedRound}
+use Rattle.swreq_machine.proofs.swreq_rounds.Turning.{stopped_comes}
+use Rattle.swreq_machine.specs.swreq_watch.declared.events.Event.{Event}
+use Rattle.swreq_machine.specs.swreq_lowering.Requirements.{PlacedRequirement}
+use Rattle.swreq_machine.specs.swreq_world.Closed.{IsClosed}
+use Rattle.swreq_machine.specs.swreq_world.Worlds.{SignatureOver, TextWorld, no_signature, signature_at}
+use Rattle.swreq_machine.specs.swreq_symbols.Meaning.{facts_of}
+use Rattle.swreq_machine.specs.swreq_valid.Built.{Builds, IsBuilt, IsOnlyBuilt}
+use Rattle.swreq_machine.specs.swreq_valid.Protocols.{protocols_of}
 use Rattle.swreq_machine.specs.OfSignatures.{signature_plan, signature_sides}
-use Rattle.swreq_valid.specs.Sides.{Side, protocol_sides}
-use Rattle.swreq_valid.specs.declared.refused.Refused.{Refused}
-use Rattle.swreq_valid.specs.declared.refused.Refused.TheVariants.{Limit, NotATypeParameter, Memory}
-use Rattle.swreq_complete.specs.declared.limit.Limits.{Limits}
-use Rattle.swreq_complete.specs.declared.limit.Which.{Which}
-use Rattle.swreq_world.specs.FactsAt.{source_of}
+use Rattle.swreq_machine.specs.swreq_valid.Sides.{Side, protocol_sides}
+use Rattle.swreq_machine.specs.swreq_valid.declared.refused.Refused.{Refused}
+use Rattle.swreq_machine.specs.swreq_valid.declared.refused.Refused.TheVariants.{Limit, NotATypeParameter, Memory}
+use Rattle.swreq_machine.specs.swreq_complete.declared.limit.Limits.{Limits}
+use Rattle.swreq_machine.specs.swreq_complete.declared.limit.Which.{Which}
+use Rattle.swreq_machine.specs.swreq_world.FactsAt.{source_of}
 use Rattle.swreq_reqsig.proofs.WellFormed.{list_formed, protocols_formed}
 use Rattle.swreq_check.specs.Machines.{IsBuiltOver, IsChecked, SignatureComes, SignaturesCome}
 use Rattle.swreq_check.specs.Machines.IsChecked.{protocols_built, protocols_refused}
@@ -30,8 +30,8 @@ use Rattle.swreq_check.specs.Told.{CheckTells, SignaturesTell}
 use Rattle.swreq_check.specs.Told.CheckTells.{in_protocols, past_protocols}
 use Rattle.swreq_check.specs.Told.SignaturesTell.{nothing_yet, in_first, past_first}
 use Rattle.std.proofs.lemmas.List.{take-append-drop, take_more}
-use Rattle.swreq_watch.specs.Told.{GrewBy}
-use Rattle.swreq_watch.proofs.Told.{grew_on}
+use Rattle.swreq_machine.specs.swreq_watch.Told.{GrewBy}
+use Rattle.swreq_births.proofs.swreq_watch.Told.{grew_on}
 use Rattle.swreq_check.specs.Checks.{Checks, ChecksAll, ChecksOne}
 
 -- what the exit of a `?` returns

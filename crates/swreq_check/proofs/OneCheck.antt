@@ -1,17 +1,17 @@
 -- A check has one outcome.
 use Rattle.std.proofs.Common.{◌≡◌, ◌≢◌, inl, inr, refl, subst, List, Option, None, Result, Ok, Err}
-use Rattle.swreq_derive.specs.Derivation.{TermFacts}
-use Rattle.swreq_rule.specs.declared.rules.Rule.{Rule}
-use Rattle.swreq_rounds.specs.Plan.{Plan}
-use Rattle.swreq_watch.specs.declared.events.Event.{Event}
-use Rattle.swreq_lowering.specs.Requirements.{PlacedRequirement}
-use Rattle.swreq_world.specs.Worlds.{SignatureOver, TextWorld}
-use Rattle.swreq_valid.specs.Built.{Builds, IsBuilt}
-use Rattle.swreq_valid.specs.Sides.{Side}
-use Rattle.swreq_valid.specs.declared.refused.Refused.{Refused}
-use Rattle.swreq_valid.specs.declared.refused.Refused.TheVariants.{Memory}
-use Rattle.swreq_valid.proofs.Building.{only_built}
-use Rattle.swreq_complete.specs.declared.limit.Limits.{Limits}
+use Rattle.swreq_machine.specs.swreq_derive.Derivation.{TermFacts}
+use Rattle.swreq_machine.specs.swreq_rule.declared.rules.Rule.{Rule}
+use Rattle.swreq_machine.specs.swreq_rounds.Plan.{Plan}
+use Rattle.swreq_machine.specs.swreq_watch.declared.events.Event.{Event}
+use Rattle.swreq_machine.specs.swreq_lowering.Requirements.{PlacedRequirement}
+use Rattle.swreq_machine.specs.swreq_world.Worlds.{SignatureOver, TextWorld}
+use Rattle.swreq_machine.specs.swreq_valid.Built.{Builds, IsBuilt}
+use Rattle.swreq_machine.specs.swreq_valid.Sides.{Side}
+use Rattle.swreq_machine.specs.swreq_valid.declared.refused.Refused.{Refused}
+use Rattle.swreq_machine.specs.swreq_valid.declared.refused.Refused.TheVariants.{Memory}
+use Rattle.swreq_machine.proofs.swreq_valid.Building.{only_built}
+use Rattle.swreq_machine.specs.swreq_complete.declared.limit.Limits.{Limits}
 use Rattle.swreq_check.specs.Machines.{IsChecked, SignaturesCome}
 use Rattle.swreq_check.specs.Machines.IsChecked.{protocols_built, protocols_refused}
 use Rattle.swreq_check.specs.Machines.SignaturesCome.{all, next, stopped}

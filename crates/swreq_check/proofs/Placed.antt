@@ -6,39 +6,34 @@ use Rattle.std.proofs.lemmas.Bool.{cases_eq}
 use Rattle.std.proofs.lemmas.List.{get_or-set_other, get_or-set_same, length-set}
 use Rattle.std.proofs.lemmas.List.Elements.{All-get_or, Contains-get_or, Contains-append_cases, Contains-append_left, Contains-append_right}
 use Rattle.std.proofs.lemmas.Option.{none-some, same_Some, slice_get-get_or}
-use Rattle.swreq_lemmas.proofs.Members.{first_member, no_member, only_member}
-use Rattle.swreq_lowering.specs.declared.ids.FuncId.{FuncId}
-use Rattle.swreq_lowering.specs.declared.ids.Query.{Query}
-use Rattle.swreq_lowering.specs.declared.ids.Query.TheVariants as queries
-use Rattle.swreq_world.specs.Worlds.{IdWorld}
+use Rattle.swreq_machine.proofs.swreq_lemmas.Members.{first_member, no_member, only_member}
+use Rattle.swreq_machine.specs.swreq_lowering.declared.ids.FuncId.{FuncId}
+use Rattle.swreq_machine.specs.swreq_lowering.declared.ids.Query.{Query}
+use Rattle.swreq_machine.specs.swreq_lowering.ByTable.{no_query}
+use Rattle.swreq_machine.specs.swreq_world.Worlds.{IdWorld}
 use Rattle.swreq_check.specs.declared.content.Content.{Content}
 use Rattle.swreq_check.specs.declared.content.Made.{Made}
 use Rattle.swreq_check.specs.declared.content.Made.TheVariants.{Lines, Systems}
 use Rattle.swreq_check.specs.Contents.{makes}
-use Rattle.swreq_check.specs.Wanted.{ArePlaces, count_of, function_of, machine_asked, machine_asked_at, made_by as by_made, maker, places_of}
+use Rattle.swreq_check.proofs.Asking.{machine_function}
+use Rattle.swreq_check.specs.Wanted.{ArePlaces, count_of, machine_asked, machine_asked_at, made_by as by_made, maker, places_of}
 
 -- ---- by which machine
 
--- the machine that answers a query is that of the signature that it asks
-pub machine_function : (q : Query) (f : FuncId) → machine_asked q ≡ Some f → function_of q ≡ f
-machine_function (queries.Signature g) f e = absurd (none-some f e)
-machine_function q f e = same_Some (function_of q) f e
-
 -- what is made is made by the machine of a signature of the text
 made_within : (w : IdWorld) (a : Made) (k : ℕ) → k < places_of w a
-    → ((q : Query) → Contains w.queries q → (function_of q).place < length w.signatures)
+    → ((q : Query) → Contains w.queries q → q.f.place < length w.signatures)
     → (f : FuncId) → by_made w a k ≡ Some f → f.place < length w.signatures
 made_within w Lines k l within f e =
-    let any : Query = queries.Signature (record { place = 0 }) in
-    let q : Query = get_or w.queries k any in
-    let asks : machine_asked q ≡ Some f = sym (ap machine_asked_at (slice_get-get_or w.queries k any l)) ∙ e in
-    subst (λ (g : FuncId). g.place < length w.signatures) (machine_function q f asks) (within q (Contains-get_or w.queries k any l))
+    let q : Query = get_or w.queries k no_query in
+    let asks : machine_asked q ≡ Some f = sym (ap machine_asked_at (slice_get-get_or w.queries k no_query l)) ∙ e in
+    subst (λ (g : FuncId). g.place < length w.signatures) (machine_function q f asks) (within q (Contains-get_or w.queries k no_query l))
 made_within w Systems k l within f e = omega (arith, l, ap (λ (g : FuncId). g.place) (same_Some (record { place = k }) f e))
 made_within w _ k l within f e = absurd (none-some f e)
 
 -- and so is a piece
 pub maker_within : (w : IdWorld) (c : Content) (k : ℕ) → k < count_of w c
-    → ((q : Query) → Contains w.queries q → (function_of q).place < length w.signatures)
+    → ((q : Query) → Contains w.queries q → q.f.place < length w.signatures)
     → (f : FuncId) → maker w c k ≡ Some f → f.place < length w.signatures
 maker_within w c = made_within w (makes c)
 

@@ -1,36 +1,34 @@
 -- A text and what is asked of its machines, while its table grows.
-use Rattle.std.proofs.Common.{◌≡◌, ◌∙◌, sym, ap, subst, ℕ, ◌<◌, arith, List, Vec, Option, None, Some, Contains, get_or, length, slice_get, true}
+use Rattle.std.proofs.Common.{◌≡◌, ◌≢◌, ◌∙◌, refl, sym, ap, subst, ℕ, ◌<◌, arith, List, Vec, Option, None, Some, Contains, get_or, length, slice_get, true}
 use Rattle.std.specs.declared.alloc.Global.{Global}
 use Rattle.std.proofs.lemmas.List.{get_or_default}
 use Rattle.std.proofs.lemmas.Option.{none-some, slice_get-get_or}
-use Rattle.swreq_param.specs.Tables.{Extends}
-use Rattle.swreq_param.specs.Terms.{Term}
-use Rattle.swreq_derive.specs.WellFormed.{AreProtocolsWellFormed}
-use Rattle.swreq_lowering.specs.ByTable.{query_by}
-use Rattle.swreq_lowering.specs.declared.ids.FuncId.{FuncId}
-use Rattle.swreq_lowering.specs.declared.ids.Query.{Query}
-use Rattle.swreq_lowering.specs.declared.ids.Query.TheVariants as queries
-use Rattle.swreq_lemmas.proofs.Elements.{get_map}
-use Rattle.swreq_query.specs.Asked.{IsOfTypes}
-use Rattle.swreq_symbols.specs.Meaning.{facts_of}
-use Rattle.swreq_symbols.proofs.Growing.{text_stays, world_stays}
-use Rattle.swreq_valid.specs.Protocols.{AreRulesOf, protocols_of}
+use Rattle.swreq_machine.specs.swreq_param.Tables.{Extends}
+use Rattle.swreq_machine.specs.swreq_param.Terms.{Term}
+use Rattle.swreq_machine.specs.swreq_derive.WellFormed.{AreProtocolsWellFormed}
+use Rattle.swreq_machine.specs.swreq_lowering.ByTable.{query_by}
+use Rattle.swreq_machine.specs.swreq_lowering.declared.ids.FuncId.{FuncId}
+use Rattle.swreq_machine.specs.swreq_lowering.declared.ids.Query.{Query}
+use Rattle.swreq_machine.proofs.swreq_lemmas.Elements.{get_map}
+use Rattle.swreq_machine.specs.swreq_symbols.Meaning.{facts_of}
+use Rattle.swreq_machine.proofs.swreq_symbols.Growing.{text_stays, world_stays}
+use Rattle.swreq_machine.specs.swreq_valid.Protocols.{AreRulesOf, protocols_of}
 use Rattle.swreq_machine.specs.Machines.{IsMachineOf, MachineView}
 use Rattle.swreq_machine.specs.OfSignatures.{signature_plan, signature_sides}
-use Rattle.swreq_valid.specs.Rounds.{AreRounds, last_rules}
-use Rattle.swreq_valid.specs.Sides.{HoldsOfEach, IsValidSide}
-use Rattle.swreq_world.specs.FactsAt.{written_list}
-use Rattle.swreq_world.specs.Worlds.{TextWorld, signature_at}
+use Rattle.swreq_machine.specs.swreq_valid.Rounds.{AreRounds, last_rules}
+use Rattle.swreq_machine.specs.swreq_valid.Sides.{HoldsOfEach, IsValidSide}
+use Rattle.swreq_machine.specs.swreq_world.FactsAt.{written_list}
+use Rattle.swreq_machine.specs.swreq_world.Worlds.{TextWorld, signature_at}
 use Rattle.swreq_check.specs.declared.setting.Means.{Means}
 use Rattle.swreq_check.specs.declared.setting.Setting.{Setting}
 use Rattle.swreq_explain.specs.Histories.{IsHistoryFor}
-use Rattle.swreq_explain.specs.declared.text_history.TextHistory.{TextHistory}
+use Rattle.swreq_explain.specs.declared.history.TextHistory.{TextHistory}
 use Rattle.swreq_explain.proofs.Standing.{text_history_stays}
 use Rattle.swreq_check.specs.declared.content.Made.{Made}
 use Rattle.swreq_check.specs.declared.piece.Piece.{Piece}
 use Rattle.swreq_check.specs.Made.{AreMade, IsMadeAt, IsPiece}
 use Rattle.swreq_check.specs.Contents.{AreAnswers, backing_of}
-use Rattle.swreq_check.specs.QueryLines.{IsPieceOf, signature_of}
+use Rattle.swreq_check.specs.QueryLines.{IsPieceOf}
 use Rattle.swreq_check.specs.Settings.{AreMadeIn, AreMeansFor, HasBase, IsMachineFor, IsPlaceFor, IsReady, world_in}
 use Rattle.swreq_check.specs.Wanted.{count_of, machine_asked, machine_asked_at, made_by, maker, places_of}
 
@@ -84,16 +82,6 @@ module _ (old new : List Term) (s : Setting) (more : Extends old new) (ready : I
       world_on
 
 -- ---- queries of a signature
-
--- a query asks the signature by whose machine it is answered
-pub asks_own : (terms : List Term) (q : Query) (f : FuncId) → machine_asked q ≡ Some f → signature_of (query_by terms q) ≡ f
-asks_own terms (queries.Signature g) f e = cc
-asks_own terms q f e = cc
-
--- and it asks of types
-pub asks_types : (terms : List Term) (q : Query) (f : FuncId) → machine_asked q ≡ Some f → IsOfTypes (query_by terms q)
-asks_types terms (queries.Signature g) f e h asks = absurd (none-some f e)
-asks_types terms q f e h asks = cc
 
 -- one of the places of a signature is that of a query which asks it
 pub place_for : (terms : List Term) (s : Setting) (f : FuncId) → AreAnswers s.content → IsReady terms s

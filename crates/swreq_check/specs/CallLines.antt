@@ -1,10 +1,10 @@
 -- The lines of calls, at their places and one after the other.
 use Rattle.std.specs.Prelude.{◌≡◌, ◌↔◌, ◌<◌, ℕ, List, Contains, Option, Some, length, map, slice_get}
 use Rattle.std.specs.Option.{option_map}
-use Rattle.swreq_print.specs.Names.{Text}
-use Rattle.swreq_world.specs.Worlds.{TextWorld}
-use Rattle.swreq_lowering.specs.declared.ids.FuncId.{FuncId}
-use Rattle.swreq_param.specs.Terms.{Term}
+use Rattle.swreq_lines.specs.swreq_print.Names.{Text}
+use Rattle.swreq_machine.specs.swreq_world.Worlds.{TextWorld}
+use Rattle.swreq_machine.specs.swreq_lowering.declared.ids.FuncId.{FuncId}
+use Rattle.swreq_machine.specs.swreq_param.Terms.{Term}
 use Rattle.swreq_subst.specs.declared.calls.Call.{Call}
 use Rattle.swreq_subst.specs.Calls.{TermCall, call_by}
 use Rattle.swreq_subst.specs.Lines.{IsLineOf}

@@ -1,19 +1,19 @@
 -- How the check of a text comes out.
 use Rattle.std.specs.Prelude.{◌⊎◌, List, Option, Some, None, Result, Ok, Err, length}
-use Rattle.swreq_param.specs.Terms.{Term}
-use Rattle.swreq_rule.specs.declared.rules.Rule.{Rule}
-use Rattle.swreq_rounds.specs.Rounds.{ComesTo}
-use Rattle.swreq_complete.specs.declared.limit.Limits.{Limits}
-use Rattle.swreq_watch.specs.declared.events.Event.{Event}
-use Rattle.swreq_watch.specs.Told.{GrewBy}
-use Rattle.swreq_lowering.specs.declared.ids.FuncId.{FuncId}
-use Rattle.swreq_lowering.specs.Requirements.{PlacedRequirement}
-use Rattle.swreq_world.specs.Worlds.{IdWorld, SignatureOver, TextWorld, signature_at}
-use Rattle.swreq_valid.specs.Protocols.{AreRulesOf}
+use Rattle.swreq_machine.specs.swreq_param.Terms.{Term}
+use Rattle.swreq_machine.specs.swreq_rule.declared.rules.Rule.{Rule}
+use Rattle.swreq_machine.specs.swreq_rounds.Rounds.{ComesTo}
+use Rattle.swreq_machine.specs.swreq_complete.declared.limit.Limits.{Limits}
+use Rattle.swreq_machine.specs.swreq_watch.declared.events.Event.{Event}
+use Rattle.swreq_machine.specs.swreq_watch.Told.{GrewBy}
+use Rattle.swreq_machine.specs.swreq_lowering.declared.ids.FuncId.{FuncId}
+use Rattle.swreq_machine.specs.swreq_lowering.Requirements.{PlacedRequirement}
+use Rattle.swreq_machine.specs.swreq_world.Worlds.{IdWorld, SignatureOver, TextWorld, signature_at}
+use Rattle.swreq_machine.specs.swreq_valid.Protocols.{AreRulesOf}
 use Rattle.swreq_machine.specs.OfSignatures.{signature_plan}
-use Rattle.swreq_valid.specs.Rounds.{last_rules}
-use Rattle.swreq_valid.specs.declared.refused.Refused.{Refused}
-use Rattle.swreq_valid.specs.declared.refused.Refused.TheVariants.{Memory}
+use Rattle.swreq_machine.specs.swreq_valid.Rounds.{last_rules}
+use Rattle.swreq_machine.specs.swreq_valid.declared.refused.Refused.{Refused}
+use Rattle.swreq_machine.specs.swreq_valid.declared.refused.Refused.TheVariants.{Memory}
 use Rattle.swreq_check.specs.declared.checking.Checked.{Checked}
 use Rattle.swreq_check.specs.Machines.{IsBuiltOver, IsChecked, SignatureComes, SignaturesCome}
 use Rattle.swreq_check.specs.declared.content.Content.{Content}

@@ -1,3 +1,4 @@
+pub use Rattle.swreq_confpath.specs as swreq_confpath
 pub mod CallLines
 pub mod Checks
 pub mod Contents

@@ -1,7 +1,7 @@
 -- Lines, one after the other, and how many of what they stand for have a property.
 use Rattle.std.specs.Prelude.{◌≡◌, ℕ, suc, List, [], ◌∷◌}
 use Rattle.std.specs.List.{concat}
-use Rattle.swreq_print.specs.Names.{Text}
+use Rattle.swreq_lines.specs.swreq_print.Names.{Text}
 
 -- These are lines, one of each member, in order.
 pub data AreLines {A : Type 0} (IsLine : A → Text → Type 0) : List A → List Text → Type 0 where

@@ -1,11 +1,11 @@
 -- Over what minimised lists are wanted.
 use Rattle.std.specs.Prelude.{ℕ, Bool, List, length}
-use Rattle.swreq_param.specs.Terms.{Term}
-use Rattle.swreq_rule.specs.declared.rules.Rule.{Rule}
-use Rattle.swreq_complete.specs.Limits.{AreInRange}
-use Rattle.swreq_valid.specs.Rounds.{last_rules}
-use Rattle.swreq_world.specs.ByTable.{world_by}
-use Rattle.swreq_world.specs.Worlds.{TextWorld}
+use Rattle.swreq_machine.specs.swreq_param.Terms.{Term}
+use Rattle.swreq_machine.specs.swreq_rule.declared.rules.Rule.{Rule}
+use Rattle.swreq_machine.specs.swreq_complete.Limits.{AreInRange}
+use Rattle.swreq_machine.specs.swreq_valid.Rounds.{last_rules}
+use Rattle.swreq_machine.specs.swreq_world.ByTable.{world_by}
+use Rattle.swreq_machine.specs.swreq_world.Worlds.{TextWorld}
 use Rattle.swreq_check.specs.declared.minimising.Minimising.{Minimising}
 use Rattle.swreq_check.specs.Checks.{HavePassed}
 use Rattle.swreq_check.specs.Wanted.{AreFlags, wants_list}

@@ -1,17 +1,17 @@
 -- The machines of a text: the rules of its protocols, and those of the list of each signature, or why there are none.
 use Rattle.std.specs.Prelude.{◌≡◌, ◌≢◌, List, [], ◌∷◌, ◌++◌, Option, Some, None, Result, Ok, Err}
-use Rattle.swreq_rule.specs.declared.rules.Rule.{Rule}
-use Rattle.swreq_watch.specs.declared.events.Event.{Event}
-use Rattle.swreq_complete.specs.declared.limit.Limits.{Limits}
-use Rattle.swreq_lowering.specs.Requirements.{PlacedRequirement}
-use Rattle.swreq_world.specs.Worlds.{SignatureOver, TextWorld}
-use Rattle.swreq_symbols.specs.Meaning.{facts_of}
-use Rattle.swreq_valid.specs.declared.refused.Refused.{Refused}
-use Rattle.swreq_valid.specs.declared.refused.Refused.TheVariants.{Memory}
-use Rattle.swreq_valid.specs.Built.{IsBuilt}
-use Rattle.swreq_valid.specs.Protocols.{protocols_of}
+use Rattle.swreq_machine.specs.swreq_rule.declared.rules.Rule.{Rule}
+use Rattle.swreq_machine.specs.swreq_watch.declared.events.Event.{Event}
+use Rattle.swreq_machine.specs.swreq_complete.declared.limit.Limits.{Limits}
+use Rattle.swreq_machine.specs.swreq_lowering.Requirements.{PlacedRequirement}
+use Rattle.swreq_machine.specs.swreq_world.Worlds.{SignatureOver, TextWorld}
+use Rattle.swreq_machine.specs.swreq_symbols.Meaning.{facts_of}
+use Rattle.swreq_machine.specs.swreq_valid.declared.refused.Refused.{Refused}
+use Rattle.swreq_machine.specs.swreq_valid.declared.refused.Refused.TheVariants.{Memory}
+use Rattle.swreq_machine.specs.swreq_valid.Built.{IsBuilt}
+use Rattle.swreq_machine.specs.swreq_valid.Protocols.{protocols_of}
 use Rattle.swreq_machine.specs.OfSignatures.{signature_plan, signature_sides}
-use Rattle.swreq_valid.specs.Sides.{protocol_sides}
+use Rattle.swreq_machine.specs.swreq_valid.Sides.{protocol_sides}
 
 module _ (limits : Limits) (w : TextWorld) where
   -- The rounds of the protocols come to rules that show each side of their requirements, or to a refusal, and tell these events.

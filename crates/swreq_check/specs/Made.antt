@@ -1,10 +1,10 @@
 -- What is made of the machines of a text, and of its minimised lists.
 use Rattle.std.specs.Prelude.{◌≡◌, ◌<◌, ℕ, Bool, true, false, List, Vec, Option, Some, None, get_or, length, slice_get, []}
 use Rattle.std.specs.declared.alloc.Global.{Global}
-use Rattle.swreq_print.specs.Names.{Text}
-use Rattle.swreq_lowering.specs.declared.ids.FuncId.{FuncId}
-use Rattle.swreq_lowering.specs.Queries.{TermQuery}
-use Rattle.swreq_world.specs.Worlds.{TextWorld, signature_at}
+use Rattle.swreq_lines.specs.swreq_print.Names.{Text}
+use Rattle.swreq_machine.specs.swreq_lowering.declared.ids.FuncId.{FuncId}
+use Rattle.swreq_machine.specs.swreq_lowering.Queries.{TermQuery}
+use Rattle.swreq_machine.specs.swreq_world.Worlds.{TextWorld, signature_at}
 use Rattle.swreq_query.specs.declared.verdict.Verdict.{Verdict}
 use Rattle.swreq_query.specs.Signatures.{IsMinimisedLine}
 use Rattle.swreq_query.specs.Systems.{IsSystemText}

@@ -1,21 +1,21 @@
 -- Over what the pieces of a command are made.
 use Rattle.std.specs.Prelude.{◌≡◌, ◌<◌, ℕ, List, Option, Some, None, Contains, get_or, length}
 use Rattle.std.specs.Option.{option_copied}
-use Rattle.swreq_param.specs.Terms.{Term}
-use Rattle.swreq_derive.specs.WellFormed.{AreProtocolsWellFormed}
-use Rattle.swreq_complete.specs.Limits.{AreInRange}
-use Rattle.swreq_lowering.specs.declared.ids.FuncId.{FuncId}
-use Rattle.swreq_world.specs.ByTable.{world_by}
-use Rattle.swreq_world.specs.FactsAt.{written_list}
-use Rattle.swreq_world.specs.Short.{IsShort}
-use Rattle.swreq_world.specs.Worlds.{IdWorld, TextWorld, signature_at}
-use Rattle.swreq_symbols.specs.Known.{IsTextOver}
-use Rattle.swreq_symbols.specs.Meaning.{facts_of}
-use Rattle.swreq_valid.specs.Protocols.{AreRulesOf, ProtocolsView, protocols_of}
+use Rattle.swreq_machine.specs.swreq_param.Terms.{Term}
+use Rattle.swreq_machine.specs.swreq_derive.WellFormed.{AreProtocolsWellFormed}
+use Rattle.swreq_machine.specs.swreq_complete.Limits.{AreInRange}
+use Rattle.swreq_machine.specs.swreq_lowering.declared.ids.FuncId.{FuncId}
+use Rattle.swreq_machine.specs.swreq_world.ByTable.{world_by}
+use Rattle.swreq_machine.specs.swreq_world.FactsAt.{written_list}
+use Rattle.swreq_machine.specs.swreq_world.Short.{IsShort}
+use Rattle.swreq_machine.specs.swreq_world.Worlds.{IdWorld, TextWorld, signature_at}
+use Rattle.swreq_machine.specs.swreq_symbols.Known.{IsTextOver}
+use Rattle.swreq_machine.specs.swreq_symbols.Meaning.{facts_of}
+use Rattle.swreq_machine.specs.swreq_valid.Protocols.{AreRulesOf, ProtocolsView, protocols_of}
 use Rattle.swreq_machine.specs.Machines.{IsMachineOf, MachineView}
 use Rattle.swreq_machine.specs.OfSignatures.{signature_plan, signature_sides}
-use Rattle.swreq_valid.specs.Rounds.{AreRounds, last_rules}
-use Rattle.swreq_valid.specs.Sides.{HoldsOfEach, IsValidSide}
+use Rattle.swreq_machine.specs.swreq_valid.Rounds.{AreRounds, last_rules}
+use Rattle.swreq_machine.specs.swreq_valid.Sides.{HoldsOfEach, IsValidSide}
 use Rattle.swreq_check.specs.declared.checking.Asked.{Asked}
 use Rattle.swreq_check.specs.declared.content.Backing.TheVariants.{Derivation}
 use Rattle.swreq_check.specs.declared.content.Content.{Content}
@@ -23,10 +23,10 @@ use Rattle.swreq_check.specs.declared.piece.Piece.{Piece}
 use Rattle.swreq_check.specs.declared.setting.Kept.{Kept}
 use Rattle.swreq_check.specs.declared.setting.Means.{Means}
 use Rattle.swreq_check.specs.declared.setting.Setting.{Setting}
-use Rattle.swreq_lowering.specs.declared.ids.Query.{Query}
-use Rattle.swreq_map.specs.Follows.{AreEndingsOf, EndingsView, IsMapOf, MapView}
+use Rattle.swreq_machine.specs.swreq_lowering.declared.ids.Query.{Query}
+use Rattle.swreq_machine.specs.swreq_map.Follows.{AreEndingsOf, EndingsView, IsMapOf, MapView}
 use Rattle.swreq_explain.specs.Histories.{IsHistoryFor, IsTextHistory}
-use Rattle.swreq_explain.specs.declared.text_history.TextHistory.{TextHistory}
+use Rattle.swreq_explain.specs.declared.history.TextHistory.{TextHistory}
 use Rattle.swreq_births.specs.declared.history.History.{History}
 use Rattle.swreq_check.specs.Contents.{backing_of}
 use Rattle.swreq_check.specs.Made.{AreMade, IsPiece}

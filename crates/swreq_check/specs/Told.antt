@@ -1,20 +1,20 @@
 -- What a watcher is told of the check of a text, and of minimising after it.
 use Rattle.std.specs.Prelude.{◌≡◌, ◌⊎◌, List, [], ◌∷◌, ◌++◌, Contains, Ok}
-use Rattle.swreq_rule.specs.declared.rules.Rule.{Rule}
-use Rattle.swreq_rounds.specs.Rounds.{ComesTo}
-use Rattle.swreq_complete.specs.declared.limit.Failed.{Failed}
-use Rattle.swreq_complete.specs.declared.limit.Failed.TheVariants.{Limit, Memory}
-use Rattle.swreq_complete.specs.declared.limit.Limits.{Limits}
-use Rattle.swreq_watch.specs.declared.events.Event.{Event}
+use Rattle.swreq_machine.specs.swreq_rule.declared.rules.Rule.{Rule}
+use Rattle.swreq_machine.specs.swreq_rounds.Rounds.{ComesTo}
+use Rattle.swreq_machine.specs.swreq_complete.declared.limit.Failed.{Failed}
+use Rattle.swreq_machine.specs.swreq_complete.declared.limit.Failed.TheVariants.{Limit, Memory}
+use Rattle.swreq_machine.specs.swreq_complete.declared.limit.Limits.{Limits}
+use Rattle.swreq_machine.specs.swreq_watch.declared.events.Event.{Event}
 use Rattle.swreq_check.specs.declared.content.Content.{Content}
 use Rattle.swreq_check.specs.declared.content.Made.{Made}
 use Rattle.swreq_check.specs.declared.content.Made.TheVariants.{Lines, Lists, Nothing, Systems}
 use Rattle.swreq_check.specs.Contents.{makes}
-use Rattle.swreq_lowering.specs.Queries.TermQuery.{AsksSignature}
-use Rattle.swreq_lowering.specs.Requirements.{PlacedRequirement}
-use Rattle.swreq_lowering.specs.declared.ids.FuncId.{FuncId}
-use Rattle.swreq_world.specs.Worlds.{SignatureOver, TextWorld, signature_at}
-use Rattle.swreq_valid.specs.Protocols.{protocols_of}
+use Rattle.swreq_machine.specs.swreq_lowering.Queries.{TermQuery}
+use Rattle.swreq_machine.specs.swreq_lowering.Queries.TermAsks.{AsksSignature}
+use Rattle.swreq_machine.specs.swreq_lowering.Requirements.{PlacedRequirement}
+use Rattle.swreq_machine.specs.swreq_world.Worlds.{SignatureOver, TextWorld, signature_at}
+use Rattle.swreq_machine.specs.swreq_valid.Protocols.{protocols_of}
 use Rattle.swreq_machine.specs.OfSignatures.{signature_plan}
 use Rattle.swreq_query.specs.Minimising.{MinimisingFails, MinimisingTells}
 use Rattle.swreq_check.specs.Machines.{ProtocolsCome, SignatureComes}
@@ -22,7 +22,7 @@ use Rattle.swreq_check.specs.Machines.{ProtocolsCome, SignatureComes}
 -- The minimised list of the signature is made: where lines of queries are made, if a query asks for it; where lists are made, of each; and
 -- otherwise of none.
 abbrev pub IsListMade : Made → TextWorld → SignatureOver PlacedRequirement → Type 0
-IsListMade Lines w g = (f : FuncId) × Contains w.queries (AsksSignature f) × (g ≡ signature_at w f)
+IsListMade Lines w g = (q : TermQuery) × Contains w.queries q × (q.asks ≡ AsksSignature) × (g ≡ signature_at w q.f)
 IsListMade Lists w g = Contains w.signatures g
 IsListMade Systems w g = ⊥
 IsListMade Nothing w g = ⊥

@@ -2,32 +2,27 @@
 use Rattle.std.specs.Prelude.{◌≡◌, ◌↔◌, ℕ, ◌<◌, Bool, true, false, List, Vec, Option, Some, None, Contains, length, get_or, nat_eq, slice_get}
 use Rattle.std.specs.List.{list_any}
 use Rattle.std.specs.declared.alloc.Global.{Global}
-use Rattle.swreq_lowering.specs.declared.ids.FuncId.{FuncId}
-use Rattle.swreq_lowering.specs.declared.ids.Query.{Query}
-use Rattle.swreq_lowering.specs.declared.ids.Query.TheVariants as queries
-use Rattle.swreq_world.specs.Worlds.{IdWorld}
+use Rattle.swreq_machine.specs.swreq_lowering.declared.ids.FuncId.{FuncId}
+use Rattle.swreq_machine.specs.swreq_lowering.declared.ids.Asks.{Asks}
+use Rattle.swreq_machine.specs.swreq_lowering.declared.ids.Asks.TheVariants as ids
+use Rattle.swreq_machine.specs.swreq_lowering.declared.ids.Query.{Query}
+use Rattle.swreq_machine.specs.swreq_world.Worlds.{IdWorld}
 use Rattle.swreq_check.specs.declared.content.Content.{Content}
 use Rattle.swreq_check.specs.declared.content.Made.{Made}
 use Rattle.swreq_check.specs.declared.content.Made.TheVariants.{Lines, Lists, Nothing, Systems}
 use Rattle.swreq_check.specs.Contents.{makes}
 
--- the signature that a query asks
-abbrev pub function_of : Query → FuncId
-function_of (queries.Signature f) = f
-function_of (queries.Reduced f t) = f
-function_of (queries.Conf f t p) = f
-function_of (queries.Layout f t) = f
-function_of (queries.Same f t u) = f
-
 -- ---- what machines make
 
--- the signature by whose machine a query is answered; one for a minimised list is answered by none
+-- the signature by whose machine this is answered, which is asked of it; a minimised list is answered by none
+abbrev pub machine_where : Asks → FuncId → Option FuncId
+machine_where ids.Signature f = None
+machine_where (ids.Reduced t) f = Some f
+machine_where (ids.Requirement r) f = Some f
+
+-- and the one by whose machine a query is answered
 abbrev pub machine_asked : Query → Option FuncId
-machine_asked (queries.Signature f) = None
-machine_asked (queries.Reduced f t) = Some f
-machine_asked (queries.Conf f t p) = Some f
-machine_asked (queries.Layout f t) = Some f
-machine_asked (queries.Same f t u) = Some f
+machine_asked q = machine_where q.asks q.f
 
 abbrev pub machine_asked_at : Option Query → Option FuncId
 machine_asked_at (Some q) = machine_asked q
@@ -64,13 +59,15 @@ pub record ArePlaces (made_by : ℕ → Option FuncId) (count last : ℕ) (place
 
 -- ---- minimised lists
 
+-- the signature of which this is asked, where it is its minimised list
+abbrev pub list_where : Asks → FuncId → Option FuncId
+list_where ids.Signature f = Some f
+list_where (ids.Reduced t) f = None
+list_where (ids.Requirement r) f = None
+
 -- the signature for whose minimised list a query asks
 abbrev pub list_asked : Query → Option FuncId
-list_asked (queries.Signature f) = Some f
-list_asked (queries.Reduced f t) = None
-list_asked (queries.Conf f t p) = None
-list_asked (queries.Layout f t) = None
-list_asked (queries.Same f t u) = None
+list_asked q = list_where q.asks q.f
 
 -- the signature is the one at this place
 abbrev pub is_at : ℕ → Option FuncId → Bool

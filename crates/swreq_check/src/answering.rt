@@ -1,24 +1,13 @@
 //! The pieces that answer queries of requirements and types, by the machine of the signature that they ask.
-ghost use Rattle.std.specs.Prelude.{◌≡◌, ◌<◌, ◌+◌, ◌++◌, ℕ, List, Some, Contains, length, set, IfOk, OnOk, true};
-ghost use Rattle.swreq_param.specs.Tables.{Extends, term_at};
-ghost use Rattle.swreq_derive.specs.Derivation.{Derivable};
-ghost use Rattle.swreq_derive.specs.Derivation.TermRequirement.{Conforms};
-ghost use Rattle.swreq_derive.specs.Derivation.TermStatement.{Requires};
-ghost use Rattle.swreq_derive.specs.declared.requirements.Requirement.TheVariants.{Conf};
-ghost use Rattle.swreq_explain.specs.Histories.{IsHistoryFor};
+ghost use Rattle.std.specs.Prelude.{◌≡◌, ◌<◌, ◌+◌, ◌++◌, ℕ, List, Some, length, set, IfOk, OnOk, true};
+ghost use Rattle.swreq_machine.specs.swreq_param.Tables.{Extends, term_at};
+ghost use Rattle.swreq_machine.specs.swreq_derive.{Derivation.{Derivable}, Derivation.TermRequirement.{Conforms}, Derivation.TermStatement.{Requires}, declared.requirements.Requirement.TheVariants.{Conf}, Facts.{requirement_of}};
+ghost use Rattle.swreq_explain.specs.{Histories.{IsHistoryFor}, Asked.{IsYes}};
 ghost use Rattle.swreq_query.specs.Answers.{Answer};
-ghost use Rattle.swreq_query.specs.Answers.Answer.{Yes};
-ghost use Rattle.swreq_query.specs.Asked.{IsRoomFor};
-ghost use Rattle.swreq_symbols.specs.Known.{IsRequirementIn};
-ghost use Rattle.swreq_symbols.specs.Meaning.{facts_of};
-ghost use Rattle.swreq_world.specs.FactsAt.{source_of};
-ghost use Rattle.swreq_world.specs.Worlds.{signature_at};
-ghost use Rattle.swreq_lowering.specs.ByTable.{HasQueryIdsOf, query_by};
-ghost use Rattle.swreq_check.specs.declared.piece.Piece.{Piece as PieceView};
-ghost use Rattle.swreq_check.specs.Contents.{AreAnswers, backing_of};
-ghost use Rattle.swreq_check.specs.Made.{IsPiece};
-ghost use Rattle.swreq_check.specs.QueryLines.{Backs, BacksYes, HasAnswer, HasVerdict, IsDerivationText, IsPathLine, IsPieceOf, signature_of};
-ghost use Rattle.swreq_check.specs.Settings.{AreMadeIn, AreMeansFor, HasHistory, IsMachineFor, IsMapFor, IsPlaceFor, IsQueryFor, IsReady, world_in};
+ghost use Rattle.swreq_machine.specs.swreq_symbols.{Known.{IsAskedIn, IsRequirementIn}, Meaning.{facts_of}};
+ghost use Rattle.swreq_machine.specs.swreq_world.{FactsAt.{source_of}, Worlds.{signature_at}};
+ghost use Rattle.swreq_machine.specs.swreq_lowering.ByTable.{query_by};
+ghost use Rattle.swreq_check.specs.{declared.piece.Piece.{Piece as PieceView}, Contents.{AreAnswers, backing_of}, Made.{IsPiece}, QueryLines.{Backs, BacksYes, HasAnswer, HasVerdict, IsDerivationText, IsPathLine, IsPieceOf}, Settings.{AreMadeIn, AreMeansFor, HasHistory, IsMachineFor, IsMapFor, IsPlaceFor, IsQueryFor, IsReady, world_in}};
 
 use crate::content::{Backing, backing_of};
 use crate::piece::Piece;
@@ -29,27 +18,13 @@ use swreq_confpath::laws::paths_have_texts;
 use swreq_confpath::{path_text, shortest};
 use swreq_explain::{explain_by, history_of};
 use swreq_lines::lines_text;
-use swreq_lowering::Query;
-use swreq_machine::Scratch;
-use swreq_map::PropertyMap;
-use swreq_param::{ParamTable, ProtoId, TermId};
-use swreq_query::{Verdict, answer};
-use swreq_symbols::Text;
+use swreq_machine::derive::Requirement;
+use swreq_machine::lowering::{Asks, FuncId, Query};
+use swreq_machine::map::PropertyMap;
+use swreq_machine::param::{ParamTable, ProtoId, TermId};
+use swreq_machine::symbols::Text;
+use swreq_query::{Verdict, answer, room_for};
 use swreq_text::{Seq, append_bytes};
-
-/// Room for the type parameters that a query names.
-fn scratch(alloc: Global, table: &ParamTable, query: &Query) -> Result<Scratch, AllocError>
-    requires { HasQueryIdsOf table.now query.now }
-    ensures { IfOk result (λ s. IsRoomFor (query_by table.now query.now) s.room) }
-{
-    match *query {
-        Query::Signature { .. } => Scratch::with_room(alloc, 0),
-        Query::Reduced { t, .. } | Query::Conf { t, .. } | Query::Layout { t, .. } => {
-            Scratch::for_type(alloc, table, t)
-        }
-        Query::Same { a, b, .. } => Scratch::for_types(alloc, table, a, b),
-    }
-}
 
 /// Appends the line of the conformance path that is given for `[t : p]`, which is derivable.
 fn put_path(
@@ -77,56 +52,55 @@ fn put_path(
     append_bytes(out, b"\n")
 }
 
-/// Appends the lines of a derivation of what a query asks, which is derivable, by the history of its signature.
+/// Appends the lines of a derivation of a requirement of the signature, which is derivable, by the history of the signature.
 fn put_derivation(
     s: &Setting<'_>,
     table: &mut ParamTable,
     history: &History,
-    query: &Query,
+    f: FuncId,
+    r: Requirement,
     out: &mut Vec<u8>,
 ) -> Result<(), AllocError>
     requires ready { IsReady table.old s.now }
-    requires history { IsHistoryFor (world_in table.old s.now)
-        (signature_of (query_by table.old query.now)) history.now }
-    requires query { Contains s.now.world.now.queries query.now }
-    requires yes { HasAnswer (world_in table.old s.now) true Yes (query_by table.old query.now) }
+    requires history { IsHistoryFor (world_in table.old s.now) f history.now }
+    requires yes { IsYes table.old s.now.world.now f r }
     ensures backing { OnOk result ((text : List ℕ)
-        × IsDerivationText (world_in table.old s.now) (query_by table.old query.now) text
+        × IsDerivationText (world_in table.old s.now) f (requirement_of table.old r) text
         × (out.new.items ≡ out.old.items ++ text)) }
     ensures extends { OnOk result (Extends table.old table.new) }
 {
-    let lines = explain_by(s.alloc, s.world, table, history, query)?;
+    let lines = explain_by(s.alloc, s.world, table, history, r)?;
     lines_text(s.alloc, s.world.lexicon(), table, &lines, out)
 }
 
-/// Appends what backs the `yes` to a query.
+/// Appends what backs that a requirement of the signature is derivable.
 fn put_backing(
     s: &Setting<'_>,
     table: &mut ParamTable,
     means: &Means<'_>,
-    query: &Query,
+    r: Requirement,
     out: &mut Vec<u8>,
 ) -> Result<(), AllocError>
     requires ready { IsReady table.old s.now }
     requires means { AreMeansFor table.old s.now means.now }
-    requires query { Contains s.now.world.now.queries query.now }
-    requires asks { signature_of (query_by table.old query.now) ≡ means.now.own.f }
-    requires yes { HasAnswer (world_in table.old s.now) true Yes (query_by table.old query.now) }
+    requires yes { IsYes table.old s.now.world.now means.now.own.f r }
     ensures backing { OnOk result ((text : List ℕ)
-        × BacksYes (world_in table.old s.now) (backing_of s.now.content)
-        (query_by table.old query.now) text
+        × BacksYes (world_in table.old s.now) (backing_of s.now.content) means.now.own.f
+        (requirement_of table.old r) text
         × (out.new.items ≡ out.old.items ++ text)) }
     ensures extends { OnOk result (Extends table.old table.new) }
 {
     match backing_of(s.content) {
         Backing::Nothing => Ok(()),
         Backing::Derivation => match means.history {
-            Some(history) => put_derivation(s, table, history, query, out),
+            Some(history) => put_derivation(s, table, history, means.own.f, r, out),
             None => unreachable!(),
         },
-        Backing::Path => match *query {
-            Query::Conf { t, p, .. } => put_path(s, table, &means.own, t, p, out),
-            _ => Ok(()),
+        Backing::Path => match r {
+            Requirement::Conf { subject, proto } => {
+                put_path(s, table, &means.own, subject, proto, out)
+            }
+            Requirement::Layout { .. } | Requirement::Same { .. } => Ok(()),
         },
     }
 }
@@ -142,8 +116,8 @@ fn put_behind(
 ) -> Result<(), AllocError>
     requires ready { IsReady table.old s.now }
     requires means { AreMeansFor table.old s.now means.now }
-    requires query { Contains s.now.world.now.queries query.now }
-    requires asks { signature_of (query_by table.old query.now) ≡ means.now.own.f }
+    requires query { IsAskedIn table.old s.now.world.now.lexicon query.now.asks }
+    requires f { query.now.f ≡ means.now.own.f }
     requires verdict { HasVerdict (world_in table.old s.now) true verdict
         (query_by table.old query.now) }
     ensures backing { OnOk result ((text : List ℕ)
@@ -153,10 +127,15 @@ fn put_behind(
         × (out.new.items ≡ out.old.items ++ text)) }
     ensures extends { OnOk result (Extends table.old table.new) }
 {
-    if verdict == Some(Verdict::Yes) {
-        put_backing(s, table, means, query, out)
-    } else {
-        Ok(())
+    match query.asks {
+        Asks::Signature | Asks::Reduced(_) => Ok(()),
+        Asks::Requirement(r) => {
+            if verdict == Some(Verdict::Yes) {
+                put_backing(s, table, means, r, out)
+            } else {
+                Ok(())
+            }
+        }
     }
 }
 
@@ -174,15 +153,18 @@ fn piece_for(
         (backing_of s.now.content) (query_by table.old query.now)) }
     ensures extends { OnOk result (Extends table.old table.new) }
 {
-    let mut scratch = scratch(s.alloc, table, query)?;
+    let over = Text {
+        world: s.world,
+        table,
+    };
+    let mut scratch = room_for(s.alloc, &over, query.asks)?;
     let mut text = Vec::new(s.alloc);
     let verdict = answer(
         s.alloc,
-        s.world,
-        table,
+        &over,
         means.own.machine,
         means.map,
-        query,
+        query.asks,
         &mut scratch,
         &mut text,
     )?;

@@ -1,26 +1,19 @@
 //! The lines that answer calls, each by the machine of its caller, which is built once.
 ghost use Rattle.std.specs.Prelude.{◌≡◌, ◌+◌, ◌<◌, ℕ, All, IfOk, List, OnOk, Some, length, map, set, slice_get};
-ghost use Rattle.swreq_param.specs.Tables.{Extends};
-ghost use Rattle.swreq_symbols.specs.Known.{IsTextOver};
-ghost use Rattle.swreq_world.specs.Short.{IsShort};
-ghost use Rattle.swreq_world.specs.Worlds.{TextWorld};
-ghost use Rattle.swreq_subst.specs.declared.calls.Call.{Call as CallView};
-ghost use Rattle.swreq_subst.specs.Calls.{IsCallIn, IsMachineOn, TermCall, call_by};
-ghost use Rattle.swreq_subst.specs.Lines.{IsLineOf};
-ghost use Rattle.swreq_check.specs.declared.piece.Piece.{Piece as PieceView};
-ghost use Rattle.swreq_check.specs.CallLines.{AnswersCalls, AreCallLines, ArePlacesOf, IsLineThere, caller_at};
-ghost use Rattle.swreq_check.specs.Passed.{HasPassed, world_of};
-ghost use Rattle.swreq_check.specs.Made.{text_at};
-ghost use Rattle.swreq_check.specs.Wanted.{ArePlaces};
+ghost use Rattle.swreq_machine.specs.swreq_param.Tables.{Extends};
+ghost use Rattle.swreq_machine.specs.swreq_symbols.Known.{IsTextOver};
+ghost use Rattle.swreq_machine.specs.swreq_world.{Short.{IsShort}, Worlds.{TextWorld}};
+ghost use Rattle.swreq_subst.specs.{declared.calls.Call.{Call as CallView}, Calls.{IsCallIn, IsMachineOn, TermCall, call_by}, Lines.{IsLineOf}};
+ghost use Rattle.swreq_check.specs.{declared.piece.Piece.{Piece as PieceView}, CallLines.{AnswersCalls, AreCallLines, ArePlacesOf, IsLineThere, caller_at}, Passed.{HasPassed, world_of}, Made.{text_at}, Wanted.{ArePlaces}};
 
 use crate::checking::no_pieces;
 use crate::passed::{Passed, machine_of};
 use crate::piece::{Piece, text_at};
 use crate::placing::{add_place, no_places};
 use std::alloc::{AllocError, Global};
-use swreq_lowering::FuncId;
 use swreq_machine::Machine;
-use swreq_param::ParamTable;
+use swreq_machine::lowering::FuncId;
+use swreq_machine::param::ParamTable;
 use swreq_subst::{Call, call_text};
 use swreq_text::{Seq, append_bytes};
 

@@ -1,16 +1,11 @@
 //! The check of a text: its protocols, then its signatures in written order.
 ghost use Rattle.std.specs.Prelude.{◌+◌, ◌<◌, length, IfOk, OnOk};
-ghost use Rattle.swreq_param.specs.Tables.{Extends};
-ghost use Rattle.swreq_symbols.specs.Known.{IsTextOver};
-ghost use Rattle.swreq_complete.specs.declared.limit.Limits.{Limits as LimitsView};
-ghost use Rattle.swreq_valid.specs.Protocols.{protocols_of};
-ghost use Rattle.swreq_valid.specs.Rounds.{AreRounds, last_rules};
-ghost use Rattle.swreq_world.specs.Additions.{AddsNothing};
-ghost use Rattle.swreq_world.specs.ByTable.{world_by};
-ghost use Rattle.swreq_world.specs.Short.{IsShort};
-ghost use Rattle.swreq_check.specs.Checks.{Checks, ChecksAll, ChecksAt, IsCheckedFor, ending};
-ghost use Rattle.swreq_check.specs.Made.{AreNone};
-ghost use Rattle.swreq_check.specs.Settings.{AreMadeIn, HasBase, HaveEndings, IsAskedOf, IsKeptFor, IsLast, IsMachineFor, IsReady, world_in};
+ghost use Rattle.swreq_machine.specs.swreq_param.Tables.{Extends};
+ghost use Rattle.swreq_machine.specs.swreq_symbols.Known.{IsTextOver};
+ghost use Rattle.swreq_machine.specs.swreq_complete.declared.limit.Limits.{Limits as LimitsView};
+ghost use Rattle.swreq_machine.specs.swreq_valid.{Protocols.{protocols_of}, Rounds.{AreRounds, last_rules}};
+ghost use Rattle.swreq_machine.specs.swreq_world.{Additions.{AddsNothing}, ByTable.{world_by}, Short.{IsShort}};
+ghost use Rattle.swreq_check.specs.{Checks.{Checks, ChecksAll, ChecksAt, IsCheckedFor, ending}, Made.{AreNone}, Settings.{AreMadeIn, HasBase, HaveEndings, IsAskedOf, IsKeptFor, IsLast, IsMachineFor, IsReady, world_in}};
 
 use crate::content::{Backing, Content, Made, backing_of};
 use crate::making::make_pieces;
@@ -18,16 +13,16 @@ use crate::piece::Piece;
 use crate::placing::count_of;
 use crate::setting::{Kept, Own, Setting};
 use std::alloc::{AllocError, Global};
-use swreq_complete::Limits;
 use swreq_explain::{TextHistory, text_history_of};
-use swreq_lowering::FuncId;
 use swreq_machine::Machine;
-use swreq_map::Endings;
-use swreq_param::ParamTable;
-use swreq_symbols::Text;
-use swreq_valid::{Protocols, Refused};
-use swreq_watch::Watch;
-use swreq_world::World;
+use swreq_machine::complete::Limits;
+use swreq_machine::lowering::FuncId;
+use swreq_machine::map::Endings;
+use swreq_machine::param::ParamTable;
+use swreq_machine::symbols::Text;
+use swreq_machine::valid::{Protocols, Refused};
+use swreq_machine::watch::Watch;
+use swreq_machine::world::World;
 
 /// What a check without a refusal gives: the rules of the protocols, and the pieces that the machines of the signatures make, each at its
 /// place.
@@ -239,13 +234,13 @@ pub(crate) fn no_pieces(alloc: Global, count: usize) -> Result<Vec<Option<Piece>
 }
 
 /// What is the same for the histories of all signatures, where derivations are printed for queries.
-fn base_for<'x>(
+fn base_for<'b>(
     alloc: Global,
-    world: &'x World,
-    table: &'x ParamTable,
+    world: &'b World,
+    table: &ParamTable,
     protocols: &Protocols,
     content: Content,
-) -> Result<Option<TextHistory>, AllocError>
+) -> Result<Option<TextHistory<'b>>, AllocError>
     requires text { IsTextOver table.now world.now }
     requires short { IsShort world.now }
     requires rounds { (limits : LimitsView) × AreRounds limits
@@ -257,7 +252,7 @@ fn base_for<'x>(
     }
     match backing_of(content) {
         Backing::Derivation => {
-            let base = text_history_of(alloc, &Text { world, table }, protocols)?;
+            let base = text_history_of(alloc, world, table, protocols)?;
             Ok(Some(base))
         }
         Backing::Nothing | Backing::Path => Ok(None),

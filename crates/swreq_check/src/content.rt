@@ -1,8 +1,6 @@
 //! What is printed of a text, and what is made for it of its signatures.
 ghost use Rattle.std.specs.Prelude.{◌≡◌};
-ghost use Rattle.swreq_check.specs.declared.content.Content.TheVariants.{Answers};
-ghost use Rattle.swreq_check.specs.declared.content.Shown.TheVariants.{Each};
-ghost use Rattle.swreq_check.specs.Contents.{backed_by, backing_of, makes};
+ghost use Rattle.swreq_check.specs.{declared.content.Content.TheVariants.{Answers}, declared.content.Shown.TheVariants.{Each}, Contents.{backed_by, backing_of, makes}};
 
 /// What follows a `yes`.
 #[derive(Clone, Copy, Debug, PartialEq, Eq)]

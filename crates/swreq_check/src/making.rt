@@ -1,15 +1,14 @@
 //! What is made of each machine while it stands.
 ghost use Rattle.std.specs.Prelude.{◌+◌, OnOk};
-ghost use Rattle.swreq_param.specs.Tables.{Extends};
-ghost use Rattle.swreq_check.specs.Contents.{AreSystems};
-ghost use Rattle.swreq_check.specs.Settings.{AreMadeIn, IsMachineFor, IsReady};
+ghost use Rattle.swreq_machine.specs.swreq_param.Tables.{Extends};
+ghost use Rattle.swreq_check.specs.{Contents.{AreSystems}, Settings.{AreMadeIn, IsMachineFor, IsReady}};
 
 use crate::answering::answer_queries;
 use crate::content::Made;
 use crate::piece::Piece;
 use crate::setting::{Own, Setting};
 use std::alloc::AllocError;
-use swreq_param::ParamTable;
+use swreq_machine::param::ParamTable;
 use swreq_query::system_text;
 use swreq_text::Seq;
 

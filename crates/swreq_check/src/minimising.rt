@@ -1,27 +1,23 @@
 //! The minimised lists that are wanted, each as its line.
 ghost use Rattle.std.specs.Prelude.{◌≡◌, ◌<◌, List, length, IfErr, IfOk, OnOk};
-ghost use Rattle.swreq_param.specs.Tables.{Extends};
-ghost use Rattle.swreq_query.specs.Minimising.{MinimisingFails, MinimisingTells};
-ghost use Rattle.swreq_query.specs.Signatures.{IsMinimisedLine};
-ghost use Rattle.swreq_symbols.specs.Known.{IsTextOver};
-ghost use Rattle.swreq_watch.specs.declared.events.Event.{Event};
-ghost use Rattle.swreq_watch.specs.Told.{GrewBy};
-ghost use Rattle.swreq_world.specs.Worlds.{signature_at};
-ghost use Rattle.swreq_check.specs.Listing.{AreReady, rules_of, wants, world_of};
-ghost use Rattle.swreq_check.specs.Made.{AreLinesKept, IsLineKept, line_at};
-ghost use Rattle.swreq_check.specs.Told.{FailsAt, MinimisingAllTells, MinimisingEndsIn, TellsOne};
+ghost use Rattle.swreq_machine.specs.swreq_param.Tables.{Extends};
+ghost use Rattle.swreq_query.specs.{Minimising.{MinimisingFails, MinimisingTells}, Signatures.{IsMinimisedLine}};
+ghost use Rattle.swreq_machine.specs.swreq_symbols.Known.{IsTextOver};
+ghost use Rattle.swreq_machine.specs.swreq_watch.{declared.events.Event.{Event}, Told.{GrewBy}};
+ghost use Rattle.swreq_machine.specs.swreq_world.Worlds.{signature_at};
+ghost use Rattle.swreq_check.specs.{Listing.{AreReady, rules_of, wants, world_of}, Made.{AreLinesKept, IsLineKept, line_at}, Told.{FailsAt, MinimisingAllTells, MinimisingEndsIn, TellsOne}};
 
 use crate::content::Content;
 use crate::passed::{Passed, machine_of};
 use std::alloc::Global;
-use swreq_complete::{Failed, Limits};
-use swreq_lowering::FuncId;
-use swreq_param::ParamTable;
+use swreq_machine::complete::{Failed, Limits};
+use swreq_machine::lowering::FuncId;
+use swreq_machine::param::ParamTable;
+use swreq_machine::valid::Protocols;
+use swreq_machine::watch::Watch;
+use swreq_machine::world::World;
 use swreq_query::minimised_line;
 use swreq_text::Seq;
-use swreq_valid::Protocols;
-use swreq_watch::Watch;
-use swreq_world::World;
 
 /// A text that has passed its check, and of which of its signatures the minimised list is wanted.
 #[derive(Clone, Copy)]

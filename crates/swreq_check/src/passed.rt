@@ -1,21 +1,20 @@
 //! The machines of a text that has passed its check.
 ghost use Rattle.std.specs.Prelude.{◌≡◌, ◌<◌, length, IfOk};
-ghost use Rattle.swreq_symbols.specs.Known.{IsTextOver};
+ghost use Rattle.swreq_machine.specs.swreq_symbols.Known.{IsTextOver};
 ghost use Rattle.swreq_machine.specs.Machines.{IsMachineOf};
-ghost use Rattle.swreq_valid.specs.declared.refused.Refused.TheVariants.{Memory};
-ghost use Rattle.swreq_world.specs.FactsAt.{written_list};
-ghost use Rattle.swreq_world.specs.Worlds.{signature_at};
+ghost use Rattle.swreq_machine.specs.swreq_valid.declared.refused.Refused.TheVariants.{Memory};
+ghost use Rattle.swreq_machine.specs.swreq_world.{FactsAt.{written_list}, Worlds.{signature_at}};
 ghost use Rattle.swreq_check.specs.Passed.{HasPassed, world_of};
 
 use std::alloc::{AllocError, Global};
-use swreq_complete::Limits;
-use swreq_lowering::FuncId;
 use swreq_machine::Machine;
-use swreq_param::ParamTable;
-use swreq_symbols::Text;
-use swreq_valid::{Protocols, Refused};
-use swreq_watch::Quiet;
-use swreq_world::World;
+use swreq_machine::complete::Limits;
+use swreq_machine::lowering::FuncId;
+use swreq_machine::param::ParamTable;
+use swreq_machine::symbols::Text;
+use swreq_machine::valid::{Protocols, Refused};
+use swreq_machine::watch::Quiet;
+use swreq_machine::world::World;
 
 /// A text that has passed its check.
 #[derive(Clone, Copy)]

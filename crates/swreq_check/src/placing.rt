@@ -1,26 +1,21 @@
 //! By which machine each piece is made that a command prints.
-ghost use Rattle.std.specs.Prelude.{◌≡◌, ◌+◌, ◌<◌, [], All, Vec, ℕ, length, Contains, IfOk, OnOk, Option, Some};
-ghost use Rattle.std.specs.declared.alloc.Global.{Global as GlobalView};
-ghost use Rattle.swreq_lowering.specs.declared.ids.FuncId.{FuncId as FuncIdView};
-ghost use Rattle.swreq_lowering.specs.declared.ids.Query.{Query as QueryView};
-ghost use Rattle.swreq_world.specs.Short.{IsShort};
-ghost use Rattle.swreq_check.specs.Wanted.{ArePlaces, count_of, function_of, machine_asked, maker};
+ghost use Rattle.std.specs.{Prelude.{◌≡◌, ◌+◌, ◌<◌, [], All, Vec, ℕ, length, Contains, IfOk, OnOk, Option, Some}, declared.alloc.Global.{Global as GlobalView}};
+ghost use Rattle.swreq_machine.specs.swreq_lowering.{declared.ids.FuncId.{FuncId as FuncIdView}, declared.ids.Query.{Query as QueryView}};
+ghost use Rattle.swreq_machine.specs.swreq_world.Short.{IsShort};
+ghost use Rattle.swreq_check.specs.Wanted.{ArePlaces, count_of, machine_asked, maker};
 
 use crate::content::{Content, Made};
 use std::alloc::{AllocError, Global};
-use swreq_lowering::{FuncId, Query};
-use swreq_world::World;
+use swreq_machine::lowering::{Asks, FuncId, Query};
+use swreq_machine::world::World;
 
 /// The signature by whose machine a query is answered, or None where it asks for a minimised list.
 fn machine_asked(query: &Query) -> Option<FuncId>
     ensures { result ≡ machine_asked query.now }
 {
-    match *query {
-        Query::Signature { .. } => None,
-        Query::Reduced { f, .. }
-        | Query::Conf { f, .. }
-        | Query::Layout { f, .. }
-        | Query::Same { f, .. } => Some(f),
+    match query.asks {
+        Asks::Signature => None,
+        Asks::Reduced(_) | Asks::Requirement(_) => Some(query.f),
     }
 }
 
@@ -82,7 +77,7 @@ fn note(
     requires k { k < count_of world.now content }
     requires short { IsShort world.now }
     requires queries { (q : QueryView) → Contains world.now.queries q
-        → (function_of q).place < length world.now.signatures }
+        → q.f.place < length world.now.signatures }
     requires places { ArePlaces (maker world.now content)
         (length world.now.signatures) k places.old.items }
     ensures { OnOk result (ArePlaces (maker world.now content) (length world.now.signatures)
@@ -98,7 +93,7 @@ fn note(
 pub fn places(alloc: Global, world: &World, content: Content) -> Result<Vec<Vec<usize>>, AllocError>
     requires short { IsShort world.now }
     requires queries { (q : QueryView) → Contains world.now.queries q
-        → (function_of q).place < length world.now.signatures }
+        → q.f.place < length world.now.signatures }
     ensures { IfOk result (λ v. ArePlaces (maker world.now content) (length world.now.signatures)
         (count_of world.now content) v.items) }
 {

@@ -2,13 +2,13 @@
 use crate::content::Content;
 use std::alloc::Global;
 use swreq_births::History;
-use swreq_complete::Limits;
 use swreq_explain::TextHistory;
-use swreq_lowering::FuncId;
 use swreq_machine::Machine;
-use swreq_map::{Endings, PropertyMap};
-use swreq_valid::Protocols;
-use swreq_world::World;
+use swreq_machine::complete::Limits;
+use swreq_machine::lowering::FuncId;
+use swreq_machine::map::{Endings, PropertyMap};
+use swreq_machine::valid::Protocols;
+use swreq_machine::world::World;
 
 /// A text whose protocols are checked, and what is asked of the machines of its signatures.
 #[derive(Clone, Copy)]
@@ -23,7 +23,7 @@ pub(crate) struct Setting<'a> {
     /// Of each signature the places of the pieces that its machine makes.
     pub places: &'a [Vec<usize>],
     /// What is the same for the histories of all signatures, where derivations are printed for queries.
-    pub base: &'a Option<TextHistory>,
+    pub base: &'a Option<TextHistory<'a>>,
     /// What the rules of the protocols keep with the endings of words, where queries are answered.
     pub endings: &'a Option<Endings>,
 }

@@ -1,32 +1,19 @@
-//! Which signature a query asks, and of which signatures the minimised list is wanted.
+//! Of which signatures the minimised list is wanted.
 ghost use Rattle.std.specs.Prelude.{◌≡◌, ◌<◌, length, Contains, IfOk};
-ghost use Rattle.swreq_check.specs.Wanted.{AreFlags, function_of, is_list_asked, list_asked, wants_list};
+ghost use Rattle.swreq_check.specs.Wanted.{AreFlags, is_list_asked, list_asked, wants_list};
 
 use crate::content::{Content, Made};
 use std::alloc::{AllocError, Global};
-use swreq_lowering::{FuncId, Query};
-use swreq_world::World;
-
-/// The signature that a query asks.
-pub(crate) fn function_of(query: &Query) -> FuncId
-    ensures { result ≡ function_of query.now }
-{
-    match *query {
-        Query::Signature { f }
-        | Query::Reduced { f, .. }
-        | Query::Conf { f, .. }
-        | Query::Layout { f, .. }
-        | Query::Same { f, .. } => f,
-    }
-}
+use swreq_machine::lowering::{Asks, FuncId, Query};
+use swreq_machine::world::World;
 
 /// The signature for whose minimised list a query asks, or None where it asks something else.
 pub fn list_asked(query: &Query) -> Option<FuncId>
     ensures { result ≡ list_asked query.now }
 {
-    match *query {
-        Query::Signature { f } => Some(f),
-        _ => None,
+    match query.asks {
+        Asks::Signature => Some(query.f),
+        Asks::Reduced(_) | Asks::Requirement(_) => None,
     }
 }
 
@@ -40,7 +27,7 @@ fn flags(alloc: Global, count: usize, flag: bool) -> Result<Vec<bool>, AllocErro
 /// Of each signature, whether some query asks for its minimised list.
 fn lists_asked(alloc: Global, world: &World) -> Result<Vec<bool>, AllocError>
     requires { (q : Query) → Contains world.now.queries q
-        → (function_of q).place < length world.now.signatures }
+        → q.f.place < length world.now.signatures }
     ensures { IfOk result
         (λ v. AreFlags (is_list_asked world.now.queries) (length world.now.signatures) v.items) }
 {
@@ -56,7 +43,7 @@ fn lists_asked(alloc: Global, world: &World) -> Result<Vec<bool>, AllocError>
 /// Of each signature, whether its minimised list is wanted.
 pub fn lists_wanted(alloc: Global, world: &World, content: Content) -> Result<Vec<bool>, AllocError>
     requires { (q : Query) → Contains world.now.queries q
-        → (function_of q).place < length world.now.signatures }
+        → q.f.place < length world.now.signatures }
     ensures { IfOk result (λ v.
         AreFlags (wants_list content world.now.queries) (length world.now.signatures) v.items) }
 {

@@ -1,12 +1,12 @@
 -- Words that reduce to one word are linked, and by complete rules linked words reduce to one.
 use Rattle.std.proofs.Common.{◌≡◌, inl, inr, sym, subst, List}
-use Rattle.swreq_word.specs.declared.symbols.Symbol.{Symbol}
-use Rattle.swreq_word.specs.Relations.{Linked}
-use Rattle.swreq_word.specs.Relations.Chain.{done, more}
-use Rattle.swreq_word.proofs.Chains.{linked_back, linked_chain, linked_on}
-use Rattle.swreq_word.proofs.LeastWords.{one_least}
-use Rattle.swreq_word.proofs.WordsFounded.{words_founded}
-use Rattle.swreq_lemmas.proofs.Induction.{by_below}
+use Rattle.swreq_rule.specs.swreq_word.declared.symbols.Symbol.{Symbol}
+use Rattle.swreq_rule.specs.swreq_word.Relations.{Linked}
+use Rattle.swreq_rule.specs.swreq_word.Relations.Chain.{done, more}
+use Rattle.swreq_rule.proofs.swreq_word.Chains.{linked_back, linked_chain, linked_on}
+use Rattle.swreq_rule.proofs.swreq_word.LeastWords.{one_least}
+use Rattle.swreq_rule.proofs.swreq_word.WordsFounded.{words_founded}
+use Rattle.swreq_rule.proofs.swreq_lemmas.Induction.{by_below}
 use Rattle.swreq_rule.specs.declared.rules.Rule.{Rule}
 use Rattle.swreq_rule.specs.Reduction.{Reduces}
 use Rattle.swreq_rule.specs.Steps.{Step}

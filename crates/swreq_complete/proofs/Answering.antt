@@ -1,9 +1,9 @@
 -- From what settling did to the answer of a completion.
 use Rattle.std.proofs.Common.{◌≡◌, ℕ, ◌⊎◌, inl, inr, sym, ◌∙◌, ap, subst, arith, List, [], ◌∷◌, length, take, drop, map, slice_get, MatchOption, Option, Some, Ok, Err}
 use Rattle.std.proofs.Math.Seq.{take-append_seam, drop-append_seam}
-use Rattle.swreq_word.specs.declared.symbols.Symbol.{Symbol}
-use Rattle.swreq_word.specs.Relations.{IsIrreducible, Linked}
-use Rattle.swreq_word.proofs.Chains.{linked_chain}
+use Rattle.swreq_rule.specs.swreq_word.declared.symbols.Symbol.{Symbol}
+use Rattle.swreq_rule.specs.swreq_word.Relations.{IsIrreducible, Linked}
+use Rattle.swreq_rule.proofs.swreq_word.Chains.{linked_chain}
 use Rattle.swreq_rule.specs.declared.rules.Rule.{Rule}
 use Rattle.swreq_rule.specs.Steps.{Step}
 use Rattle.swreq_rule.specs.Reduction.{Reduces}
@@ -18,7 +18,7 @@ use Rattle.swreq_complete.specs.declared.limit.Which.{Which}
 use Rattle.swreq_complete.specs.declared.limit.Failed.{Failed}
 use Rattle.swreq_complete.specs.declared.limit.Failed.TheVariants.{Limit, Memory}
 use Rattle.swreq_complete.specs.Complete.{IsComplete, IsFresh}
-use Rattle.swreq_word.specs.Least.{EachFactor, IsLeast}
+use Rattle.swreq_rule.specs.swreq_word.Least.{EachFactor, IsLeast}
 use Rattle.swreq_complete.specs.Reduced.{IsReducedOf, IsReducedSystem}
 use Rattle.swreq_complete.specs.Search.{Found, IsReducedAt}
 use Rattle.swreq_complete.specs.Limits.{AreInRange, IsWithin, Passes, EndsWithin}

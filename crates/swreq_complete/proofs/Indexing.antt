@@ -3,11 +3,11 @@ use Rattle.std.proofs.Common.{◌≡◌, ℕ, suc, ◌+◌, ◌-◌, ◌<◌, �
 use Rattle.std.specs.List.{slice_get}
 use Rattle.std.proofs.lemmas.Bool.{cases_lt}
 use Rattle.std.proofs.lemmas.Option.{slice_get_within, slice_get_read}
-use Rattle.swreq_word.specs.declared.symbols.Symbol.{Symbol}
-use Rattle.swreq_word.specs.Relations.{IsIrreducible}
-use Rattle.swreq_word.proofs.Cuts.{cut_rest}
-use Rattle.swreq_word.proofs.Comparing.{greater_some}
-use Rattle.swreq_lemmas.proofs.Elements.{get_last, get_left, get_cases, there_is}
+use Rattle.swreq_rule.specs.swreq_word.declared.symbols.Symbol.{Symbol}
+use Rattle.swreq_rule.specs.swreq_word.Relations.{IsIrreducible}
+use Rattle.swreq_rule.proofs.swreq_word.Cuts.{cut_rest}
+use Rattle.swreq_rule.proofs.swreq_word.Comparing.{greater_some}
+use Rattle.swreq_rule.proofs.swreq_lemmas.Elements.{get_last, get_left, get_cases, there_is}
 use Rattle.swreq_rule.specs.declared.rules.Rule.{Rule}
 use Rattle.swreq_rule.specs.Steps.{RuleAt, Step}
 use Rattle.swreq_rule.proofs.Numbers.{number_some}

@@ -1,12 +1,12 @@
 -- A completion over a base joins the given equations to those of the base.
 use Rattle.std.proofs.Common.{◌≡◌, ℕ, inl, inr, ap, subst, List, ◌++◌, take, map}
-use Rattle.swreq_word.specs.declared.symbols.Symbol.{Symbol}
-use Rattle.swreq_word.specs.Relations.{Linked}
-use Rattle.swreq_word.specs.Relations.Linked.{forth, here}
-use Rattle.swreq_word.specs.Replacement.{Replaces, Congruent}
-use Rattle.swreq_word.proofs.Chains.{linked_by}
-use Rattle.swreq_word.proofs.Congruence.{congruent_in_place, equation_congruent}
-use Rattle.swreq_lemmas.proofs.Elements.{get_left, get_right, get_either, get_of_map}
+use Rattle.swreq_rule.specs.swreq_word.declared.symbols.Symbol.{Symbol}
+use Rattle.swreq_rule.specs.swreq_word.Relations.{Linked}
+use Rattle.swreq_rule.specs.swreq_word.Relations.Linked.{forth, here}
+use Rattle.swreq_rule.specs.swreq_word.Replacement.{Replaces, Congruent}
+use Rattle.swreq_rule.proofs.swreq_word.Chains.{linked_by}
+use Rattle.swreq_rule.proofs.swreq_word.Congruence.{congruent_in_place, equation_congruent}
+use Rattle.swreq_rule.proofs.swreq_lemmas.Elements.{get_left, get_right, get_either, get_of_map}
 use Rattle.swreq_rule.specs.declared.rules.Rule.{Rule}
 use Rattle.swreq_rule.specs.Steps.{Step}
 use Rattle.swreq_rule.proofs.Context.{Linked-in-place}

@@ -4,8 +4,8 @@ use Rattle.std.proofs.lemmas.Bool.{cases_lt}
 use Rattle.std.proofs.lemmas.Option.{slice_get_within}
 use Rattle.std.proofs.lemmas.Result.{MatchResult-weaker}
 use Rattle.std.specs.Prelude.{Result, MatchResult}
-use Rattle.swreq_lemmas.proofs.Elements.{get_left, get_after, get_either}
-use Rattle.swreq_word.specs.declared.symbols.Symbol.{Symbol}
+use Rattle.swreq_rule.proofs.swreq_lemmas.Elements.{get_left, get_after, get_either}
+use Rattle.swreq_rule.specs.swreq_word.declared.symbols.Symbol.{Symbol}
 use Rattle.swreq_rule.specs.declared.rules.Rule.{Rule}
 use Rattle.swreq_rule.specs.Reduction.{Chosen}
 use Rattle.swreq_rule.specs.Reduction as left_sides

@@ -1,3 +1,9 @@
+pub use Rattle.swreq_rule.proofs.swreq_lemmas as swreq_lemmas
+pub use Rattle.swreq_rule.proofs.swreq_word as swreq_word
+pub use Rattle.swreq_rule.proofs as swreq_rule
+pub use Rattle.swreq_pair.proofs as swreq_pair
+pub use Rattle.swreq_path.proofs as swreq_path
+pub use Rattle.swreq_watch.proofs as swreq_watch
 pub mod Moments
 pub mod Sides
 pub mod Ended

@@ -4,8 +4,8 @@ use Rattle.std.specs.List.{slice_get}
 use Rattle.std.specs.Ordering.{nat_cmp, ordering_then}
 use Rattle.std.proofs.lemmas.Bool.{cases_lt, cases_eq}
 use Rattle.std.proofs.lemmas.Option.{slice_get_within}
-use Rattle.swreq_word.specs.declared.symbols.Symbol.{Symbol}
-use Rattle.swreq_word.specs.OrderLaws.{then_less, nat_less, nat_equal}
+use Rattle.swreq_rule.specs.swreq_word.declared.symbols.Symbol.{Symbol}
+use Rattle.swreq_rule.specs.swreq_word.OrderLaws.{then_less, nat_less, nat_equal}
 use Rattle.swreq_rule.specs.declared.rules.Rule.{Rule}
 use Rattle.swreq_rule.specs.declared.rules.Place.{Place}
 use Rattle.swreq_rule.specs.declared.rules.Birth.{Birth}
@@ -21,7 +21,7 @@ use Rattle.swreq_complete.specs.Limits.{KeepsAll}
 use Rattle.swreq_complete.specs.Settling.{DoneWithin, StoppedAt, HasCome, HasStopped}
 use Rattle.swreq_complete.proofs.Moments.{greater_before, not_itself, not_both}
 use Rattle.swreq_complete.proofs.Progress.{settle_one}
-use Rattle.swreq_lemmas.proofs.Elements.{get_left, get_front}
+use Rattle.swreq_rule.proofs.swreq_lemmas.Elements.{get_left, get_front}
 use Rattle.swreq_complete.proofs.PairOrder.{widen}
 use Rattle.swreq_complete.proofs.Sides.{pair_among}
 use Rattle.swreq_complete.proofs.Telling.{Adds, place_adds, goes_on, stops, grown_none}

@@ -3,25 +3,25 @@ use Rattle.std.proofs.Common.{◌≡◌, ℕ, ◌<◌, inl, inr, sym, ◌∙◌,
 use Rattle.std.specs.List.{slice_get}
 use Rattle.std.proofs.lemmas.Bool.{cases_lt}
 use Rattle.std.proofs.lemmas.List.{nil_from_length}
-use Rattle.swreq_word.specs.declared.symbols.Symbol.{Symbol}
-use Rattle.swreq_word.specs.Order.{WordLess}
-use Rattle.swreq_word.specs.Relations.{Linked, IsLocallyConfluent, IsIrreducible}
-use Rattle.swreq_word.specs.Relations.Chain.{done}
-use Rattle.swreq_word.specs.Relations.Linked.{here, forth}
-use Rattle.swreq_word.proofs.Newman.{reached_by_class, chain_down}
-use Rattle.swreq_word.proofs.Comparing.{less_trans, not_below_itself, not_both_below}
-use Rattle.swreq_word.proofs.Chains.{linked_chain}
-use Rattle.swreq_word.proofs.WordsFounded as founded
+use Rattle.swreq_rule.specs.swreq_word.declared.symbols.Symbol.{Symbol}
+use Rattle.swreq_rule.specs.swreq_word.Order.{WordLess}
+use Rattle.swreq_rule.specs.swreq_word.Relations.{Linked, IsLocallyConfluent, IsIrreducible}
+use Rattle.swreq_rule.specs.swreq_word.Relations.Chain.{done}
+use Rattle.swreq_rule.specs.swreq_word.Relations.Linked.{here, forth}
+use Rattle.swreq_rule.proofs.swreq_word.Newman.{reached_by_class, chain_down}
+use Rattle.swreq_rule.proofs.swreq_word.Comparing.{less_trans, not_below_itself, not_both_below}
+use Rattle.swreq_rule.proofs.swreq_word.Chains.{linked_chain}
+use Rattle.swreq_rule.proofs.swreq_word.WordsFounded as founded
 use Rattle.swreq_rule.specs.declared.rules.Rule.{Rule}
 use Rattle.swreq_rule.specs.Steps.{Step}
 use Rattle.swreq_rule.proofs.Downward.{step_down}
 use Rattle.swreq_rule.proofs.Search.{reduction_step, a_step, all_steps}
-use Rattle.swreq_word.specs.Least.{IsLeast, IsMinimal, EachFactor}
+use Rattle.swreq_rule.specs.swreq_word.Least.{IsLeast, IsMinimal, EachFactor}
 use Rattle.swreq_complete.specs.Reduced.{IsReduced, IsReducedOf, IsReducedSystem, HasBirths}
 use Rattle.swreq_complete.specs.Complete.{IsFresh}
 use Rattle.swreq_complete.specs.Search.{Found, IsReducedAt}
 use Rattle.swreq_complete.proofs.Ended.{by_rule}
-use Rattle.swreq_lemmas.proofs.Elements.{in_front}
+use Rattle.swreq_rule.proofs.swreq_lemmas.Elements.{in_front}
 
 -- no two rules of a fresh list have one left side
 pub fresh_apart : (rules : List Rule) → IsFresh rules → (j k : ℕ) (r s : Rule) → j < k → slice_get rules j ≡ Some r

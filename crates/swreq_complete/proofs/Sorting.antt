@@ -7,15 +7,15 @@ use Rattle.std.specs.Ordering.{is_lt, nat_cmp, ordering_then}
 use Rattle.std.proofs.lemmas.Bool.{cases_eq}
 use Rattle.std.proofs.lemmas.List.Sorted.{Contains-permutation, IsPermutation-sym}
 use Rattle.std.proofs.lemmas.Option.{slice_get_within, slice_get-get_or, get_or_from_slice_get}
-use Rattle.swreq_word.specs.declared.symbols.Symbol.{Symbol}
-use Rattle.swreq_word.specs.Order.{WordLess}
-use Rattle.swreq_word.specs.Relations.{IsIrreducible}
-use Rattle.swreq_word.proofs.Comparing.{trichotomy, less_trans}
-use Rattle.swreq_lemmas.proofs.Elements.{get_left, get_last, get_cases}
+use Rattle.swreq_rule.specs.swreq_word.declared.symbols.Symbol.{Symbol}
+use Rattle.swreq_rule.specs.swreq_word.Order.{WordLess}
+use Rattle.swreq_rule.specs.swreq_word.Relations.{IsIrreducible}
+use Rattle.swreq_rule.proofs.swreq_word.Comparing.{trichotomy, less_trans}
+use Rattle.swreq_rule.proofs.swreq_lemmas.Elements.{get_left, get_last, get_cases}
 use Rattle.swreq_rule.specs.declared.rules.Rule.{Rule}
 use Rattle.swreq_rule.specs.Steps.{Step}
 use Rattle.swreq_rule.specs.Reduction.{Reduces}
-use Rattle.swreq_word.specs.Least.{EachFactor}
+use Rattle.swreq_rule.specs.swreq_word.Least.{EachFactor}
 use Rattle.swreq_complete.specs.Search.{AreKeys, AreKeysBelow, IsKey, Key, IsReducedRule, Found, FoundBelow, key_cmp}
 
 pub no_keys : (rules : List Rule) → AreKeysBelow rules 0 []

@@ -4,7 +4,7 @@ use Rattle.std.specs.List.{slice_get}
 use Rattle.std.proofs.lemmas.List.{map-append}
 use Rattle.std.proofs.lemmas.Bool.{cases_lt}
 use Rattle.std.proofs.lemmas.Option.{slice_get_within}
-use Rattle.swreq_word.specs.declared.symbols.Symbol.{Symbol}
+use Rattle.swreq_rule.specs.swreq_word.declared.symbols.Symbol.{Symbol}
 use Rattle.swreq_rule.specs.declared.rules.Rule.{Rule}
 use Rattle.swreq_rule.specs.declared.rules.Place.{Place}
 use Rattle.swreq_rule.specs.declared.rules.Birth.{Birth}
@@ -21,7 +21,7 @@ use Rattle.swreq_complete.specs.Moments.{Before, HasSides}
 use Rattle.swreq_complete.specs.Progress.{Settles, SettlesPlace, Progress}
 use Rattle.swreq_complete.specs.Settling.{Grown, DoneWithin, StoppedAt, HasCome, HasStopped, HasStoppedAmong}
 use Rattle.swreq_complete.specs.Short.{IsOfEquation}
-use Rattle.swreq_lemmas.proofs.Elements.{get_cases, there_is}
+use Rattle.swreq_rule.proofs.swreq_lemmas.Elements.{get_cases, there_is}
 use Rattle.swreq_complete.proofs.Closed.{reached}
 
 pub grown_none : (rules : List Rule) (told : Option (List Event)) → Grown rules rules told told

@@ -1,6 +1,6 @@
 -- Words that reduce to one word.
 use Rattle.std.specs.Prelude.{List}
-use Rattle.swreq_word.specs.declared.symbols.Symbol.{Symbol}
+use Rattle.swreq_rule.specs.swreq_word.declared.symbols.Symbol.{Symbol}
 use Rattle.swreq_rule.specs.declared.rules.Rule.{Rule}
 use Rattle.swreq_rule.specs.Reduction.{Reduces}
 

@@ -3,13 +3,13 @@ use Rattle.std.specs.Prelude.{◌≡◌, ◌⊎◌, ℕ, suc, ◌<◌, List, len
 use Rattle.std.specs.Borrow.{Bor}
 use Rattle.std.specs.Ordering.{nat_cmp, ordering_then}
 use Rattle.std.specs.declared.cmp.Ordering.{Ordering}
-use Rattle.swreq_word.specs.declared.symbols.Symbol.{Symbol}
-use Rattle.swreq_word.specs.Order.{word_cmp, WordLess}
-use Rattle.swreq_word.specs.Relations.{IsIrreducible}
+use Rattle.swreq_rule.specs.swreq_word.declared.symbols.Symbol.{Symbol}
+use Rattle.swreq_rule.specs.swreq_word.Order.{word_cmp, WordLess}
+use Rattle.swreq_rule.specs.swreq_word.Relations.{IsIrreducible}
 use Rattle.swreq_rule.specs.declared.rules.Rule.{Rule}
 use Rattle.swreq_rule.specs.Steps.{Step}
 use Rattle.swreq_rule.specs.Reduction.{Reduces}
-use Rattle.swreq_word.specs.Least.{EachFactor}
+use Rattle.swreq_rule.specs.swreq_word.Least.{EachFactor}
 use Rattle.swreq_complete.specs.Reduced.{IsSorted}
 
 -- a left side where it stands, with the place of its rule

@@ -1,18 +1,9 @@
 //! Complete lists of rules, the completion that makes them, and what equations bear by themselves.
 
 ghost use Rattle.std.specs.Prelude.{◌≡◌, ◌⊎◌, ◌<◌, ◌≤◌, [], length, slice_get, Some, IfOk, vec_len, vec_capacity};
-ghost use Rattle.swreq_word.specs.Relations.{Linked};
-ghost use Rattle.swreq_rule.specs.Reduction.{NoneEarlier};
-ghost use Rattle.swreq_rule.specs.Search.{NoneLonger};
-ghost use Rattle.swreq_rule.specs.Steps.{Step};
-ghost use Rattle.swreq_complete.specs.declared.limit.Failed.TheVariants.{Limit, Memory};
-ghost use Rattle.swreq_complete.specs.Answers.{IsAnswer, IsOnlyAnswer};
-ghost use Rattle.swreq_complete.specs.Complete.{IsComplete};
-ghost use Rattle.swreq_complete.specs.Events.{TellsEvents};
-ghost use Rattle.swreq_complete.specs.Limits.{AreInRange};
-ghost use Rattle.swreq_word.specs.Least.{IsLeast};
-ghost use Rattle.swreq_complete.specs.Reduced.{HasBirths, IsReducedOf, IsReducedSystem};
-ghost use Rattle.swreq_complete.specs.Short.{IsBorneBy, IsOnlyBorne};
+ghost use Rattle.swreq_rule.specs.swreq_word.{Relations.{Linked}, Least.{IsLeast}};
+ghost use Rattle.swreq_rule.specs.{Reduction.{NoneEarlier}, Search.{NoneLonger}, Steps.{Step}};
+ghost use Rattle.swreq_complete.specs.{declared.limit.Failed.TheVariants.{Limit, Memory}, Answers.{IsAnswer, IsOnlyAnswer}, Complete.{IsComplete}, Events.{TellsEvents}, Limits.{AreInRange}, Reduced.{HasBirths, IsReducedOf, IsReducedSystem}, Short.{IsBorneBy, IsOnlyBorne}};
 
 use crate::completion::complete;
 use crate::indexed::Indexed;
@@ -24,9 +15,9 @@ use crate::task::{Sides, Task};
 use std::alloc::{AllocError, Global};
 use std::marker::Model;
 use swreq_rule::Rule;
+use swreq_rule::word::{Symbol, Word};
 use swreq_text::Seq;
 use swreq_watch::{Event, Quiet, Watch};
-use swreq_word::{Symbol, Word};
 
 /// A list of rules that is complete: reduction leads congruent words to one word. It is empty, or what a completion ended with. Its first
 /// rules may be borrowed from another such list.

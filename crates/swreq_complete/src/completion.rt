@@ -2,10 +2,7 @@
 
 ghost use Rattle.std.specs.Prelude.{◌≡◌, ◌+◌, ◌-◌, ◌<◌, ◌≤◌, ◌^◌, length, slice_get, Some, MatchResult};
 ghost use Rattle.swreq_pair.specs.Pairs.{HasPair, IsNumberOf};
-ghost use Rattle.swreq_complete.specs.Limits.{AreInRange, EndsWithin};
-ghost use Rattle.swreq_complete.specs.Progress.{AreAllPlaces, SettlesPlace, UpTo};
-ghost use Rattle.swreq_complete.specs.declared.limit.Stop.TheVariants.{Memory};
-ghost use Rattle.swreq_complete.specs.Settling.{DoneWithin, Grown, HasCome, HasStopped, IsUnderway, StoppedAt};
+ghost use Rattle.swreq_complete.specs.{Limits.{AreInRange, EndsWithin}, Progress.{AreAllPlaces, SettlesPlace, UpTo}, declared.limit.Stop.TheVariants.{Memory}, Settling.{DoneWithin, Grown, HasCome, HasStopped, IsUnderway, StoppedAt}};
 
 use crate::indexed::Indexed;
 use crate::limit::{Limits, Stop};

@@ -1,23 +1,18 @@
 //! Rules with the tries of their left sides. Some rules may be borrowed; they stand below those that came after them.
 
 ghost use Rattle.std.specs.Prelude.{◌≡◌, ◌⊎◌, ◌+◌, ◌-◌, ◌<◌, ◌≤◌, ◌^◌, List, [], ◌∷◌, ◌++◌, length, drop, slice_get, Some, MatchResult, IfOk, OnOk, OnErr};
-ghost use Rattle.swreq_word.specs.declared.symbols.Symbol.{Symbol};
-ghost use Rattle.swreq_rule.specs.declared.rules.Rule.{Rule};
-ghost use Rattle.swreq_rule.specs.Reduction.{Chosen};
-ghost use Rattle.swreq_rule.specs.Search.{NoneLonger};
-ghost use Rattle.swreq_rule.specs.Steps.{RuleAt};
+ghost use Rattle.swreq_rule.specs.swreq_word.declared.symbols.Symbol.{Symbol};
+ghost use Rattle.swreq_rule.specs.{declared.rules.Rule.{Rule}, Reduction.{Chosen}, Search.{NoneLonger}, Steps.{RuleAt}};
 ghost use Rattle.swreq_pair.specs.Pairs.{IsNumberOf};
-ghost use Rattle.swreq_trie.specs.declared.trie.Entry.{Entry};
-ghost use Rattle.swreq_trie.specs.Places.{ArePlaces};
-ghost use Rattle.swreq_complete.specs.Index.{IsIndexOf};
-ghost use Rattle.swreq_complete.specs.Reading.{TellNone};
+ghost use Rattle.swreq_trie.specs.{declared.trie.Entry.{Entry}, Places.{ArePlaces}};
+ghost use Rattle.swreq_complete.specs.{Index.{IsIndexOf}, Reading.{TellNone}};
 
 use crate::part::Part;
 use std::alloc::{AllocError, Global};
 use std::marker::Model;
 use swreq_rule::Rule;
+use swreq_rule::word::Symbol;
 use swreq_trie::{Found, Trie};
-use swreq_word::Symbol;
 
 /// Rules that came one after the other: those of a part that is borrowed, if one is, and then one's own.
 #[derive(Drop)]

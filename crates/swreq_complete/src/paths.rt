@@ -1,20 +1,17 @@
 //! The paths by which complete rules reduce words.
 
 ghost use Rattle.std.specs.Prelude.{◌-◌, ◌<◌, ◌^◌, List, length, IfOk};
-ghost use Rattle.swreq_word.specs.declared.symbols.Symbol.{Symbol};
-ghost use Rattle.swreq_word.specs.Least.{IsLeast};
-ghost use Rattle.swreq_word.specs.Relations.{Linked};
+ghost use Rattle.swreq_rule.specs.swreq_word.{declared.symbols.Symbol.{Symbol}, Least.{IsLeast}, Relations.{Linked}};
 ghost use Rattle.swreq_rule.specs.Steps.{Step};
-ghost use Rattle.swreq_path.specs.Paths.{HasTarget};
-ghost use Rattle.swreq_path.specs.Reductions.{IsReductionPath};
+ghost use Rattle.swreq_path.specs.{Paths.{HasTarget}, Reductions.{IsReductionPath}};
 
 use crate::CompleteRules;
 use crate::indexed::Indexed;
 use crate::reducing::first_redex;
 use std::alloc::{AllocError, Global};
 use swreq_path::{Path, take_redex_of};
+use swreq_rule::word::{Symbol, Word};
 use swreq_text::Seq;
-use swreq_word::{Symbol, Word};
 
 // The path of the reduction of the word. Each step has a copy of what stands on both sides of it, so the search for the next redex may
 // start at the first symbol again.

@@ -1,16 +1,14 @@
 //! Reduction that searches a place again only where a step changed what the search there had read.
 
-ghost use Rattle.std.specs.Prelude.{◌≡◌, ℕ, ◌+◌, ◌<◌, ◌≤◌, length, slice_get, Some, MatchOption, IfOk, OnOk};
-ghost use Rattle.std.specs.Bool.{OnFalse, OnTrue};
-ghost use Rattle.swreq_word.specs.Relations.{IsIrreducible};
-ghost use Rattle.swreq_rule.specs.Reduction.{FirstRedex, ReductionStep, Reduces};
-ghost use Rattle.swreq_rule.specs.Steps.{Step};
+ghost use Rattle.std.specs.{Prelude.{◌≡◌, ℕ, ◌+◌, ◌<◌, ◌≤◌, length, slice_get, Some, MatchOption, IfOk, OnOk}, Bool.{OnFalse, OnTrue}};
+ghost use Rattle.swreq_rule.specs.swreq_word.Relations.{IsIrreducible};
+ghost use Rattle.swreq_rule.specs.{Reduction.{FirstRedex, ReductionStep, Reduces}, Steps.{Step}};
 ghost use Rattle.swreq_complete.specs.Reading.{AreRead, AreRising, TellNone};
 
 use crate::indexed::Indexed;
 use std::alloc::AllocError;
+use swreq_rule::word::Symbol;
 use swreq_rule::{Redex, take_step_of};
-use swreq_word::Symbol;
 
 // The count, or the last of these where that is greater.
 fn no_less(counts: &[usize], count: usize) -> usize

@@ -1,18 +1,14 @@
 //! The search for the reduced system of some rules.
 
-ghost use Rattle.std.specs.Prelude.{◌≡◌, ℕ, suc, ◌+◌, ◌<◌, [], ◌∷◌, ◌++◌, length, slice_get, Some, IfOk, MatchOption, OnOk};
-ghost use Rattle.std.specs.Bool.{Decides, OnFalse, OnTrue};
-ghost use Rattle.std.specs.List.Sorted.{IsSorted};
-ghost use Rattle.swreq_word.specs.Relations.{IsIrreducible};
-ghost use Rattle.swreq_rule.specs.Reduction.{Reduces};
-ghost use Rattle.swreq_rule.specs.Steps.{Step};
-ghost use Rattle.swreq_word.specs.Least.{EachFactor};
+ghost use Rattle.std.specs.{Prelude.{◌≡◌, ℕ, suc, ◌+◌, ◌<◌, [], ◌∷◌, ◌++◌, length, slice_get, Some, IfOk, MatchOption, OnOk}, Bool.{Decides, OnFalse, OnTrue}, List.Sorted.{IsSorted}};
+ghost use Rattle.swreq_rule.specs.swreq_word.{Relations.{IsIrreducible}, Least.{EachFactor}};
+ghost use Rattle.swreq_rule.specs.{Reduction.{Reduces}, Steps.{Step}};
 ghost use Rattle.swreq_complete.specs.Search.{AreKeys, AreKeysBelow, Found, FoundBelow, IsReducedAt, Key, key_cmp};
 
 use crate::indexed::Indexed;
 use std::alloc::{AllocError, Global};
 use swreq_rule::Rule;
-use swreq_word::{Symbol, Word, are_same};
+use swreq_rule::word::{Symbol, Word, are_same};
 
 // A left side where it stands, with the place of its rule.
 type Key<'a> = (&'a Word, usize);

@@ -1,16 +1,12 @@
 //! Reduction by rules with tries: the first redex of a word, and its steps one by one.
 
-ghost use Rattle.std.specs.Prelude.{◌≡◌, ◌-◌, ◌<◌, ◌≤◌, List, MatchOption, vec_len, vec_capacity};
-ghost use Rattle.std.specs.Bool.{OnFalse, OnTrue};
-ghost use Rattle.swreq_word.specs.declared.symbols.Symbol.{Symbol};
-ghost use Rattle.swreq_word.specs.Relations.{IsIrreducible};
-ghost use Rattle.swreq_rule.specs.Reduction.{FirstRedex, NoneEarlier, Reduces};
-ghost use Rattle.swreq_rule.specs.Search.{NoneLonger, StepsPast};
-ghost use Rattle.swreq_rule.specs.Steps.{Step};
+ghost use Rattle.std.specs.{Prelude.{◌≡◌, ◌-◌, ◌<◌, ◌≤◌, List, MatchOption, vec_len, vec_capacity}, Bool.{OnFalse, OnTrue}};
+ghost use Rattle.swreq_rule.specs.swreq_word.{declared.symbols.Symbol.{Symbol}, Relations.{IsIrreducible}};
+ghost use Rattle.swreq_rule.specs.{Reduction.{FirstRedex, NoneEarlier, Reduces}, Search.{NoneLonger, StepsPast}, Steps.{Step}};
 
 use crate::indexed::Indexed;
+use swreq_rule::word::Symbol;
 use swreq_rule::{Redex, take_step_of};
-use swreq_word::Symbol;
 
 // The first redex, where no left side begins before this place.
 pub(crate) fn first_redex(rules: &Indexed<'_>, word: &[Symbol], from: usize) -> Option<Redex>

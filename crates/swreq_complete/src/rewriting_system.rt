@@ -7,7 +7,7 @@ use crate::indexed::Indexed;
 use std::alloc::{AllocError, Global};
 use std::marker::Model;
 use swreq_rule::Rule;
-use swreq_word::Symbol;
+use swreq_rule::word::Symbol;
 
 /// A list of rules by which words are reduced, complete or not. Two words that reduce to one word are linked by it; where it is not
 /// complete, linked words may reduce to two. Its first rules may be borrowed from complete ones.

@@ -1,24 +1,18 @@
 //! The moments of a completion, settled one by one: first the equations.
 
 ghost use Rattle.std.specs.Prelude.{◌≡◌, ◌-◌, ◌<◌, ◌^◌, ◌++◌, ◌∷◌, [], length, IfOk, OnOk, MatchResult, MatchOption};
-ghost use Rattle.swreq_rule.specs.declared.rules.Birth.TheVariants.{Given};
-ghost use Rattle.swreq_rule.specs.declared.rules.Rule.{Rule};
-ghost use Rattle.swreq_rule.specs.Oriented.{IsOriented};
-ghost use Rattle.swreq_watch.specs.declared.events.Event.TheVariants.{Born};
-ghost use Rattle.swreq_watch.specs.Told.{GrewBy};
-ghost use Rattle.swreq_complete.specs.declared.limit.Stop.TheVariants.{Memory};
-ghost use Rattle.swreq_complete.specs.Limits.{AreInRange};
-ghost use Rattle.swreq_complete.specs.Progress.{GivenBelow, Settles};
-ghost use Rattle.swreq_complete.specs.Settling.{DoneWithin, HasCome, HasStoppedAmong, StoppedAt};
+ghost use Rattle.swreq_rule.specs.{declared.rules.Birth.TheVariants.{Given}, declared.rules.Rule.{Rule}, Oriented.{IsOriented}};
+ghost use Rattle.swreq_watch.specs.{declared.events.Event.TheVariants.{Born}, Told.{GrewBy}};
+ghost use Rattle.swreq_complete.specs.{declared.limit.Stop.TheVariants.{Memory}, Limits.{AreInRange}, Progress.{GivenBelow, Settles}, Settling.{DoneWithin, HasCome, HasStoppedAmong, StoppedAt}};
 
 use crate::indexed::Indexed;
 use crate::limit::{Limits, Stop, passed};
 use crate::reading::reduce;
 use crate::task::{Sides, Task};
 use std::alloc::AllocError;
+use swreq_rule::word::{Word, are_same};
 use swreq_rule::{Birth, Rule, oriented};
 use swreq_watch::{Event, Watch};
-use swreq_word::{Word, are_same};
 
 // The rule whose left side is the greater of the two sides, or none where they are equal.
 fn rule_of(sides: &Sides, birth: Birth) -> Result<Option<Rule>, AllocError>

@@ -4,7 +4,7 @@ ghost use Rattle.std.specs.Prelude.{◌≡◌, OnOk};
 
 use crate::limit::Limits;
 use std::alloc::{AllocError, Global};
-use swreq_word::{Symbol, Word};
+use swreq_rule::word::{Symbol, Word};
 
 /// The number of rules of the base, the equations, and the limits.
 #[derive(Clone, Copy)]

@@ -1,19 +1,19 @@
 -- Where numbers lead, and places that are alike, on a well formed text.
 use Rattle.std.proofs.Common.{◌≡◌, ℕ, ◌<◌, List, [], ◌∷◌, ◌++◌, refl, sym, subst, ◌∙◌}
-use Rattle.swreq_param.specs.declared.ids.ParamId.{ParamId}
-use Rattle.swreq_param.specs.declared.ids.ProtoId.{ProtoId}
-use Rattle.swreq_param.specs.Terms.{Term}
-use Rattle.swreq_derive.specs.Derivation.{TermRequirement, TermFacts, Source, Derivable, for_self}
-use Rattle.swreq_derive.specs.Derivation.TermRequirement.{Conforms}
-use Rattle.swreq_derive.specs.Derivation.TermStatement.{Requires}
-use Rattle.swreq_derive.specs.Derivation.Source.{Written}
-use Rattle.swreq_derive.specs.Derivation.Derives.{conf, assoc_conf, reflex, trans}
-use Rattle.swreq_derive.specs.Instances.{HasNumber}
-use Rattle.swreq_derive.specs.Paths.{LeadsOn}
-use Rattle.swreq_derive.specs.WellFormed.{AreProtocolsWellFormed, IsListWellFormed}
-use Rattle.swreq_derive.proofs.InstanceLemmas.{contains_number, one_number}
-use Rattle.swreq_derive.proofs.PathLemmas.{same_for_self}
-use Rattle.swreq_derive.proofs.Substitution.{valid_sides}
+use Rattle.swreq_machine.specs.swreq_param.declared.ids.ParamId.{ParamId}
+use Rattle.swreq_machine.specs.swreq_param.declared.ids.ProtoId.{ProtoId}
+use Rattle.swreq_machine.specs.swreq_param.Terms.{Term}
+use Rattle.swreq_machine.specs.swreq_derive.Derivation.{TermRequirement, TermFacts, Source, Derivable, for_self}
+use Rattle.swreq_machine.specs.swreq_derive.Derivation.TermRequirement.{Conforms}
+use Rattle.swreq_machine.specs.swreq_derive.Derivation.TermStatement.{Requires}
+use Rattle.swreq_machine.specs.swreq_derive.Derivation.Source.{Written}
+use Rattle.swreq_machine.specs.swreq_derive.Derivation.Derives.{conf, assoc_conf, reflex, trans}
+use Rattle.swreq_machine.specs.swreq_derive.Instances.{HasNumber}
+use Rattle.swreq_machine.specs.swreq_derive.Paths.{LeadsOn}
+use Rattle.swreq_machine.specs.swreq_derive.WellFormed.{AreProtocolsWellFormed, IsListWellFormed}
+use Rattle.swreq_machine.proofs.swreq_derive.InstanceLemmas.{contains_number, one_number}
+use Rattle.swreq_machine.proofs.swreq_derive.PathLemmas.{same_for_self}
+use Rattle.swreq_machine.proofs.swreq_derive.Substitution.{valid_sides}
 use Rattle.swreq_confpath.specs.Routes.{TermPlace, GoesTo, LeadTo, AreAlike}
 use Rattle.swreq_confpath.specs.Routes.TermPlace.{Start, Conformance}
 

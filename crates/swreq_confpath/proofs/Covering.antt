@@ -3,17 +3,17 @@ use Rattle.std.proofs.Common.{◌≡◌, ℕ, suc, ◌≤◌, ◌⊎◌, inl, in
 use Rattle.std.proofs.lemmas.Bool.{cases_lt}
 use Rattle.std.proofs.lemmas.Option.{same_Some, slice_get_within}
 use Rattle.std.proofs.lemmas.List.{append-nil}
-use Rattle.swreq_lemmas.proofs.Elements.{contains_get, get_contains}
-use Rattle.swreq_param.specs.declared.ids.ParamId.{ParamId}
-use Rattle.swreq_param.specs.declared.ids.ProtoId.{ProtoId}
-use Rattle.swreq_param.specs.Terms.{Term}
-use Rattle.swreq_derive.specs.Derivation.{TermRequirement, TermFacts, Source, Derivable}
-use Rattle.swreq_derive.specs.Derivation.TermRequirement.{Conforms}
-use Rattle.swreq_derive.specs.Derivation.TermStatement.{Requires}
-use Rattle.swreq_derive.specs.Derivation.Source.{Written}
-use Rattle.swreq_derive.specs.Paths.{IsConformancePath, IsGivenPath}
-use Rattle.swreq_derive.specs.WellFormed.{AreProtocolsWellFormed, IsListWellFormed}
-use Rattle.swreq_derive.proofs.PathLemmas.{has_path}
+use Rattle.swreq_print.proofs.swreq_lemmas.Elements.{contains_get, get_contains}
+use Rattle.swreq_machine.specs.swreq_param.declared.ids.ParamId.{ParamId}
+use Rattle.swreq_machine.specs.swreq_param.declared.ids.ProtoId.{ProtoId}
+use Rattle.swreq_machine.specs.swreq_param.Terms.{Term}
+use Rattle.swreq_machine.specs.swreq_derive.Derivation.{TermRequirement, TermFacts, Source, Derivable}
+use Rattle.swreq_machine.specs.swreq_derive.Derivation.TermRequirement.{Conforms}
+use Rattle.swreq_machine.specs.swreq_derive.Derivation.TermStatement.{Requires}
+use Rattle.swreq_machine.specs.swreq_derive.Derivation.Source.{Written}
+use Rattle.swreq_machine.specs.swreq_derive.Paths.{IsConformancePath, IsGivenPath}
+use Rattle.swreq_machine.specs.swreq_derive.WellFormed.{AreProtocolsWellFormed, IsListWellFormed}
+use Rattle.swreq_machine.proofs.swreq_derive.PathLemmas.{has_path}
 use Rattle.swreq_confpath.specs.Routes.{TermPlace, GoesTo, LeadTo, AreAlike, IsNotAfter}
 use Rattle.swreq_confpath.specs.Routes.TermPlace.{Start, Conformance}
 use Rattle.swreq_confpath.specs.Tried.{TermSpot, start, IsCovered, IsDeadEnd, AreTried, AreTriedUpTo}

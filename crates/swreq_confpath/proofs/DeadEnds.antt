@@ -1,20 +1,20 @@
 -- Places whose words have parted for good from the word of the place that is sought.
 use Rattle.std.proofs.Common.{◌≡◌, ℕ, List, [], ◌∷◌, ◌++◌, sym, subst, ◌∙◌, append_assoc}
 use Rattle.std.proofs.lemmas.List.{append-nil}
-use Rattle.swreq_param.specs.declared.ids.ProtoId.{ProtoId}
-use Rattle.swreq_param.specs.Tables.{term_at}
-use Rattle.swreq_param.specs.Terms.{Term}
-use Rattle.swreq_derive.specs.Derivation.{Source, for_self}
-use Rattle.swreq_derive.specs.Derivation.TermRequirement.{Equals}
-use Rattle.swreq_derive.proofs.Substitution.{valid_sides}
-use Rattle.swreq_word.proofs.Chains.{linked_back, linked_on}
-use Rattle.swreq_rule.specs.declared.rules.Rule.{Rule}
-use Rattle.swreq_rule.proofs.Context.{Linked-after}
-use Rattle.swreq_correspondence.specs.Symbols.{Symbols, Word, steps, word_of}
-use Rattle.swreq_correspondence.proofs.Spelling.{spell-append, spell-for_self}
-use Rattle.swreq_symbols.specs.Meaning.{symbols_of}
-use Rattle.swreq_symbols.specs.Vanishing.{Links}
-use Rattle.swreq_valid.specs.Rounds.{last_rules}
+use Rattle.swreq_machine.specs.swreq_param.declared.ids.ProtoId.{ProtoId}
+use Rattle.swreq_machine.specs.swreq_param.Tables.{term_at}
+use Rattle.swreq_machine.specs.swreq_param.Terms.{Term}
+use Rattle.swreq_machine.specs.swreq_derive.Derivation.{Source, for_self}
+use Rattle.swreq_machine.specs.swreq_derive.Derivation.TermRequirement.{Equals}
+use Rattle.swreq_machine.proofs.swreq_derive.Substitution.{valid_sides}
+use Rattle.swreq_print.proofs.swreq_word.Chains.{linked_back, linked_on}
+use Rattle.swreq_print.specs.swreq_rule.declared.rules.Rule.{Rule}
+use Rattle.swreq_print.proofs.swreq_rule.Context.{Linked-after}
+use Rattle.swreq_machine.specs.swreq_correspondence.Symbols.{Symbols, Word, steps, word_of}
+use Rattle.swreq_machine.proofs.swreq_correspondence.Spelling.{spell-append, spell-for_self}
+use Rattle.swreq_machine.specs.swreq_symbols.Meaning.{symbols_of}
+use Rattle.swreq_machine.specs.swreq_symbols.Vanishing.{Links}
+use Rattle.swreq_machine.specs.swreq_valid.Rounds.{last_rules}
 use Rattle.swreq_machine.proofs.Answering.{by_sides}
 use Rattle.swreq_confpath.specs.declared.places.Place.{Place}
 use Rattle.swreq_confpath.specs.declared.places.Place.TheVariants as places

@@ -4,9 +4,9 @@ use Rattle.std.specs.Bool.{Decides}
 use Rattle.std.specs.Map.{lookup}
 use Rattle.std.specs.Ordering.{eq_by_cmp}
 use Rattle.std.proofs.lemmas.Bool.{and_parts, eqb-true}
-use Rattle.swreq_lemmas.proofs.Members.{first_member, later_member}
-use Rattle.swreq_word.specs.Order.{word_cmp}
-use Rattle.swreq_word.specs.OrderLaws.{word_equal}
+use Rattle.swreq_print.proofs.swreq_lemmas.Members.{first_member, later_member}
+use Rattle.swreq_print.specs.swreq_word.Order.{word_cmp}
+use Rattle.swreq_print.specs.swreq_word.OrderLaws.{word_equal}
 use Rattle.swreq_confpath.specs.contracts.places.PlacePartialEq.TheImpl.{eq-value}
 use Rattle.swreq_confpath.specs.contracts.places.PlaceEq.TheImpl.Laws.{laws-law}
 use Rattle.swreq_confpath.specs.declared.places.Place.{Place}

@@ -1,6 +1,6 @@
 -- The order of lists of numbers: fewer first, and lists of the same length from the left.
 use Rattle.std.proofs.Common.{◌≡◌, ℕ, ◌+◌, ◌<◌, ◌≤◌, inl, inr, List, [], ◌∷◌, ◌++◌, length, refl, sym, ap, subst, ◌∙◌, arith, length-append}
-use Rattle.swreq_derive.specs.Paths.{NumbersBefore}
+use Rattle.swreq_machine.specs.swreq_derive.Paths.{NumbersBefore}
 use Rattle.swreq_confpath.specs.Routes.{ComesBefore, IsNotAfter}
 
 -- ---- from the left

@@ -3,35 +3,35 @@ use Rattle.std.proofs.Common.{◌≡◌, ℕ, ◌+◌, ◌-◌, ◌<◌, ◌^◌
 use Rattle.std.proofs.lemmas.List.{length-map}
 use Rattle.std.proofs.lemmas.List.Elements.{All-get_or}
 use Rattle.std.proofs.lemmas.Option.{slice_get-get_or}
-use Rattle.swreq_lemmas.proofs.Members.{contains_of_map}
-use Rattle.swreq_param.specs.declared.ids.ParamId.{ParamId}
-use Rattle.swreq_param.specs.declared.ids.ProtoId.{ProtoId}
-use Rattle.swreq_param.specs.Tables.{term_at}
-use Rattle.swreq_param.specs.Terms.{Term}
-use Rattle.swreq_derive.specs.declared.requirements.Requirement.{Requirement}
-use Rattle.swreq_derive.specs.Derivation.{Derivable, Source, TermRequirement}
-use Rattle.swreq_derive.specs.Derivation.Source.{Written as WrittenList}
-use Rattle.swreq_derive.specs.Derivation.TermRequirement.{Conforms}
-use Rattle.swreq_derive.specs.Derivation.TermStatement.{Requires}
-use Rattle.swreq_derive.specs.Facts.{generic_params}
-use Rattle.swreq_derive.specs.Instances.{HasNumber}
-use Rattle.swreq_derive.specs.Paths.{IsGivenPath}
-use Rattle.swreq_derive.specs.WellFormed.{IsListWellFormed}
-use Rattle.swreq_lexicon.specs.Views.{IsProtocol}
-use Rattle.swreq_lowering.specs.declared.ids.FuncId.{FuncId}
-use Rattle.swreq_lowering.specs.declared.ids.Written.{Written}
-use Rattle.swreq_lowering.specs.ByTable.{placed}
-use Rattle.swreq_world.specs.ByTable.{world_by}
-use Rattle.swreq_world.specs.FactsAt.{source_of, written_list}
-use Rattle.swreq_world.specs.Short.{IsShort}
-use Rattle.swreq_world.specs.Worlds.{IdWorld, SignatureOver, no_signature, requirements_of, signature_at}
-use Rattle.swreq_symbols.specs.Known.{IsRequirementIn, IsTextOver}
-use Rattle.swreq_symbols.proofs.OfText.{protocol_written, requirements_placed, signature_is, signature_written}
+use Rattle.swreq_print.proofs.swreq_lemmas.Members.{contains_of_map}
+use Rattle.swreq_machine.specs.swreq_param.declared.ids.ParamId.{ParamId}
+use Rattle.swreq_machine.specs.swreq_param.declared.ids.ProtoId.{ProtoId}
+use Rattle.swreq_machine.specs.swreq_param.Tables.{term_at}
+use Rattle.swreq_machine.specs.swreq_param.Terms.{Term}
+use Rattle.swreq_machine.specs.swreq_derive.declared.requirements.Requirement.{Requirement}
+use Rattle.swreq_machine.specs.swreq_derive.Derivation.{Derivable, Source, TermRequirement}
+use Rattle.swreq_machine.specs.swreq_derive.Derivation.Source.{Written as WrittenList}
+use Rattle.swreq_machine.specs.swreq_derive.Derivation.TermRequirement.{Conforms}
+use Rattle.swreq_machine.specs.swreq_derive.Derivation.TermStatement.{Requires}
+use Rattle.swreq_machine.specs.swreq_derive.Facts.{generic_params}
+use Rattle.swreq_machine.specs.swreq_derive.Instances.{HasNumber}
+use Rattle.swreq_machine.specs.swreq_derive.Paths.{IsGivenPath}
+use Rattle.swreq_machine.specs.swreq_derive.WellFormed.{IsListWellFormed}
+use Rattle.swreq_machine.specs.swreq_lexicon.Views.{IsProtocol}
+use Rattle.swreq_machine.specs.swreq_lowering.declared.ids.FuncId.{FuncId}
+use Rattle.swreq_machine.specs.swreq_lowering.declared.ids.Written.{Written}
+use Rattle.swreq_machine.specs.swreq_lowering.ByTable.{placed}
+use Rattle.swreq_machine.specs.swreq_world.ByTable.{world_by}
+use Rattle.swreq_machine.specs.swreq_world.FactsAt.{source_of, written_list}
+use Rattle.swreq_machine.specs.swreq_world.Short.{IsShort}
+use Rattle.swreq_machine.specs.swreq_world.Worlds.{IdWorld, SignatureOver, no_signature, requirements_of, signature_at}
+use Rattle.swreq_machine.specs.swreq_symbols.Known.{IsRequirementIn, IsTextOver}
+use Rattle.swreq_machine.proofs.swreq_symbols.OfText.{protocol_written, requirements_placed, signature_is, signature_written}
 use Rattle.swreq_machine.specs.Machines.{IsMachineOf}
-use Rattle.swreq_valid.specs.Plans.{AreKnown, bare, listed}
-use Rattle.swreq_valid.specs.Rounds.{last_rules}
-use Rattle.swreq_valid.proofs.Made.{written_known}
-use Rattle.swreq_complete.specs.Complete.{IsComplete}
+use Rattle.swreq_machine.specs.swreq_valid.Plans.{AreKnown, bare, listed}
+use Rattle.swreq_machine.specs.swreq_valid.Rounds.{last_rules}
+use Rattle.swreq_machine.proofs.swreq_valid.Made.{written_known}
+use Rattle.swreq_machine.specs.swreq_complete.Complete.{IsComplete}
 use Rattle.swreq_confpath.specs.declared.path.ConfPath.{ConfPath}
 use Rattle.swreq_confpath.specs.declared.places.Place.{Place}
 use Rattle.swreq_confpath.specs.declared.places.Place.TheVariants as places

@@ -4,27 +4,27 @@ use Rattle.std.proofs.Math.Seq.{take-append-add}
 use Rattle.std.proofs.lemmas.Bool.{cases_lt}
 use Rattle.std.proofs.lemmas.List.Elements.{Contains-append_left, Contains-append_right, Contains-push_cases}
 use Rattle.std.proofs.lemmas.Option.{slice_get_within}
-use Rattle.swreq_lemmas.proofs.Elements.{contains_get, get_contains, get_front, get_left, in_front, same_heads, same_tails, take_one, there_is}
-use Rattle.swreq_lemmas.proofs.Numbers.{last_or_below}
-use Rattle.swreq_derive.proofs.LineLemmas.{get_take}
-use Rattle.swreq_word.specs.declared.symbols.Symbol.{Symbol}
-use Rattle.swreq_word.specs.declared.symbols.Symbol.TheVariants.{Proto}
-use Rattle.swreq_word.specs.Relations.{Chain, IsIrreducible}
-use Rattle.swreq_word.specs.Relations.Chain.{done, more}
-use Rattle.swreq_word.proofs.Chains.{linked_back}
-use Rattle.swreq_word.proofs.Cuts.{cut}
-use Rattle.swreq_word.proofs.Cuts.Cut.{left, right}
-use Rattle.swreq_word.proofs.Newman.{reached_by_class}
-use Rattle.swreq_word.proofs.WordsFounded.{words_founded}
-use Rattle.swreq_rule.specs.declared.rules.Rule.{Rule}
-use Rattle.swreq_rule.specs.Steps.{Step}
-use Rattle.swreq_rule.proofs.Context.{Step-after}
-use Rattle.swreq_rule.proofs.Downward.{step_down}
-use Rattle.swreq_pair.proofs.CriticalPairs.{locally}
-use Rattle.swreq_complete.specs.Complete.{IsComplete}
-use Rattle.swreq_complete.proofs.ReducedSystem.{least_irreducible}
-use Rattle.swreq_correspondence.specs.Symbols.{Word}
-use Rattle.swreq_symbols.specs.Vanishing.{IsLeastBy, Links}
+use Rattle.swreq_print.proofs.swreq_lemmas.Elements.{contains_get, get_contains, get_front, get_left, in_front, same_heads, same_tails, take_one, there_is}
+use Rattle.swreq_print.proofs.swreq_lemmas.Numbers.{last_or_below}
+use Rattle.swreq_machine.proofs.swreq_derive.LineLemmas.{get_take}
+use Rattle.swreq_print.specs.swreq_word.declared.symbols.Symbol.{Symbol}
+use Rattle.swreq_print.specs.swreq_word.declared.symbols.Symbol.TheVariants.{Proto}
+use Rattle.swreq_print.specs.swreq_word.Relations.{Chain, IsIrreducible}
+use Rattle.swreq_print.specs.swreq_word.Relations.Chain.{done, more}
+use Rattle.swreq_print.proofs.swreq_word.Chains.{linked_back}
+use Rattle.swreq_print.proofs.swreq_word.Cuts.{cut}
+use Rattle.swreq_print.proofs.swreq_word.Cuts.Cut.{left, right}
+use Rattle.swreq_print.proofs.swreq_word.Newman.{reached_by_class}
+use Rattle.swreq_print.proofs.swreq_word.WordsFounded.{words_founded}
+use Rattle.swreq_print.specs.swreq_rule.declared.rules.Rule.{Rule}
+use Rattle.swreq_print.specs.swreq_rule.Steps.{Step}
+use Rattle.swreq_print.proofs.swreq_rule.Context.{Step-after}
+use Rattle.swreq_print.proofs.swreq_rule.Downward.{step_down}
+use Rattle.swreq_machine.proofs.swreq_pair.CriticalPairs.{locally}
+use Rattle.swreq_machine.specs.swreq_complete.Complete.{IsComplete}
+use Rattle.swreq_machine.proofs.swreq_complete.ReducedSystem.{least_irreducible}
+use Rattle.swreq_machine.specs.swreq_correspondence.Symbols.{Word}
+use Rattle.swreq_machine.specs.swreq_symbols.Vanishing.{IsLeastBy, Links}
 use Rattle.swreq_machine.proofs.Typed.{at_front}
 use Rattle.swreq_confpath.specs.Parting.{AllSpare, AllSpareOthers, AreBeforeProtocol, AreInCommon, FirstSpareOthers, HasNoProtocol, PartsForGood, Spares, SparesOthers}
 use Rattle.swreq_confpath.proofs.Covering.{one_there}

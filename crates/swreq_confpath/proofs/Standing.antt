@@ -1,31 +1,31 @@
 -- Places of the code, and the places over type parameters for which they stand.
 use Rattle.std.proofs.Common.{◌≡◌, ℕ, suc, ◌+◌, inl, inr, List, [], ◌∷◌, ◌++◌, map, take, slice_get, None, Some, Result, Ok, Err, IfOk, refl, sym, ap, ap₂, subst, ◌∙◌, append_assoc, arith}
 use Rattle.std.proofs.lemmas.Result.{IfOk-weaker}
-use Rattle.swreq_param.specs.declared.ids.ProtoId.{ProtoId}
-use Rattle.swreq_param.specs.Terms.{Term, head}
-use Rattle.swreq_derive.specs.Derivation.{Derivable, Source, TermFacts, TermRequirement, for_self}
-use Rattle.swreq_derive.specs.Derivation.Source.{SelfOf}
-use Rattle.swreq_derive.specs.Derivation.TermRequirement.{Conforms, Equals, IsAnyObject}
-use Rattle.swreq_derive.specs.Derivation.TermStatement.{IsValid, Requires}
-use Rattle.swreq_derive.specs.Facts.{requirement_of}
-use Rattle.swreq_derive.proofs.Substitution.{valid_sides}
-use Rattle.swreq_word.specs.declared.symbols.Symbol.{Symbol}
-use Rattle.swreq_word.proofs.Chains.{linked_back, linked_on}
-use Rattle.swreq_word.proofs.Comparing.{by_length}
-use Rattle.swreq_lemmas.proofs.Elements.{take_one}
-use Rattle.swreq_rule.specs.declared.rules.Rule.{Rule}
-use Rattle.swreq_rule.proofs.Context.{Linked-after}
-use Rattle.swreq_correspondence.specs.Symbols.{Symbols, Word, right_side, start, steps, word_of}
-use Rattle.swreq_correspondence.proofs.Spelling.{spell-append, spell-for_self}
-use Rattle.swreq_world.specs.Worlds.{TextWorld}
-use Rattle.swreq_symbols.specs.Meaning.{symbols_of}
-use Rattle.swreq_symbols.specs.Overs.{source_by}
-use Rattle.swreq_symbols.specs.Vanishing.{IsLeastBy, Links}
-use Rattle.swreq_symbols.proofs.OfText.{own_requirements}
-use Rattle.swreq_symbols.proofs.Walking.{one_least}
+use Rattle.swreq_machine.specs.swreq_param.declared.ids.ProtoId.{ProtoId}
+use Rattle.swreq_machine.specs.swreq_param.Terms.{Term, head}
+use Rattle.swreq_machine.specs.swreq_derive.Derivation.{Derivable, Source, TermFacts, TermRequirement, for_self}
+use Rattle.swreq_machine.specs.swreq_derive.Derivation.Source.{SelfOf}
+use Rattle.swreq_machine.specs.swreq_derive.Derivation.TermRequirement.{Conforms, Equals, IsAnyObject}
+use Rattle.swreq_machine.specs.swreq_derive.Derivation.TermStatement.{IsValid, Requires}
+use Rattle.swreq_machine.specs.swreq_derive.Facts.{requirement_of}
+use Rattle.swreq_machine.proofs.swreq_derive.Substitution.{valid_sides}
+use Rattle.swreq_print.specs.swreq_word.declared.symbols.Symbol.{Symbol}
+use Rattle.swreq_print.proofs.swreq_word.Chains.{linked_back, linked_on}
+use Rattle.swreq_print.proofs.swreq_word.Comparing.{by_length}
+use Rattle.swreq_print.proofs.swreq_lemmas.Elements.{take_one}
+use Rattle.swreq_print.specs.swreq_rule.declared.rules.Rule.{Rule}
+use Rattle.swreq_print.proofs.swreq_rule.Context.{Linked-after}
+use Rattle.swreq_machine.specs.swreq_correspondence.Symbols.{Symbols, Word, right_side, start, steps, word_of}
+use Rattle.swreq_machine.proofs.swreq_correspondence.Spelling.{spell-append, spell-for_self}
+use Rattle.swreq_machine.specs.swreq_world.Worlds.{TextWorld}
+use Rattle.swreq_machine.specs.swreq_symbols.Meaning.{symbols_of}
+use Rattle.swreq_machine.specs.swreq_symbols.Overs.{source_by}
+use Rattle.swreq_machine.specs.swreq_symbols.Vanishing.{IsLeastBy, Links}
+use Rattle.swreq_machine.proofs.swreq_symbols.OfText.{own_requirements}
+use Rattle.swreq_machine.proofs.swreq_symbols.Walking.{one_least}
 use Rattle.swreq_machine.specs.Asked.{IsLeastWord}
 use Rattle.swreq_machine.specs.Machines.{MachineView}
-use Rattle.swreq_valid.specs.Rounds.{last_rules}
+use Rattle.swreq_machine.specs.swreq_valid.Rounds.{last_rules}
 use Rattle.swreq_machine.proofs.Answering.{by_sides}
 use Rattle.swreq_confpath.specs.declared.places.Place.{Place}
 use Rattle.swreq_confpath.specs.declared.places.Place.TheVariants as places

@@ -3,12 +3,12 @@ use Rattle.std.proofs.Common.{◌≡◌, ℕ, suc, ◌+◌, ◌<◌, ◌≤◌, 
 use Rattle.std.proofs.lemmas.Bool.{cases_lt}
 use Rattle.std.proofs.lemmas.Option.{slice_get_within}
 use Rattle.std.proofs.lemmas.List.Elements.{Contains-append_left, Contains-append_right, Contains-append_cases}
-use Rattle.swreq_param.specs.declared.ids.ParamId.{ParamId}
-use Rattle.swreq_derive.specs.Derivation.{TermRequirement, TermFacts, Source}
-use Rattle.swreq_derive.specs.Derivation.Source.{Written}
-use Rattle.swreq_derive.specs.WellFormed.{AreProtocolsWellFormed, IsListWellFormed}
-use Rattle.swreq_lemmas.proofs.Elements.{get_cases, get_contains, get_left}
-use Rattle.swreq_lemmas.proofs.Members.{only_member}
+use Rattle.swreq_machine.specs.swreq_param.declared.ids.ParamId.{ParamId}
+use Rattle.swreq_machine.specs.swreq_derive.Derivation.{TermRequirement, TermFacts, Source}
+use Rattle.swreq_machine.specs.swreq_derive.Derivation.Source.{Written}
+use Rattle.swreq_machine.specs.swreq_derive.WellFormed.{AreProtocolsWellFormed, IsListWellFormed}
+use Rattle.swreq_print.proofs.swreq_lemmas.Elements.{get_cases, get_contains, get_left}
+use Rattle.swreq_print.proofs.swreq_lemmas.Members.{only_member}
 use Rattle.swreq_confpath.specs.Routes.{TermPlace, GoesTo, LeadTo, AreAlike, ComesBefore}
 use Rattle.swreq_confpath.specs.Routes.TermPlace.{Start}
 use Rattle.swreq_confpath.specs.Tried.{TermSpot, start, IsSettled, AreReady, AreTriedUpTo}

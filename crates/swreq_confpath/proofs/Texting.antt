@@ -3,25 +3,25 @@ use Rattle.std.proofs.Common.{◌≡◌, ℕ, zero, suc, ◌+◌, ◌-◌, ◌<�
 use Rattle.std.proofs.lemmas.List.{length-map}
 use Rattle.std.proofs.lemmas.List.Elements.{Contains-get_or}
 use Rattle.std.proofs.lemmas.Option.{slice_get_within, get_or_from_slice_get}
-use Rattle.swreq_param.specs.declared.ids.ParamId.{ParamId}
-use Rattle.swreq_param.specs.declared.ids.ProtoId.{ProtoId}
-use Rattle.swreq_param.specs.Terms.{Term, self}
-use Rattle.swreq_derive.specs.declared.requirements.Requirement.{Requirement}
-use Rattle.swreq_derive.specs.Derivation.{TermFacts, TermRequirement, for_self}
-use Rattle.swreq_derive.specs.Derivation.TermRequirement.{Conforms}
-use Rattle.swreq_derive.specs.Facts.{requirement_of}
-use Rattle.swreq_derive.specs.Instances.{HasNumber}
-use Rattle.swreq_derive.specs.Paths.{IsConformancePath, LeadsOn}
+use Rattle.swreq_machine.specs.swreq_param.declared.ids.ParamId.{ParamId}
+use Rattle.swreq_machine.specs.swreq_param.declared.ids.ProtoId.{ProtoId}
+use Rattle.swreq_machine.specs.swreq_param.Terms.{Term, self}
+use Rattle.swreq_machine.specs.swreq_derive.declared.requirements.Requirement.{Requirement}
+use Rattle.swreq_machine.specs.swreq_derive.Derivation.{TermFacts, TermRequirement, for_self}
+use Rattle.swreq_machine.specs.swreq_derive.Derivation.TermRequirement.{Conforms}
+use Rattle.swreq_machine.specs.swreq_derive.Facts.{requirement_of}
+use Rattle.swreq_machine.specs.swreq_derive.Instances.{HasNumber}
+use Rattle.swreq_machine.specs.swreq_derive.Paths.{IsConformancePath, LeadsOn}
 use Rattle.swreq_print.specs.Names.{Text}
 use Rattle.swreq_print.specs.Signatures.{requirement_text, self_text}
-use Rattle.swreq_lexicon.specs.Views.{LexiconView, IsProtocol}
-use Rattle.swreq_world.specs.Closed.{IsRequirementOf}
-use Rattle.swreq_lowering.specs.declared.ids.FuncId.{FuncId}
-use Rattle.swreq_world.specs.ByTable.{world_by}
-use Rattle.swreq_world.specs.FactsAt.{facts_of, written_list}
-use Rattle.swreq_world.specs.Worlds.{IdWorld, signature_at}
-use Rattle.swreq_symbols.specs.Known.{IsRequirementIn, IsTextOver}
-use Rattle.swreq_valid.specs.Plans.{bare}
+use Rattle.swreq_machine.specs.swreq_lexicon.Views.{LexiconView, IsProtocol}
+use Rattle.swreq_machine.specs.swreq_world.Closed.{IsRequirementOf}
+use Rattle.swreq_machine.specs.swreq_lowering.declared.ids.FuncId.{FuncId}
+use Rattle.swreq_machine.specs.swreq_world.ByTable.{world_by}
+use Rattle.swreq_machine.specs.swreq_world.FactsAt.{facts_of, written_list}
+use Rattle.swreq_machine.specs.swreq_world.Worlds.{IdWorld, signature_at}
+use Rattle.swreq_machine.specs.swreq_symbols.Known.{IsRequirementIn, IsTextOver}
+use Rattle.swreq_machine.specs.swreq_valid.Plans.{bare}
 use Rattle.swreq_confpath.proofs.Requirements.{signature_known, signature_listed}
 use Rattle.swreq_confpath.specs.Numbers.{AreNumbers, AreNumbersBehind, first_protocol, in_brackets, path_text, protocol_named, requirement_at, steps_text}
 

@@ -1,13 +1,13 @@
 -- The text of a conformance path.
 use Rattle.std.specs.Prelude.{ℕ, ◌-◌, List, [], ◌∷◌, ◌++◌, codes, slice_index_or}
-use Rattle.swreq_param.specs.declared.ids.ProtoId.{ProtoId}
-use Rattle.swreq_param.specs.Terms.{Term, self}
-use Rattle.swreq_derive.specs.Derivation.{TermFacts, TermRequirement}
-use Rattle.swreq_derive.specs.Derivation.TermRequirement.{Conforms, IsAnyObject, Equals}
-use Rattle.swreq_derive.specs.Instances.{HasNumber}
+use Rattle.swreq_machine.specs.swreq_param.declared.ids.ProtoId.{ProtoId}
+use Rattle.swreq_machine.specs.swreq_param.Terms.{Term, self}
+use Rattle.swreq_machine.specs.swreq_derive.Derivation.{TermFacts, TermRequirement}
+use Rattle.swreq_machine.specs.swreq_derive.Derivation.TermRequirement.{Conforms, IsAnyObject, Equals}
+use Rattle.swreq_machine.specs.swreq_derive.Instances.{HasNumber}
 use Rattle.swreq_print.specs.Names.{Text}
 use Rattle.swreq_print.specs.Signatures.{requirement_text, self_text}
-use Rattle.swreq_lexicon.specs.Views.{LexiconView}
+use Rattle.swreq_machine.specs.swreq_lexicon.Views.{LexiconView}
 
 -- ---- numbers of conformances
 

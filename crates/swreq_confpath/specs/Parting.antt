@@ -1,8 +1,8 @@
 -- Symbols that rules spare, and words that part for good from another.
 use Rattle.std.specs.Prelude.{◌≡◌, ℕ, ◌<◌, ◌≤◌, List, [], ◌∷◌, ◌++◌, length, take, Contains, slice_get, Some}
-use Rattle.swreq_word.specs.declared.symbols.Symbol.{Symbol}
-use Rattle.swreq_word.specs.declared.symbols.Symbol.TheVariants.{Proto}
-use Rattle.swreq_rule.specs.declared.rules.Rule.{Rule}
+use Rattle.swreq_print.specs.swreq_word.declared.symbols.Symbol.{Symbol}
+use Rattle.swreq_print.specs.swreq_word.declared.symbols.Symbol.TheVariants.{Proto}
+use Rattle.swreq_print.specs.swreq_rule.declared.rules.Rule.{Rule}
 
 -- No protocol's symbol stands in the word.
 abbrev pub HasNoProtocol : List Symbol → Type 0

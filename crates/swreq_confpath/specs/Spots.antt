@@ -1,6 +1,6 @@
 -- What the code keeps of the numbers that were tried.
 use Rattle.std.specs.Prelude.{◌≡◌, ◌⊎◌, ℕ, List, [], ◌∷◌, ◌++◌, Contains}
-use Rattle.swreq_word.specs.declared.symbols.Symbol.{Symbol}
+use Rattle.swreq_print.specs.swreq_word.declared.symbols.Symbol.{Symbol}
 use Rattle.swreq_confpath.specs.declared.places.Place.{Place}
 use Rattle.swreq_confpath.specs.declared.places.Place.TheVariants.{Start, Conformance}
 

@@ -1,8 +1,8 @@
 -- What the search for the given conformance path knows of the numbers that it has tried.
 use Rattle.std.specs.Prelude.{◌≡◌, ℕ, ◌<◌, ◌≤◌, ◌⊎◌, List, [], ◌∷◌, ◌++◌, Some, Contains, slice_get}
-use Rattle.swreq_param.specs.declared.ids.ParamId.{ParamId}
-use Rattle.swreq_derive.specs.Derivation.{TermFacts, TermRequirement}
-use Rattle.swreq_derive.specs.Derivation.Source.{Written}
+use Rattle.swreq_machine.specs.swreq_param.declared.ids.ParamId.{ParamId}
+use Rattle.swreq_machine.specs.swreq_derive.Derivation.{TermFacts, TermRequirement}
+use Rattle.swreq_machine.specs.swreq_derive.Derivation.Source.{Written}
 use Rattle.swreq_confpath.specs.Routes.{TermPlace, GoesTo, LeadTo, AreAlike, ComesBefore, IsNotAfter}
 use Rattle.swreq_confpath.specs.Routes.TermPlace.{Start}
 

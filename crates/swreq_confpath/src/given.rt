@@ -1,19 +1,10 @@
 //! The conformance path that is given.
 ghost use Rattle.std.specs.Prelude.{◌≡◌, ◌<◌, IfOk, length};
-ghost use Rattle.swreq_param.specs.Tables.{term_at};
-ghost use Rattle.swreq_derive.specs.declared.requirements.Requirement.TheVariants.{Conf};
-ghost use Rattle.swreq_derive.specs.Derivation.{Derivable};
-ghost use Rattle.swreq_derive.specs.Derivation.TermRequirement.{Conforms};
-ghost use Rattle.swreq_derive.specs.Derivation.TermStatement.{Requires};
-ghost use Rattle.swreq_derive.specs.Facts.{generic_params};
-ghost use Rattle.swreq_derive.specs.Paths.{IsGivenPath};
-ghost use Rattle.swreq_world.specs.ByTable.{world_by};
-ghost use Rattle.swreq_world.specs.FactsAt.{facts_of, source_of, written_list};
-ghost use Rattle.swreq_world.specs.Short.{IsShort};
-ghost use Rattle.swreq_world.specs.Worlds.{signature_at};
-ghost use Rattle.swreq_symbols.specs.Known.{IsRequirementIn, IsTextOver};
-ghost use Rattle.swreq_confpath.specs.declared.places.Place.TheVariants.{Start};
-ghost use Rattle.swreq_confpath.specs.Searches.{IsGiven, IsKnown, IsMachineFor, StandsFor, sought_in};
+ghost use Rattle.swreq_machine.specs.swreq_param.Tables.{term_at};
+ghost use Rattle.swreq_machine.specs.swreq_derive.{declared.requirements.Requirement.TheVariants.{Conf}, Derivation.{Derivable}, Derivation.TermRequirement.{Conforms}, Derivation.TermStatement.{Requires}, Facts.{generic_params}, Paths.{IsGivenPath}};
+ghost use Rattle.swreq_machine.specs.swreq_world.{ByTable.{world_by}, FactsAt.{facts_of, source_of, written_list}, Short.{IsShort}, Worlds.{signature_at}};
+ghost use Rattle.swreq_machine.specs.swreq_symbols.Known.{IsRequirementIn, IsTextOver};
+ghost use Rattle.swreq_confpath.specs.{declared.places.Place.TheVariants.{Start}, Searches.{IsGiven, IsKnown, IsMachineFor, StandsFor, sought_in}};
 
 use crate::parting::changed_symbols;
 use crate::path::ConfPath;
@@ -22,10 +13,10 @@ use crate::sought::{Sought, follow};
 use crate::tried::Tried;
 use crate::trying::go_on;
 use std::alloc::{AllocError, Global};
-use swreq_lowering::FuncId;
 use swreq_machine::Machine;
-use swreq_param::{ParamTable, ProtoId, TermId};
-use swreq_world::World;
+use swreq_machine::param::{ParamTable, ProtoId, TermId};
+use swreq_machine::world::World;
+use swreq_print::lowering::FuncId;
 
 /// The path that is given for the conformance that is sought, whose place this is.
 ///

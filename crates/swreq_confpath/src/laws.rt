@@ -1,22 +1,12 @@
 //! Laws on conformance paths and the search for them, over the definitions alone.
 ghost use Rattle.std.specs.Prelude.{◌≡◌, ℕ, List, ◌++◌, ◌∷◌};
-ghost use Rattle.swreq_param.specs.declared.ids.ParamId.{ParamId};
-ghost use Rattle.swreq_param.specs.declared.ids.ProtoId.{ProtoId};
-ghost use Rattle.swreq_param.specs.Terms.{Term};
-ghost use Rattle.swreq_derive.specs.Derivation.{Derivable, TermFacts, TermRequirement};
-ghost use Rattle.swreq_derive.specs.Derivation.Source.{Written};
-ghost use Rattle.swreq_derive.specs.Derivation.TermRequirement.{Conforms};
-ghost use Rattle.swreq_derive.specs.Derivation.TermStatement.{Requires};
-ghost use Rattle.swreq_derive.specs.Paths.{IsConformancePath};
-ghost use Rattle.swreq_derive.specs.WellFormed.{AreProtocolsWellFormed, IsListWellFormed};
-ghost use Rattle.swreq_word.specs.declared.symbols.Symbol.{Symbol};
-ghost use Rattle.swreq_rule.specs.declared.rules.Rule.{Rule};
-ghost use Rattle.swreq_complete.specs.Complete.{IsComplete};
-ghost use Rattle.swreq_symbols.specs.Vanishing.{IsLeastBy, Links};
-ghost use Rattle.swreq_confpath.specs.Numbers.{AreNumbers};
-ghost use Rattle.swreq_confpath.specs.Parting.{PartsForGood};
-ghost use Rattle.swreq_confpath.specs.Routes.{AreAlike, IsNotAfter, LeadTo, TermPlace};
-ghost use Rattle.swreq_confpath.specs.Routes.TermPlace.{Conformance, Start};
+ghost use Rattle.swreq_machine.specs.swreq_param.{declared.ids.ParamId.{ParamId}, declared.ids.ProtoId.{ProtoId}, Terms.{Term}};
+ghost use Rattle.swreq_machine.specs.swreq_derive.{Derivation.{Derivable, TermFacts, TermRequirement}, Derivation.Source.{Written}, Derivation.TermRequirement.{Conforms}, Derivation.TermStatement.{Requires}, Paths.{IsConformancePath}, WellFormed.{AreProtocolsWellFormed, IsListWellFormed}};
+ghost use Rattle.swreq_print.specs.swreq_word.declared.symbols.Symbol.{Symbol};
+ghost use Rattle.swreq_print.specs.swreq_rule.declared.rules.Rule.{Rule};
+ghost use Rattle.swreq_machine.specs.swreq_complete.Complete.{IsComplete};
+ghost use Rattle.swreq_machine.specs.swreq_symbols.Vanishing.{IsLeastBy, Links};
+ghost use Rattle.swreq_confpath.specs.{Numbers.{AreNumbers}, Parting.{PartsForGood}, Routes.{AreAlike, IsNotAfter, LeadTo, TermPlace}, Routes.TermPlace.{Conformance, Start}};
 
 /// Numbers that lead to a place like one that was reached need not be tried: on a well formed text what goes on from the one goes on from
 /// the other, to places that are alike, and numbers that do not come after others do not come after them when the same numbers follow both.

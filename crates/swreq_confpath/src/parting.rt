@@ -1,14 +1,13 @@
 //! Symbols that rules spare, and words that part for good from another.
-ghost use Rattle.std.specs.Prelude.{◌≡◌, List, IsTrue, IfOk, Contains};
-ghost use Rattle.std.specs.Bool.{Decides};
-ghost use Rattle.swreq_rule.specs.declared.rules.Rule.{Rule};
-ghost use Rattle.swreq_complete.specs.Complete.{IsComplete};
+ghost use Rattle.std.specs.{Prelude.{◌≡◌, List, IsTrue, IfOk, Contains}, Bool.{Decides}};
+ghost use Rattle.swreq_print.specs.swreq_rule.declared.rules.Rule.{Rule};
+ghost use Rattle.swreq_machine.specs.swreq_complete.Complete.{IsComplete};
 ghost use Rattle.swreq_confpath.specs.Parting.{AllSpareOthers, AreBeforeProtocol, AreInCommon, PartsForGood, SparesOthers};
 
 use std::alloc::{AllocError, Global};
-use swreq_complete::CompleteRules;
-use swreq_rule::Rule;
-use swreq_word::Symbol;
+use swreq_machine::complete::CompleteRules;
+use swreq_machine::rule::Rule;
+use swreq_machine::word::Symbol;
 
 /// How many symbols two words have in common at the front.
 fn in_common(u: &[Symbol], v: &[Symbol]) -> usize

@@ -3,8 +3,8 @@ ghost use Rattle.std.specs.Prelude.{◌≡◌, IfOk};
 ghost use Rattle.swreq_confpath.specs.Spots.{word_at};
 
 use std::alloc::AllocError;
-use swreq_param::ProtoId;
-use swreq_word::{Symbol, Word};
+use swreq_machine::param::ProtoId;
+use swreq_machine::word::{Symbol, Word};
 
 /// Where numbers of requirements have led.
 #[derive(Debug, Drop, PartialEq, Eq, Hash)]

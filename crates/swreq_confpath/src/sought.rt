@@ -1,28 +1,24 @@
 //! Over what the given path is sought, and where requirements lead.
 ghost use Rattle.std.specs.Prelude.{◌≡◌, ◌++◌, [], ◌∷◌, IfOk, List};
-ghost use Rattle.swreq_param.specs.Tables.{term_at};
-ghost use Rattle.swreq_param.specs.Terms.{Term};
-ghost use Rattle.swreq_derive.specs.Derivation.{for_self};
-ghost use Rattle.swreq_lexicon.specs.Views.{IsProtocol};
-ghost use Rattle.swreq_word.specs.declared.symbols.Symbol.{Symbol};
-ghost use Rattle.swreq_symbols.specs.Known.{IsTextOver, IsTypeIn};
-ghost use Rattle.swreq_symbols.specs.Vanishing.{IsLeastBy, Links};
+ghost use Rattle.swreq_machine.specs.swreq_param.{Tables.{term_at}, Terms.{Term}};
+ghost use Rattle.swreq_machine.specs.swreq_derive.Derivation.{for_self};
+ghost use Rattle.swreq_machine.specs.swreq_lexicon.Views.{IsProtocol};
+ghost use Rattle.swreq_print.specs.swreq_word.declared.symbols.Symbol.{Symbol};
+ghost use Rattle.swreq_machine.specs.swreq_symbols.{Known.{IsTextOver, IsTypeIn}, Vanishing.{IsLeastBy, Links}};
 ghost use Rattle.swreq_machine.specs.Asked.{IsLeastWord};
-ghost use Rattle.swreq_valid.specs.Rounds.{last_rules};
-ghost use Rattle.swreq_confpath.specs.declared.places.Place.TheVariants.{Conformance};
-ghost use Rattle.swreq_confpath.specs.Routes.{TermPlace, gone_on};
-ghost use Rattle.swreq_confpath.specs.Searches.{HasLeastWord, IsPlaceIn, StandsFor, required_at, world_in};
+ghost use Rattle.swreq_machine.specs.swreq_valid.Rounds.{last_rules};
+ghost use Rattle.swreq_confpath.specs.{declared.places.Place.TheVariants.{Conformance}, Routes.{TermPlace, gone_on}, Searches.{HasLeastWord, IsPlaceIn, StandsFor, required_at, world_in}};
 
 use crate::places::Place;
 use std::alloc::{AllocError, Global};
-use swreq_complete::CompleteRules;
-use swreq_derive::Requirement;
 use swreq_machine::Machine;
-use swreq_map::append;
-use swreq_param::{ParamTable, ProtoId, TermId};
-use swreq_symbols::equation;
-use swreq_word::{Symbol, Word};
-use swreq_world::World;
+use swreq_machine::complete::CompleteRules;
+use swreq_machine::derive::Requirement;
+use swreq_machine::map::append;
+use swreq_machine::param::{ParamTable, ProtoId, TermId};
+use swreq_machine::symbols::equation;
+use swreq_machine::word::{Symbol, Word};
+use swreq_machine::world::World;
 
 /// Over what the path is sought that is given for a conformance: a text, and the list of a signature with its machine.
 #[derive(Clone, Copy)]

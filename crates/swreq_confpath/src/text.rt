@@ -1,25 +1,23 @@
 //! The texts of conformance paths.
 ghost use Rattle.std.specs.Prelude.{◌≡◌, ◌<◌, ◌++◌, List, OnErr, OnOk, length};
-ghost use Rattle.swreq_param.specs.Terms.{Term};
-ghost use Rattle.swreq_derive.specs.Facts.{requirement_of};
-ghost use Rattle.swreq_lexicon.specs.Views.{IsProtocol};
+ghost use Rattle.swreq_machine.specs.swreq_param.Terms.{Term};
+ghost use Rattle.swreq_machine.specs.swreq_derive.Facts.{requirement_of};
+ghost use Rattle.swreq_machine.specs.swreq_lexicon.Views.{IsProtocol};
 ghost use Rattle.swreq_print.specs.Signatures.{requirement_text, self_text};
-ghost use Rattle.swreq_lowering.specs.ByTable.{HasIdsOf};
-ghost use Rattle.swreq_symbols.specs.Known.{IsTextOver};
-ghost use Rattle.swreq_world.specs.ByTable.{world_by};
-ghost use Rattle.swreq_world.specs.FactsAt.{facts_of, written_list};
-ghost use Rattle.swreq_world.specs.Worlds.{signature_at};
+ghost use Rattle.swreq_machine.specs.swreq_lowering.ByTable.{HasIdsOf};
+ghost use Rattle.swreq_machine.specs.swreq_symbols.Known.{IsTextOver};
+ghost use Rattle.swreq_machine.specs.swreq_world.{ByTable.{world_by}, FactsAt.{facts_of, written_list}, Worlds.{signature_at}};
 ghost use Rattle.swreq_confpath.specs.Numbers.{AreNumbers, AreNumbersBehind, in_brackets, path_text, protocol_named, steps_text};
 
 use crate::path::ConfPath;
 use std::alloc::{AllocError, Global};
-use swreq_derive::Requirement;
-use swreq_lexicon::Lexicon;
-use swreq_lowering::FuncId;
-use swreq_param::{ParamTable, ProtoId};
+use swreq_machine::derive::Requirement;
+use swreq_machine::param::{ParamTable, ProtoId};
+use swreq_machine::world::World;
+use swreq_print::lexicon::Lexicon;
+use swreq_print::lowering::FuncId;
 use swreq_print::{requirement_text, self_text};
 use swreq_text::append_bytes;
-use swreq_world::World;
 
 /// The protocol that a conformance names.
 fn protocol_named(r: Requirement) -> ProtoId

@@ -1,7 +1,6 @@
 //! What was tried.
 ghost use Rattle.std.specs.Prelude.{◌≡◌, ◌<◌, ◌++◌, [], ◌∷◌, ℕ, length, slice_get, Some, IfOk, OnOk};
-ghost use Rattle.swreq_confpath.specs.declared.places.Place.TheVariants.{Start};
-ghost use Rattle.swreq_confpath.specs.Spots.{IsKept, Spot};
+ghost use Rattle.swreq_confpath.specs.{declared.places.Place.TheVariants.{Start}, Spots.{IsKept, Spot}};
 
 use crate::places::Place;
 use indexmap::IndexMap;

@@ -1,8 +1,7 @@
 //! What goes on from a place.
 ghost use Rattle.std.specs.Prelude.{◌≡◌, ◌+◌, ◌-◌, ◌<◌, ◌∷◌, ◌++◌, [], length, slice_get, Some, IfOk, IsTrue, MatchOption};
-ghost use Rattle.swreq_derive.specs.Instances.{HasNumber};
-ghost use Rattle.swreq_confpath.specs.Searches.{HasParted, IsGiven, IsKnown, IsSearch, IsSearchAt, StandsFor, required_at, sought_in};
-ghost use Rattle.swreq_confpath.specs.Spots.{IsKept, Spot};
+ghost use Rattle.swreq_machine.specs.swreq_derive.Instances.{HasNumber};
+ghost use Rattle.swreq_confpath.specs.{Searches.{HasParted, IsGiven, IsKnown, IsSearch, IsSearchAt, StandsFor, required_at, sought_in}, Spots.{IsKept, Spot}};
 
 use crate::parting::parts_for_good;
 use crate::path::{ConfPath, path_of};
@@ -10,7 +9,7 @@ use crate::places::Place;
 use crate::sought::{Sought, follow, required_at};
 use crate::tried::Tried;
 use std::alloc::{AllocError, Global};
-use swreq_derive::Requirement;
+use swreq_machine::derive::Requirement;
 
 /// From where the search goes on.
 #[derive(Clone, Copy)]

@@ -1,3 +1,5 @@
+pub use Rattle.swreq_derive.proofs as swreq_derive
+pub use Rattle.swreq_word.proofs as swreq_word
 pub mod Spelling
 pub mod Chained
 pub mod Context

@@ -1,7 +1,7 @@
 -- A word that is read after a type goes on being read, as an equal type, along each link of a chain.
 use Rattle.std.proofs.Common.{◌≡◌, [], ◌∷◌, ◌++◌, Contains, refl, subst, subst₂, sym}
-use Rattle.swreq_param.specs.declared.ids.ProtoId.{ProtoId}
-use Rattle.swreq_param.specs.Terms.{Term}
+use Rattle.swreq_derive.specs.swreq_param.declared.ids.ProtoId.{ProtoId}
+use Rattle.swreq_derive.specs.swreq_param.Terms.{Term}
 use Rattle.swreq_derive.specs.Derivation.{TermRequirement, TermFacts, Source, Derivable, for_self}
 use Rattle.swreq_derive.specs.Derivation.TermRequirement.{Conforms, IsAnyObject, Equals}
 use Rattle.swreq_derive.specs.Derivation.TermStatement.{IsValid, Requires}

@@ -1,14 +1,14 @@
 -- A word has one type.
 use Rattle.std.proofs.Common.{◌≡◌, ◌+◌, ◌≤◌, [], ◌∷◌, length, ap, ap₂, subst, sym, ◌∙◌, arith}
-use Rattle.swreq_param.specs.Terms.{Term, member_count}
-use Rattle.swreq_param.specs.Terms.Term.{Generic, Member}
-use Rattle.swreq_param.specs.declared.ids.AssocId.{AssocId}
-use Rattle.swreq_param.specs.declared.ids.NameId.{NameId}
-use Rattle.swreq_param.specs.declared.ids.ParamId.{ParamId}
-use Rattle.swreq_param.specs.declared.ids.Step.TheVariants.{Bound, Name}
+use Rattle.swreq_derive.specs.swreq_param.Terms.{Term, member_count}
+use Rattle.swreq_derive.specs.swreq_param.Terms.Term.{Generic, Member}
+use Rattle.swreq_derive.specs.swreq_param.declared.ids.AssocId.{AssocId}
+use Rattle.swreq_derive.specs.swreq_param.declared.ids.NameId.{NameId}
+use Rattle.swreq_derive.specs.swreq_param.declared.ids.ParamId.{ParamId}
+use Rattle.swreq_derive.specs.swreq_param.declared.ids.Step.TheVariants.{Bound, Name}
 use Rattle.swreq_derive.specs.Derivation.{Source, TermFacts}
 use Rattle.swreq_word.specs.declared.symbols.Symbol.TheVariants.{Member as MemberSymbol, Param as ParamSymbol}
-use Rattle.swreq_lemmas.proofs.Elements.{same_heads, same_tails}
+use Rattle.swreq_word.proofs.swreq_lemmas.Elements.{same_heads, same_tails}
 use Rattle.swreq_word.proofs.SameSymbols.{same_members, same_params}
 use Rattle.swreq_correspondence.specs.Symbols.{Symbols, Word, name_of}
 use Rattle.swreq_correspondence.specs.Types.{BeginsAs, IsFirstFor, IsTypeOf}

@@ -9,15 +9,15 @@ use Rattle.swreq_derive.specs.Derivation.Source.{Written}
 use Rattle.swreq_derive.specs.Derivation.TermRequirement.{Conforms, Equals}
 use Rattle.swreq_derive.specs.Derivation.TermStatement.{IsValid, Requires}
 use Rattle.swreq_derive.specs.Reduced.{IsReducedTypeOf}
-use Rattle.swreq_param.proofs.TotalOrder.{total}
-use Rattle.swreq_param.specs.Order.{AlikeBefore, ParamBefore, TermBefore}
-use Rattle.swreq_param.specs.Terms.{Term, head, member_count}
-use Rattle.swreq_param.specs.Terms.Term.{Generic, Member}
-use Rattle.swreq_param.specs.declared.ids.AssocId.{AssocId}
-use Rattle.swreq_param.specs.declared.ids.NameId.{NameId}
-use Rattle.swreq_param.specs.declared.ids.ParamId.{ParamId}
-use Rattle.swreq_param.specs.declared.ids.ProtoId.{ProtoId}
-use Rattle.swreq_param.specs.declared.ids.Step.TheVariants.{Bound, Name}
+use Rattle.swreq_derive.proofs.swreq_param.TotalOrder.{total}
+use Rattle.swreq_derive.specs.swreq_param.Order.{AlikeBefore, ParamBefore, TermBefore}
+use Rattle.swreq_derive.specs.swreq_param.Terms.{Term, head, member_count}
+use Rattle.swreq_derive.specs.swreq_param.Terms.Term.{Generic, Member}
+use Rattle.swreq_derive.specs.swreq_param.declared.ids.AssocId.{AssocId}
+use Rattle.swreq_derive.specs.swreq_param.declared.ids.NameId.{NameId}
+use Rattle.swreq_derive.specs.swreq_param.declared.ids.ParamId.{ParamId}
+use Rattle.swreq_derive.specs.swreq_param.declared.ids.ProtoId.{ProtoId}
+use Rattle.swreq_derive.specs.swreq_param.declared.ids.Step.TheVariants.{Bound, Name}
 use Rattle.swreq_correspondence.proofs.Chained.{chained_usable, member_link, turn, turn_all, within}
 use Rattle.swreq_correspondence.proofs.Correspondence.{chain_leads, equal_words, word_is_read}
 use Rattle.swreq_correspondence.proofs.OneType.{typed_length}

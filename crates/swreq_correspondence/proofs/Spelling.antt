@@ -1,7 +1,7 @@
 -- The words of type parameters put together.
 use Rattle.std.proofs.Common.{◌≡◌, ◌∷◌, ◌++◌, refl, ap, ap₂}
-use Rattle.swreq_param.specs.Terms.{Term, head}
-use Rattle.swreq_param.specs.Terms.Term.{Generic, Member}
+use Rattle.swreq_derive.specs.swreq_param.Terms.{Term, head}
+use Rattle.swreq_derive.specs.swreq_param.Terms.Term.{Generic, Member}
 use Rattle.swreq_derive.specs.Derivation.{Source, for_self}
 use Rattle.swreq_correspondence.specs.Symbols.{Word, Symbols, symbol, steps, start, spell}
 

@@ -1,7 +1,7 @@
 -- The equations of a text, and congruence under them.
 use Rattle.std.specs.Prelude.{◌≡◌, ℕ, [], ◌∷◌, ◌++◌, Contains}
-use Rattle.swreq_param.specs.declared.ids.ProtoId.{ProtoId}
-use Rattle.swreq_param.specs.Terms.{self}
+use Rattle.swreq_derive.specs.swreq_param.declared.ids.ProtoId.{ProtoId}
+use Rattle.swreq_derive.specs.swreq_param.Terms.{self}
 use Rattle.swreq_word.specs.declared.symbols.Symbol.{Symbol}
 use Rattle.swreq_word.specs.declared.symbols.Symbol.TheVariants.{Proto as ProtoSymbol, Member as MemberSymbol, Name as NameSymbol}
 use Rattle.swreq_word.specs.Relations.{Chain}

@@ -1,10 +1,10 @@
 -- The symbols of worked texts. Their facts and lists stand in `swreq_derive`; a member name has its symbols in the order of the protocols
 -- that inherit more, and then of their names.
 use Rattle.std.specs.Prelude.{ℕ, List, [], ◌∷◌, get_or}
-use Rattle.swreq_param.specs.declared.ids.AssocId.{AssocId}
-use Rattle.swreq_param.specs.declared.ids.NameId.{NameId}
-use Rattle.swreq_param.specs.declared.ids.ProtoId.{ProtoId}
-use Rattle.swreq_param.specs.Terms.{self}
+use Rattle.swreq_derive.specs.swreq_param.declared.ids.AssocId.{AssocId}
+use Rattle.swreq_derive.specs.swreq_param.declared.ids.NameId.{NameId}
+use Rattle.swreq_derive.specs.swreq_param.declared.ids.ProtoId.{ProtoId}
+use Rattle.swreq_derive.specs.swreq_param.Terms.{self}
 use Rattle.swreq_word.specs.declared.symbols.Symbol.{Symbol}
 use Rattle.swreq_word.specs.declared.symbols.Symbol.TheVariants.{Param as ParamSymbol}
 use Rattle.swreq_derive.specs.Derivation.{TermRequirement, TermFacts}

@@ -1,25 +1,9 @@
 //! Laws on words and derivations, over the definitions alone.
 ghost use Rattle.std.specs.Prelude.{◌≡◌, ◌↔◌, List, [], ◌∷◌, Contains};
-ghost use Rattle.swreq_param.specs.declared.ids.AssocId.{AssocId};
-ghost use Rattle.swreq_param.specs.declared.ids.NameId.{NameId};
-ghost use Rattle.swreq_param.specs.declared.ids.ParamId.{ParamId};
-ghost use Rattle.swreq_param.specs.declared.ids.ProtoId.{ProtoId};
-ghost use Rattle.swreq_param.specs.Order.{TermBefore};
-ghost use Rattle.swreq_param.specs.declared.ids.Step.TheVariants.{Bound, Name};
-ghost use Rattle.swreq_param.specs.Terms.{Term};
-ghost use Rattle.swreq_param.specs.Terms.Term.{Member};
-ghost use Rattle.swreq_word.specs.Least.{IsLeast};
-ghost use Rattle.swreq_word.specs.Order.{WordLess};
-ghost use Rattle.swreq_derive.specs.Derivation.{TermFacts, TermRequirement, TermStatement, Source, Declares, Derivable};
-ghost use Rattle.swreq_derive.specs.Derivation.Source.{Written};
-ghost use Rattle.swreq_derive.specs.Reduced.{IsReducedTypeOf};
-ghost use Rattle.swreq_derive.specs.Derivation.TermRequirement.{Conforms, IsAnyObject, Equals};
-ghost use Rattle.swreq_derive.specs.Derivation.TermStatement.{IsValid, Requires};
-ghost use Rattle.swreq_correspondence.specs.Symbols.{Word, Symbols, AreSymbolsOf, AreOfText, IsInText, word_of, left_side, right_side};
-ghost use Rattle.swreq_correspondence.specs.Equations.{AreCongruent, Link, UsableEquation};
-ghost use Rattle.swreq_correspondence.specs.Readings.{HasName, HasReading, reading};
-ghost use Rattle.swreq_correspondence.specs.Shown.{Shows};
-ghost use Rattle.swreq_correspondence.specs.Types.{AreRanked, HasFirsts, IsTypeOf};
+ghost use Rattle.swreq_derive.specs.swreq_param.{declared.ids.AssocId.{AssocId}, declared.ids.NameId.{NameId}, declared.ids.ParamId.{ParamId}, declared.ids.ProtoId.{ProtoId}, Order.{TermBefore}, declared.ids.Step.TheVariants.{Bound, Name}, Terms.{Term}, Terms.Term.{Member}};
+ghost use Rattle.swreq_word.specs.{Least.{IsLeast}, Order.{WordLess}};
+ghost use Rattle.swreq_derive.specs.{Derivation.{TermFacts, TermRequirement, TermStatement, Source, Declares, Derivable}, Derivation.Source.{Written}, Reduced.{IsReducedTypeOf}, Derivation.TermRequirement.{Conforms, IsAnyObject, Equals}, Derivation.TermStatement.{IsValid, Requires}};
+ghost use Rattle.swreq_correspondence.specs.{Symbols.{Word, Symbols, AreSymbolsOf, AreOfText, IsInText, word_of, left_side, right_side}, Equations.{AreCongruent, Link, UsableEquation}, Readings.{HasName, HasReading, reading}, Shown.{Shows}, Types.{AreRanked, HasFirsts, IsTypeOf}};
 
 /// Congruence of words shows what is derivable.
 pub fn derived_is_shown()

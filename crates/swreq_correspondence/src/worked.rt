@@ -2,15 +2,10 @@
 //!
 //! Each function is one text, whose symbols stand in `specs/Worked.antt`. Nothing is computed: the clauses are theorems.
 ghost use Rattle.std.specs.Prelude.{◌≡◌, [], ◌∷◌};
-ghost use Rattle.swreq_param.specs.Terms.{self};
+ghost use Rattle.swreq_derive.specs.swreq_param.Terms.{self};
 ghost use Rattle.swreq_word.specs.declared.symbols.Symbol.TheVariants.{Proto, Member, Name};
-ghost use Rattle.swreq_derive.specs.Derivation.Source.{SelfOf};
-ghost use Rattle.swreq_derive.specs.Worked.{◌·◌, bound, of_one, of_two, τ_0_0, N, Next, Next_of_N, endless, endless_f, A, A_of_P, A_of_Q, shared, shared_f, shared_g, Next_of_Late, redeclared, redeclared_f, looped, looped_f, circular, circular_f};
-ghost use Rattle.swreq_correspondence.specs.Symbols.{Word, AreSymbolsOf, word_of};
-ghost use Rattle.swreq_correspondence.specs.Equations.{AreCongruent, UsableEquation};
-ghost use Rattle.swreq_correspondence.specs.Readings.{HasReading, reading};
-ghost use Rattle.swreq_correspondence.specs.Types.{IsTypeOf};
-ghost use Rattle.swreq_correspondence.specs.Worked.{first_param, second_param, endless_symbols, shared_symbols, redeclared_symbols, looped_symbols, circular_symbols, inherited, inherited_f, inherited_symbols};
+ghost use Rattle.swreq_derive.specs.{Derivation.Source.{SelfOf}, Worked.{◌·◌, bound, of_one, of_two, τ_0_0, N, Next, Next_of_N, endless, endless_f, A, A_of_P, A_of_Q, shared, shared_f, shared_g, Next_of_Late, redeclared, redeclared_f, looped, looped_f, circular, circular_f}};
+ghost use Rattle.swreq_correspondence.specs.{Symbols.{Word, AreSymbolsOf, word_of}, Equations.{AreCongruent, UsableEquation}, Readings.{HasReading, reading}, Types.{IsTypeOf}, Worked.{first_param, second_param, endless_symbols, shared_symbols, redeclared_symbols, looped_symbols, circular_symbols, inherited, inherited_f, inherited_symbols}};
 
 /// `protocol N { associatedtype Next: N }` and `func f<T: N>()`, where `Missing` has the rank 0 and `Next` the rank 1.
 pub fn members_without_end()

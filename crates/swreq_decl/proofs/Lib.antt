@@ -1,3 +1,4 @@
+pub use Rattle.swreq_lex.proofs as swreq_lex
 pub mod Slices
 pub mod Predictive
 pub mod Growing

@@ -1,3 +1,5 @@
+pub use Rattle.swreq_grammar.specs as swreq_grammar
+pub use Rattle.swreq_lex.specs as swreq_lex
 pub mod Terminals
 pub mod Kinds
 pub mod Source

@@ -1,8 +1,7 @@
 //! Reading calls.
 
 ghost use Rattle.std.specs.Prelude.{◌≡◌, ◌∷◌, []};
-ghost use Rattle.swreq_grammar.specs.Gives.{Gives};
-ghost use Rattle.swreq_grammar.specs.Reader.{read, read_whole};
+ghost use Rattle.swreq_grammar.specs.{Gives.{Gives}, Reader.{read, read_whole}};
 ghost use Rattle.swreq_decl.specs.declared.terminal.Terminal.TheVariants.{Comma, Name, Query};
 ghost use Rattle.swreq_decl.specs.Calls as calls;
 ghost use Rattle.swreq_decl.specs.Terminals.{number};

@@ -1,10 +1,8 @@
 //! Reading the parts of a text.
 
 ghost use Rattle.std.specs.Prelude.{◌≡◌, ◌∷◌, []};
-ghost use Rattle.swreq_grammar.specs.Gives.{Gives};
-ghost use Rattle.swreq_grammar.specs.Reader.{read, read_whole};
-ghost use Rattle.swreq_decl.specs.declared.terminal.Terminal.TheVariants.{Public, Internal, FilePrivate, Private, Protocol, Func, Struct, Query};
-ghost use Rattle.swreq_decl.specs.Terminals.{number};
+ghost use Rattle.swreq_grammar.specs.{Gives.{Gives}, Reader.{read, read_whole}};
+ghost use Rattle.swreq_decl.specs.{declared.terminal.Terminal.TheVariants.{Public, Internal, FilePrivate, Private, Protocol, Func, Struct, Query}, Terminals.{number}};
 ghost use Rattle.swreq_decl.specs.Source as lines;
 
 use crate::functions::function;

@@ -1,22 +1,13 @@
 //! What holds of the skeletons and refusals of each text, and of the calls and refusals of each part of it.
 
-ghost use Rattle.std.specs.Prelude.{◌≡◌, ◌≤◌, ◌⊎◌, ℕ, List, Option, Some, length, map};
-ghost use Rattle.std.specs.List.{flat_map};
+ghost use Rattle.std.specs.{Prelude.{◌≡◌, ◌≤◌, ◌⊎◌, ℕ, List, Option, Some, length, map}, List.{flat_map}};
 ghost use Rattle.swreq_lex.specs.declared.token.Token as lexed;
-ghost use Rattle.swreq_lex.specs.Marks.{spellings};
-ghost use Rattle.swreq_lex.specs.Tokens.{HasTokens, HasTokensFrom};
-ghost use Rattle.swreq_lex.specs.Words.{reserved};
-ghost use Rattle.swreq_decl.specs.declared.kind.Kind.{Kind};
-ghost use Rattle.swreq_decl.specs.declared.skeleton.CallDecl.{CallDecl};
-ghost use Rattle.swreq_decl.specs.declared.skeleton.Item.{Item};
-ghost use Rattle.swreq_decl.specs.declared.skeleton.Skeleton.{Skeleton};
-ghost use Rattle.swreq_decl.specs.declared.terminal.Terminal.TheVariants.{Query};
+ghost use Rattle.swreq_lex.specs.{Marks.{spellings}, Tokens.{HasTokens, HasTokensFrom}, Words.{reserved}};
+ghost use Rattle.swreq_decl.specs.{declared.kind.Kind.{Kind}, declared.skeleton.CallDecl.{CallDecl}, declared.skeleton.Item.{Item}, declared.skeleton.Skeleton.{Skeleton}, declared.terminal.Terminal.TheVariants.{Query}};
 ghost use Rattle.swreq_decl.specs.Calls as calls;
-ghost use Rattle.swreq_decl.specs.Signatures.{HasParts, item_signatures, signature_decls};
-ghost use Rattle.swreq_decl.specs.Skeletons.{RefusedFor, StandsFor, skeleton_of};
+ghost use Rattle.swreq_decl.specs.{Signatures.{HasParts, item_signatures, signature_decls}, Skeletons.{RefusedFor, StandsFor, skeleton_of}};
 ghost use Rattle.swreq_decl.specs.Source as lines;
-ghost use Rattle.swreq_decl.specs.Spellings.{spelling};
-ghost use Rattle.swreq_decl.specs.Terminals.{marks, query_word, reserved_words};
+ghost use Rattle.swreq_decl.specs.{Spellings.{spelling}, Terminals.{marks, query_word, reserved_words}};
 ghost use Rattle.swreq_decl.specs.Written as written;
 ghost use Rattle.swreq_decl.specs.Written.{SameTexts};
 

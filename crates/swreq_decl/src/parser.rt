@@ -1,16 +1,10 @@
 //! The skeleton of a text, or the calls of a part of one, or where the text is refused.
 
 ghost use Rattle.std.specs.Prelude.{◌≡◌, ◌≤◌, ◌⊎◌, ℕ, List, length, IfOk, IfErr, MatchResult, Ok, Err, Some, None};
-ghost use Rattle.swreq_lex.specs.declared.lexer.TheConstants.{TEXT_LIMIT};
-ghost use Rattle.swreq_lex.specs.declared.refusal.LexErr.{LexErr};
-ghost use Rattle.swreq_lex.specs.Refusals.{HasRefusal, HasRefusalFrom};
-ghost use Rattle.swreq_decl.specs.declared.kind.Kind.{Kind};
-ghost use Rattle.swreq_decl.specs.declared.skeleton.CallDecl.{CallDecl};
-ghost use Rattle.swreq_decl.specs.declared.skeleton.Skeleton.{Skeleton};
-ghost use Rattle.swreq_decl.specs.declared.refusal.ParseErr.TheVariants.{Lex, Memory, Syntax, Unsupported};
+ghost use Rattle.swreq_lex.specs.{declared.lexer.TheConstants.{TEXT_LIMIT}, declared.refusal.LexErr.{LexErr}, Refusals.{HasRefusal, HasRefusalFrom}};
+ghost use Rattle.swreq_decl.specs.{declared.kind.Kind.{Kind}, declared.skeleton.CallDecl.{CallDecl}, declared.skeleton.Skeleton.{Skeleton}, declared.refusal.ParseErr.TheVariants.{Lex, Memory, Syntax, Unsupported}};
 ghost use Rattle.swreq_decl.specs.Calls as calls;
-ghost use Rattle.swreq_decl.specs.Terminals.{with_terminals};
-ghost use Rattle.swreq_decl.specs.Skeletons.{Exactly, RefusedFor, StandsFor, Tells, refused_kind, start_of, error_of, skeleton_of};
+ghost use Rattle.swreq_decl.specs.{Terminals.{with_terminals}, Skeletons.{Exactly, RefusedFor, StandsFor, Tells, refused_kind, start_of, error_of, skeleton_of}};
 
 use crate::calls::all_calls;
 use crate::items::all_items;

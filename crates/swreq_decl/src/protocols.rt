@@ -1,10 +1,8 @@
 //! Reading protocols.
 
 ghost use Rattle.std.specs.Prelude.{◌≡◌, ◌∷◌, []};
-ghost use Rattle.swreq_grammar.specs.Gives.{Gives};
-ghost use Rattle.swreq_grammar.specs.Reader.{read};
-ghost use Rattle.swreq_decl.specs.declared.terminal.Terminal.TheVariants.{AssociatedType, Comma};
-ghost use Rattle.swreq_decl.specs.Terminals.{number};
+ghost use Rattle.swreq_grammar.specs.{Gives.{Gives}, Reader.{read}};
+ghost use Rattle.swreq_decl.specs.{declared.terminal.Terminal.TheVariants.{AssociatedType, Comma}, Terminals.{number}};
 ghost use Rattle.swreq_decl.specs.Source as lines;
 
 use crate::kind::Kind;

@@ -2,8 +2,7 @@
 
 ghost use Rattle.std.specs.Prelude.{◌≡◌, ◌∷◌, [], Ok};
 ghost use Rattle.swreq_grammar.specs.Grammar as grammar;
-ghost use Rattle.swreq_grammar.specs.Gives.{Gives};
-ghost use Rattle.swreq_grammar.specs.Reader.{begins, read, read_terminal};
+ghost use Rattle.swreq_grammar.specs.{Gives.{Gives}, Reader.{begins, read, read_terminal}};
 ghost use Rattle.swreq_decl.specs.Terminals.{number};
 ghost use Rattle.swreq_decl.specs.Source as lines;
 

@@ -1,10 +1,8 @@
 //! Reading structs.
 
 ghost use Rattle.std.specs.Prelude.{◌≡◌, ◌∷◌, []};
-ghost use Rattle.swreq_grammar.specs.Gives.{Gives};
-ghost use Rattle.swreq_grammar.specs.Reader.{read};
-ghost use Rattle.swreq_decl.specs.declared.terminal.Terminal.TheVariants.{Func, FilePrivate, Internal, Private, Public};
-ghost use Rattle.swreq_decl.specs.Terminals.{number};
+ghost use Rattle.swreq_grammar.specs.{Gives.{Gives}, Reader.{read}};
+ghost use Rattle.swreq_decl.specs.{declared.terminal.Terminal.TheVariants.{Func, FilePrivate, Internal, Private, Public}, Terminals.{number}};
 ghost use Rattle.swreq_decl.specs.Source as lines;
 
 use crate::functions::{function, params};

@@ -1,11 +1,8 @@
 //! Reading bounds, types and requirements.
 
 ghost use Rattle.std.specs.Prelude.{◌≡◌, ◌∷◌, []};
-ghost use Rattle.swreq_grammar.specs.Grammar.{terminal, mapped};
-ghost use Rattle.swreq_grammar.specs.Gives.{Gives};
-ghost use Rattle.swreq_grammar.specs.Reader.{read};
-ghost use Rattle.swreq_decl.specs.declared.terminal.Terminal.TheVariants.{Ampersand, AnyObject, Colon, Comma, Dot};
-ghost use Rattle.swreq_decl.specs.Terminals.{number};
+ghost use Rattle.swreq_grammar.specs.{Grammar.{terminal, mapped}, Gives.{Gives}, Reader.{read}};
+ghost use Rattle.swreq_decl.specs.{declared.terminal.Terminal.TheVariants.{Ampersand, AnyObject, Colon, Comma, Dot}, Terminals.{number}};
 ghost use Rattle.swreq_decl.specs.Source as lines;
 
 use crate::kind::Kind;

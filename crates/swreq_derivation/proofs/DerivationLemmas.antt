@@ -3,9 +3,9 @@ use Rattle.std.proofs.Common.{◌≡◌, ℕ, zero, suc, ◌+◌, ◌-◌, ◌<�
 use Rattle.std.proofs.Common.{MatchOption, refl, sym, ap, ap₂, subst, ◌∙◌, ◌⊎◌, inl, inr, arith}
 use Rattle.std.proofs.Math.Seq.{take-append_seam}
 use Rattle.std.proofs.lemmas.List.{map-append, take-append-le, length-map}
-use Rattle.swreq_param.specs.Terms.{Term}
-use Rattle.swreq_param.specs.Tables.{AreDistinct, Extends}
-use Rattle.swreq_param.proofs.Growing.{onward, unchanged}
+use Rattle.swreq_derive.specs.swreq_param.Terms.{Term}
+use Rattle.swreq_derive.specs.swreq_param.Tables.{AreDistinct, Extends}
+use Rattle.swreq_derive.proofs.swreq_param.Growing.{onward, unchanged}
 use Rattle.swreq_derive.specs.declared.lines.Line.{Line}
 use Rattle.swreq_derive.specs.declared.lines.DerivRule.{DerivRule}
 use Rattle.swreq_derive.specs.declared.requirements.Requirement.TheVariants.{Conf, Layout, Same}
@@ -17,7 +17,7 @@ use Rattle.swreq_derive.specs.Derivation.TermStatement.{IsValid, Requires}
 use Rattle.swreq_derive.specs.Facts.{statement_of}
 use Rattle.swreq_derive.specs.Instances.{HasNumber, AreStated, Follows, IsInstance, IsDerivation, TermLine, statements_of}
 use Rattle.swreq_derive.specs.Lines.{line_of, stated_by}
-use Rattle.swreq_lemmas.proofs.Elements.{get_map, get_of_map}
+use Rattle.swreq_derive.proofs.swreq_lemmas.Elements.{get_map, get_of_map}
 use Rattle.swreq_derive.proofs.LineLists.{number_left, number_last}
 use Rattle.swreq_derivation.specs.declared.derivation.Derivation.{Derivation}
 use Rattle.swreq_derivation.specs.declared.derivation.Derivation.TheInside.{Inside}

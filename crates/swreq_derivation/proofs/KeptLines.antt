@@ -4,9 +4,9 @@ use Rattle.std.proofs.lemmas.Option.{slice_get_within}
 use Rattle.std.proofs.lemmas.List.{map-append}
 use Rattle.std.proofs.Math.Nat.{eq-or-lt_of_le}
 use Rattle.std.proofs.lemmas.Bool.{cases_lt}
-use Rattle.swreq_lemmas.proofs.Elements.{get_last, get_left, get_map, get_of_map, in_front, there_is}
-use Rattle.swreq_lemmas.proofs.Members.{contains_map, first_member, later_member}
-use Rattle.swreq_param.specs.Terms.{Term}
+use Rattle.swreq_derive.proofs.swreq_lemmas.Elements.{get_last, get_left, get_map, get_of_map, in_front, there_is}
+use Rattle.swreq_derive.proofs.swreq_lemmas.Members.{contains_map, first_member, later_member}
+use Rattle.swreq_derive.specs.swreq_param.Terms.{Term}
 use Rattle.swreq_derive.specs.declared.lines.Line.{Line}
 use Rattle.swreq_derive.specs.declared.requirements.Statement.{Statement}
 use Rattle.swreq_derive.specs.Derivation.{TermStatement}

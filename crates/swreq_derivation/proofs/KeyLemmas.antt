@@ -6,7 +6,7 @@ use Rattle.std.proofs.lemmas.List.{map-append}
 use Rattle.std.proofs.lemmas.List.Quantifiers.{position-Some}
 use Rattle.std.proofs.lemmas.Option.{slice_get-get_or}
 use Rattle.std.specs.List.{list_any}
-use Rattle.swreq_lemmas.proofs.Elements.{get_map, get_of_map}
+use Rattle.swreq_derive.proofs.swreq_lemmas.Elements.{get_map, get_of_map}
 use Rattle.swreq_derive.specs.declared.requirements.Statement.{Statement}
 use Rattle.swreq_derive.specs.Instances.{HasNumber}
 use Rattle.swreq_derivation.specs.declared.stated.Key.{Key}

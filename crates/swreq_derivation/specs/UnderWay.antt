@@ -1,17 +1,18 @@
 -- What the lines of a derivation state over type parameters, and how a derivation grows.
 use Rattle.std.specs.Prelude.{◌≡◌, ◌⊎◌, ℕ, List, Some, map, slice_get}
-use Rattle.swreq_param.specs.declared.ids.ParamId.{ParamId}
-use Rattle.swreq_param.specs.declared.ids.Step.{Step}
-use Rattle.swreq_param.specs.declared.ids.TermId.{TermId}
-use Rattle.swreq_param.specs.Terms.{Term}
-use Rattle.swreq_param.specs.Terms.Term.{Member}
-use Rattle.swreq_param.specs.Tables.{IsOf, Extends, term_at}
+use Rattle.swreq_derive.specs.swreq_param.declared.ids.ParamId.{ParamId}
+use Rattle.swreq_derive.specs.swreq_param.declared.ids.ProtoId.{ProtoId}
+use Rattle.swreq_derive.specs.swreq_param.declared.ids.Step.{Step}
+use Rattle.swreq_derive.specs.swreq_param.declared.ids.TermId.{TermId}
+use Rattle.swreq_derive.specs.swreq_param.Terms.{Term}
+use Rattle.swreq_derive.specs.swreq_param.Terms.Term.{Member}
+use Rattle.swreq_derive.specs.swreq_param.Tables.{IsOf, Extends, term_at}
 use Rattle.swreq_derive.specs.declared.lines.Line.{Line}
 use Rattle.swreq_derive.specs.declared.requirements.Requirement.TheVariants.{Conf, Layout, Same}
 use Rattle.swreq_derive.specs.declared.requirements.Statement.{Statement}
 use Rattle.swreq_derive.specs.declared.requirements.Statement.TheVariants.{Valid, Holds}
 use Rattle.swreq_derive.specs.Derivation.{TermFacts, TermRequirement, TermStatement}
-use Rattle.swreq_derive.specs.Derivation.TermRequirement.{Equals}
+use Rattle.swreq_derive.specs.Derivation.TermRequirement.{Conforms, Equals}
 use Rattle.swreq_derive.specs.Derivation.TermStatement.{Requires}
 use Rattle.swreq_derive.specs.Facts.{statement_of}
 use Rattle.swreq_derive.specs.Instances.{HasNumber, IsDerivation}
@@ -54,6 +55,14 @@ IsDerivedFrom b s = IsDerivation b.facts b.params b.written (map (line_of s.tabl
 -- The two type parameters are identical, or a line states that they are equal.
 abbrev pub AreStatedEqual : Derivation → Term → Term → Type 0
 AreStatedEqual s t u = (t ≡ u) ⊎ States s (Requires (Equals t u))
+
+-- A line states that what the id stood for conforms to the protocol.
+abbrev pub StatesConformance : Derivation → Derivation → TermId → ProtoId → Type 0
+StatesConformance old s t p = States s (Requires (Conforms (term_at old.table t) p))
+
+-- What the two ids stood for is identical, or a line states that it is equal.
+abbrev pub StatesEqual : Derivation → Derivation → TermId → TermId → Type 0
+StatesEqual old s t u = AreStatedEqual s (term_at old.table t) (term_at old.table u)
 
 -- The two ids are of the table, and their type parameters are identical, or a line states that they are equal.
 abbrev pub AreEqualIds : Derivation → TermId → TermId → Type 0

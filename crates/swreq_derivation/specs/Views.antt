@@ -1,6 +1,6 @@
 -- What contracts see of a derivation that is being written.
 use Rattle.std.specs.Prelude.{List}
-use Rattle.swreq_param.specs.Terms.{Term}
+use Rattle.swreq_derive.specs.swreq_param.Terms.{Term}
 use Rattle.swreq_derive.specs.declared.lines.Line.{Line}
 
 -- the type parameters of the table, and the lines

@@ -1,18 +1,14 @@
 //! Lines that are added, each with a rule that gives what it states.
-ghost use Rattle.std.specs.Prelude.{◌≡◌, [], ◌∷◌, OnOk};
-ghost use Rattle.std.specs.Bool.{Decides};
-ghost use Rattle.swreq_param.specs.Tables.{IsOf, term_at};
-ghost use Rattle.swreq_derive.specs.Derivation.TermRequirement.{Conforms};
-ghost use Rattle.swreq_derive.specs.Derivation.TermStatement.{Requires};
-ghost use Rattle.swreq_derive.specs.Facts.{statement_of};
-ghost use Rattle.swreq_derive.specs.Instances.{HasNumber, IsInstance};
-ghost use Rattle.swreq_derivation.specs.UnderWay.{AreIdsIn, ContinuesFrom, IsPremise, States, statements_in};
+ghost use Rattle.std.specs.{Prelude.{◌≡◌, [], ◌∷◌, OnOk}, Bool.{Decides}};
+ghost use Rattle.swreq_derive.specs.swreq_param.Tables.{IsOf, term_at};
+ghost use Rattle.swreq_derive.specs.{Derivation.TermRequirement.{Conforms}, Derivation.TermStatement.{Requires}, Facts.{statement_of}, Instances.{HasNumber, IsInstance}};
+ghost use Rattle.swreq_derivation.specs.UnderWay.{AreIdsIn, ContinuesFrom, IsPremise, States, StatesConformance, statements_in};
 
 use crate::derivation::Derivation;
 use crate::statements::conf_statement;
 use std::alloc::AllocError;
+use swreq_derive::param::{ProtoId, TermId};
 use swreq_derive::{DerivRule, Statement};
-use swreq_param::{ProtoId, TermId};
 
 /// The number of the line that states this.
 fn premise(derivation: &Derivation, statement: Statement) -> usize
@@ -29,7 +25,8 @@ fn premise(derivation: &Derivation, statement: Statement) -> usize
 /// Whether a line states this.
 pub fn is_stated(derivation: &Derivation, statement: Statement) -> bool
     requires { AreIdsIn derivation.now.table statement }
-    ensures { Decides result (States derivation.now (statement_of derivation.now.table statement)) }
+    ensures { Decides result (States derivation.now (statement_of derivation.now.table
+        statement)) }
 {
     match derivation.number_of(statement) {
         Some(_) => true,
@@ -88,8 +85,7 @@ pub(crate) fn from_conformance(
     gives: Statement,
 ) -> Result<(), AllocError>
     requires subject { IsOf derivation.old.table subject }
-    requires conforms { States derivation.old
-        (Requires (Conforms (term_at derivation.old.table subject) protocol)) }
+    requires conforms { StatesConformance derivation.old derivation.old subject protocol }
     requires gives { AreIdsIn derivation.old.table gives }
     ensures table { derivation.new.table ≡ derivation.old.table }
     ensures says { OnOk result (States derivation.new (statement_of derivation.old.table gives)) }

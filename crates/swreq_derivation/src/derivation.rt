@@ -1,17 +1,14 @@
 //! A derivation that is being written, with the table whose ids its lines use.
 ghost use Rattle.std.specs.Prelude.{◌≡◌, List, [], IfOk, MatchOption, OnOk};
-ghost use Rattle.swreq_param.specs.Tables.{IsOf, term_at};
-ghost use Rattle.swreq_param.specs.Terms.Term.{Generic, Member};
-ghost use Rattle.swreq_derive.specs.Derivation.{TermStatement};
-ghost use Rattle.swreq_derive.specs.Facts.{statement_of};
-ghost use Rattle.swreq_derive.specs.Instances.{AreStated, HasNumber, IsInstance};
+ghost use Rattle.swreq_derive.specs.swreq_param.{Tables.{IsOf, term_at}, Terms.Term.{Generic, Member}};
+ghost use Rattle.swreq_derive.specs.{Derivation.{TermStatement}, Facts.{statement_of}, Instances.{AreStated, HasNumber, IsInstance}};
 ghost use Rattle.swreq_derivation.specs.UnderWay.{AllIn, AreIdsIn, Continues, ContinuesFrom, States, statements_in};
 
 use crate::stated::Stated;
 use std::alloc::{AllocError, Global};
 use std::marker::Model;
+use swreq_derive::param::{ParamId, ParamTable, Step, TermId};
 use swreq_derive::{DerivRule, Line, Statement};
-use swreq_param::{ParamId, ParamTable, Step, TermId};
 use swreq_text::Seq;
 
 /// The lines of a derivation that is being written, with the table whose ids they use. No two lines state the same. What is put on the
@@ -27,7 +24,7 @@ pub struct Derivation {
 
 impl Model for Derivation {
     ghost use Rattle.std.specs.Coded.{codes};
-    ghost use Rattle.swreq_param.specs.Codes.{term_code};
+    ghost use Rattle.swreq_derive.specs.swreq_param.Codes.{term_code};
     ghost use Rattle.swreq_derivation.specs.Views.{DerivationView};
 
     ghost Value = { DerivationView };
@@ -84,10 +81,8 @@ impl Derivation {
     /// The number of the line that states this, counted from 1, or None if no line does.
     pub fn number_of(&self, statement: Statement) -> Option<usize>
         requires { AreIdsIn self.now.table statement }
-        ensures { MatchOption result
-            (States self.now (statement_of self.now.table statement) → ⊥)
-            (λ n. HasNumber n (statements_in self.now)
-            (statement_of self.now.table statement)) }
+        ensures { MatchOption result (States self.now (statement_of self.now.table statement) → ⊥)
+            (λ n. HasNumber n (statements_in self.now) (statement_of self.now.table statement)) }
     {
         // If two ids stand for the same type parameter, they are equal.
         let _count = self.table.len();
@@ -127,10 +122,9 @@ impl Derivation {
         requires unsaid { States self.old (statement_of self.old.table statement) → ⊥ }
         ensures table { self.new.table ≡ self.old.table }
         ensures says { OnOk result (States self.new (statement_of self.old.table statement)) }
-        ensures continues { (from : List TermStatement)
-            → AreStated (statements_in self.old) premises.items from
-            → ContinuesFrom (λ b. IsInstance b.facts b.params b.written rule from
-            (statement_of self.old.table statement)) self.old self.new }
+        ensures continues { (from : List TermStatement) → AreStated (statements_in self.old)
+            premises.items from → ContinuesFrom (λ b. IsInstance b.facts b.params b.written rule
+            from (statement_of self.old.table statement)) self.old self.new }
     {
         let premises = Seq::new(premises);
         self.lines.push(Line {

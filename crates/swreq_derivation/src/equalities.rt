@@ -1,21 +1,15 @@
 //! Lines by the rules of equality.
-ghost use Rattle.std.specs.Prelude.{◌≡◌, OnOk};
-ghost use Rattle.std.specs.Bool.{Decides};
-ghost use Rattle.swreq_param.specs.Tables.{IsOf, term_at};
-ghost use Rattle.swreq_param.specs.declared.ids.AssocId.{AssocId};
-ghost use Rattle.swreq_param.specs.declared.ids.Step.TheVariants.{Bound, Name};
-ghost use Rattle.swreq_param.specs.Terms.Term.{Member};
-ghost use Rattle.swreq_derive.specs.Derivation.{Declares};
-ghost use Rattle.swreq_derive.specs.Derivation.TermRequirement.{Conforms, IsAnyObject};
-ghost use Rattle.swreq_derive.specs.Derivation.TermStatement.{Requires};
-ghost use Rattle.swreq_derivation.specs.UnderWay.{AreEqualIds, AreStatedEqual, Continues, ContinuesFrom, IsIdOfMember, States};
+ghost use Rattle.std.specs.{Prelude.{◌≡◌, OnOk}, Bool.{Decides}};
+ghost use Rattle.swreq_derive.specs.swreq_param.{Tables.{IsOf, term_at}, declared.ids.AssocId.{AssocId}, declared.ids.Step.TheVariants.{Bound, Name}, Terms.Term.{Member}};
+ghost use Rattle.swreq_derive.specs.{Derivation.{Declares}, Derivation.TermRequirement.{IsAnyObject}, Derivation.TermStatement.{Requires}};
+ghost use Rattle.swreq_derivation.specs.UnderWay.{AreEqualIds, Continues, ContinuesFrom, IsIdOfMember, States, StatesConformance, StatesEqual};
 
 use crate::adding::{from_conformance, from_one, from_two};
 use crate::derivation::Derivation;
 use crate::statements::{conf_statement, layout_statement, same_statement};
 use std::alloc::AllocError;
 use swreq_derive::DerivRule;
-use swreq_param::{NameId, ProtoId, TermId};
+use swreq_derive::param::{NameId, ProtoId, TermId};
 
 /// Whether the two ids of the table stand for the same type parameter.
 pub fn are_one(derivation: &Derivation, left: TermId, right: TermId) -> bool
@@ -33,12 +27,9 @@ pub fn are_one(derivation: &Derivation, left: TermId, right: TermId) -> bool
 pub fn add_symm(derivation: &mut Derivation, left: TermId, right: TermId) -> Result<(), AllocError>
     requires left { IsOf derivation.old.table left }
     requires right { IsOf derivation.old.table right }
-    requires equal { AreStatedEqual derivation.old (term_at derivation.old.table left)
-        (term_at derivation.old.table right) }
+    requires equal { StatesEqual derivation.old derivation.old left right }
     ensures table { derivation.new.table ≡ derivation.old.table }
-    ensures equal { OnOk result
-        (AreStatedEqual derivation.new (term_at derivation.old.table right)
-        (term_at derivation.old.table left)) }
+    ensures equal { OnOk result (StatesEqual derivation.old derivation.new right left) }
     ensures continues { Continues derivation.old derivation.new }
 {
     if are_one(derivation, left, right) {
@@ -62,9 +53,7 @@ pub fn add_trans(
     requires first { AreEqualIds derivation.old first middle }
     requires second { AreEqualIds derivation.old middle last }
     ensures table { derivation.new.table ≡ derivation.old.table }
-    ensures equal { OnOk result
-        (AreStatedEqual derivation.new (term_at derivation.old.table first)
-        (term_at derivation.old.table last)) }
+    ensures equal { OnOk result (StatesEqual derivation.old derivation.new first last) }
     ensures continues { Continues derivation.old derivation.new }
 {
     if are_one(derivation, first, last) {
@@ -93,14 +82,11 @@ pub fn add_same_conf(
 ) -> Result<(), AllocError>
     requires subject { IsOf derivation.old.table subject }
     requires other { IsOf derivation.old.table other }
-    requires conforms { States derivation.old
-        (Requires (Conforms (term_at derivation.old.table other) protocol)) }
-    requires equal { AreStatedEqual derivation.old (term_at derivation.old.table subject)
-        (term_at derivation.old.table other) }
+    requires conforms { StatesConformance derivation.old derivation.old other protocol }
+    requires equal { StatesEqual derivation.old derivation.old subject other }
     ensures table { derivation.new.table ≡ derivation.old.table }
     ensures conforms { OnOk result
-        (States derivation.new (Requires
-        (Conforms (term_at derivation.old.table subject) protocol))) }
+        (StatesConformance derivation.old derivation.new subject protocol) }
     ensures continues { Continues derivation.old derivation.new }
 {
     if are_one(derivation, subject, other) {
@@ -127,8 +113,7 @@ pub fn add_same_layout(
     requires other { IsOf derivation.old.table other }
     requires object { States derivation.old
         (Requires (IsAnyObject (term_at derivation.old.table other))) }
-    requires equal { AreStatedEqual derivation.old (term_at derivation.old.table subject)
-        (term_at derivation.old.table other) }
+    requires equal { StatesEqual derivation.old derivation.old subject other }
     ensures table { derivation.new.table ≡ derivation.old.table }
     ensures object { OnOk result
         (States derivation.new (Requires (IsAnyObject (term_at derivation.old.table subject)))) }
@@ -155,15 +140,12 @@ pub fn add_same_name(
     of: (ProtoId, NameId),
     members: (TermId, TermId),
 ) -> Result<(), AllocError>
-    requires conforms { States derivation.old
-        (Requires (Conforms (term_at derivation.old.table right) of.0)) }
+    requires conforms { StatesConformance derivation.old derivation.old right of.0 }
     requires equal { AreEqualIds derivation.old left right }
     requires first { IsIdOfMember derivation.old left (Name of.1) members.0 }
     requires second { IsIdOfMember derivation.old right (Name of.1) members.1 }
     ensures table { derivation.new.table ≡ derivation.old.table }
-    ensures equal { OnOk result
-        (AreStatedEqual derivation.new (term_at derivation.old.table members.0)
-        (term_at derivation.old.table members.1)) }
+    ensures equal { OnOk result (StatesEqual derivation.old derivation.new members.0 members.1) }
     ensures continues { ContinuesFrom (λ b. (d : AssocId) × Declares b.facts of.0 of.1 d)
         derivation.old derivation.new }
 {
@@ -191,12 +173,9 @@ pub fn add_assoc_bind(
     requires subject { IsOf derivation.old.table subject }
     requires first { IsOf derivation.old.table members.0 }
     requires second { IsOf derivation.old.table members.1 }
-    requires conforms { States derivation.old
-        (Requires (Conforms (term_at derivation.old.table subject) of.0)) }
+    requires conforms { StatesConformance derivation.old derivation.old subject of.0 }
     ensures table { derivation.new.table ≡ derivation.old.table }
-    ensures equal { OnOk result
-        (AreStatedEqual derivation.new (term_at derivation.old.table members.0)
-        (term_at derivation.old.table members.1)) }
+    ensures equal { OnOk result (StatesEqual derivation.old derivation.new members.0 members.1) }
     ensures continues { ContinuesFrom (λ b. (d : AssocId) × Declares b.facts of.0 of.1 d
         × (term_at derivation.old.table members.0
         ≡ Member (term_at derivation.old.table subject) (Bound d))

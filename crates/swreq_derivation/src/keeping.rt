@@ -1,11 +1,8 @@
 //! The lines that are needed, with new numbers.
 ghost use Rattle.std.specs.Prelude.{◌≡◌, ◌+◌, ◌≤◌, ℕ, List, Some, IfOk, length, map, slice_get};
-ghost use Rattle.swreq_param.specs.Terms.{Term};
-ghost use Rattle.swreq_derive.specs.declared.requirements.Statement.{Statement};
-ghost use Rattle.swreq_derive.specs.Facts.{IdFacts};
-ghost use Rattle.swreq_derive.specs.Lines.{AreDerived};
-ghost use Rattle.swreq_derivation.specs.Marks.{kept, new_number, renumbered};
-ghost use Rattle.swreq_derivation.specs.Needed.{AreAllUsed, AreSomeOf, EndIn, StateOnce};
+ghost use Rattle.swreq_derive.specs.swreq_param.Terms.{Term};
+ghost use Rattle.swreq_derive.specs.{declared.requirements.Statement.{Statement}, Facts.{IdFacts}, Lines.{AreDerived}};
+ghost use Rattle.swreq_derivation.specs.{Marks.{kept, new_number, renumbered}, Needed.{AreAllUsed, AreSomeOf, EndIn, StateOnce}};
 
 use crate::marking::marks_of;
 use std::alloc::{AllocError, Global};

@@ -1,19 +1,15 @@
 //! Lines by the rules that use a written requirement, of a protocol or of the list.
 ghost use Rattle.std.specs.Prelude.{◌≡◌, OnOk};
-ghost use Rattle.swreq_param.specs.Tables.{IsOf, term_at};
-ghost use Rattle.swreq_param.specs.Terms.{Term};
-ghost use Rattle.swreq_derive.specs.Derivation.{for_self};
-ghost use Rattle.swreq_derive.specs.Derivation.TermRequirement.{Conforms, Equals, IsAnyObject};
-ghost use Rattle.swreq_derive.specs.Derivation.TermStatement.{Requires};
-ghost use Rattle.swreq_derive.specs.Instances.{HasNumber};
-ghost use Rattle.swreq_derivation.specs.UnderWay.{AreStatedEqual, ContinuesFrom, States};
+ghost use Rattle.swreq_derive.specs.swreq_param.{Tables.{IsOf, term_at}, Terms.{Term}};
+ghost use Rattle.swreq_derive.specs.{Derivation.{for_self}, Derivation.TermRequirement.{Conforms, Equals, IsAnyObject}, Derivation.TermStatement.{Requires}, Instances.{HasNumber}};
+ghost use Rattle.swreq_derivation.specs.UnderWay.{ContinuesFrom, States, StatesConformance, StatesEqual};
 
 use crate::adding::{from_conformance, from_none};
 use crate::derivation::Derivation;
 use crate::statements::{conf_statement, layout_statement, same_statement};
 use std::alloc::AllocError;
 use swreq_derive::DerivRule;
-use swreq_param::{ProtoId, TermId};
+use swreq_derive::param::{ProtoId, TermId};
 
 /// From `[T : P]` and the n-th requirement `[U : Q]` of P: `[V : Q]`, where V is U with T for `Self`. `subject` is the id of T,
 /// and `substituted` that of V.
@@ -26,12 +22,10 @@ pub fn add_assoc_conf(
 ) -> Result<(), AllocError>
     requires subject { IsOf derivation.old.table subject }
     requires substituted { IsOf derivation.old.table substituted }
-    requires conforms { States derivation.old
-        (Requires (Conforms (term_at derivation.old.table subject) of.0)) }
+    requires conforms { StatesConformance derivation.old derivation.old subject of.0 }
     ensures table { derivation.new.table ≡ derivation.old.table }
     ensures conforms { OnOk result
-        (States derivation.new (Requires
-        (Conforms (term_at derivation.old.table substituted) protocol))) }
+        (StatesConformance derivation.old derivation.new substituted protocol) }
     ensures continues { ContinuesFrom (λ b. (u : Term)
         × HasNumber of.1 (b.facts.of_protocol of.0) (Conforms u protocol)
         × (term_at derivation.old.table substituted
@@ -57,8 +51,7 @@ pub fn add_assoc_layout(
 ) -> Result<(), AllocError>
     requires subject { IsOf derivation.old.table subject }
     requires substituted { IsOf derivation.old.table substituted }
-    requires conforms { States derivation.old
-        (Requires (Conforms (term_at derivation.old.table subject) of.0)) }
+    requires conforms { StatesConformance derivation.old derivation.old subject of.0 }
     ensures table { derivation.new.table ≡ derivation.old.table }
     ensures object { OnOk result
         (States derivation.new (Requires
@@ -89,12 +82,9 @@ pub fn add_assoc_same(
     requires subject { IsOf derivation.old.table subject }
     requires left { IsOf derivation.old.table sides.0 }
     requires right { IsOf derivation.old.table sides.1 }
-    requires conforms { States derivation.old
-        (Requires (Conforms (term_at derivation.old.table subject) of.0)) }
+    requires conforms { StatesConformance derivation.old derivation.old subject of.0 }
     ensures table { derivation.new.table ≡ derivation.old.table }
-    ensures equal { OnOk result
-        (AreStatedEqual derivation.new (term_at derivation.old.table sides.0)
-        (term_at derivation.old.table sides.1)) }
+    ensures equal { OnOk result (StatesEqual derivation.old derivation.new sides.0 sides.1) }
     ensures continues { ContinuesFrom (λ b. (u : Term) × (v : Term)
         × HasNumber of.1 (b.facts.of_protocol of.0) (Equals u v)
         × (term_at derivation.old.table sides.0
@@ -122,8 +112,7 @@ pub fn add_written_conf(
     requires subject { IsOf derivation.old.table subject }
     ensures table { derivation.new.table ≡ derivation.old.table }
     ensures conforms { OnOk result
-        (States derivation.new (Requires
-        (Conforms (term_at derivation.old.table subject) protocol))) }
+        (StatesConformance derivation.old derivation.new subject protocol) }
     ensures continues { ContinuesFrom (λ b. HasNumber number b.written (Conforms
         (term_at derivation.old.table subject) protocol)) derivation.old derivation.new }
 {
@@ -164,9 +153,7 @@ pub fn add_written_same(
     requires left { IsOf derivation.old.table left }
     requires right { IsOf derivation.old.table right }
     ensures table { derivation.new.table ≡ derivation.old.table }
-    ensures equal { OnOk result
-        (AreStatedEqual derivation.new (term_at derivation.old.table left)
-        (term_at derivation.old.table right)) }
+    ensures equal { OnOk result (StatesEqual derivation.old derivation.new left right) }
     ensures continues { ContinuesFrom (λ b. HasNumber number b.written (Equals
         (term_at derivation.old.table left) (term_at derivation.old.table right)))
         derivation.old derivation.new }

@@ -6,8 +6,8 @@ ghost use Rattle.swreq_derivation.specs.Keys.{statement_by};
 use indexmap::IndexSet;
 use std::alloc::{AllocError, Global};
 use std::marker::Model;
+use swreq_derive::param::{ProtoId, TermId};
 use swreq_derive::{Requirement, Statement};
-use swreq_param::{ProtoId, TermId};
 
 /// The key by which a statement is looked up.
 #[derive(Clone, Copy, PartialEq, Eq, Hash)]
@@ -60,9 +60,8 @@ impl Stated {
 
     /// The number of a statement, counted from 1, or None if it is not there.
     pub fn number_of(&self, statement: Statement) -> Option<usize>
-        ensures { MatchOption result
-            ((k : ℕ) → slice_get self.now k ≡ Some statement → ⊥)
-            (λ n. HasNumber n self.now statement) }
+        ensures { MatchOption result ((k : ℕ) → slice_get self.now k ≡ Some statement → ⊥) (λ n.
+            HasNumber n self.now statement) }
     {
         let _count = self.keys.len();
         let key = key_of(statement);

@@ -3,8 +3,8 @@ ghost use Rattle.std.specs.Prelude.{◌≡◌};
 ghost use Rattle.swreq_derive.specs.declared.requirements.Requirement.TheVariants as required;
 ghost use Rattle.swreq_derive.specs.declared.requirements.Statement.TheVariants as stated;
 
+use swreq_derive::param::{ProtoId, TermId};
 use swreq_derive::{Requirement, Statement};
-use swreq_param::{ProtoId, TermId};
 
 /// T is valid.
 pub fn valid_statement(subject: TermId) -> Statement

@@ -1,21 +1,15 @@
 //! Lines by the rules of validity, and by the rule that a valid type parameter equals itself.
 ghost use Rattle.std.specs.Prelude.{◌≡◌, OnOk, Contains};
-ghost use Rattle.swreq_param.specs.Tables.{IsOf, term_at};
-ghost use Rattle.swreq_param.specs.declared.ids.AssocId.{AssocId};
-ghost use Rattle.swreq_param.specs.declared.ids.ParamId.{ParamId};
-ghost use Rattle.swreq_param.specs.declared.ids.Step.TheVariants.{Bound, Name};
-ghost use Rattle.swreq_param.specs.Terms.Term.{Generic, Member};
-ghost use Rattle.swreq_derive.specs.Derivation.{Declares};
-ghost use Rattle.swreq_derive.specs.Derivation.TermRequirement.{Conforms, Equals};
-ghost use Rattle.swreq_derive.specs.Derivation.TermStatement.{IsValid, Requires};
-ghost use Rattle.swreq_derivation.specs.UnderWay.{Continues, ContinuesFrom, States};
+ghost use Rattle.swreq_derive.specs.swreq_param.{Tables.{IsOf, term_at}, declared.ids.AssocId.{AssocId}, declared.ids.ParamId.{ParamId}, declared.ids.Step.TheVariants.{Bound, Name}, Terms.Term.{Generic, Member}};
+ghost use Rattle.swreq_derive.specs.{Derivation.{Declares}, Derivation.TermRequirement.{Equals}, Derivation.TermStatement.{IsValid, Requires}};
+ghost use Rattle.swreq_derivation.specs.UnderWay.{Continues, ContinuesFrom, States, StatesConformance};
 
 use crate::adding::{from_conformance, from_none, from_one};
 use crate::derivation::Derivation;
 use crate::statements::{conf_statement, same_statement, valid_statement};
 use std::alloc::AllocError;
 use swreq_derive::DerivRule;
-use swreq_param::{NameId, ProtoId, TermId};
+use swreq_derive::param::{NameId, ProtoId, TermId};
 
 /// A generic parameter of the list is valid.
 pub fn add_generic(derivation: &mut Derivation, subject: TermId) -> Result<(), AllocError>
@@ -39,8 +33,7 @@ pub fn add_assoc_name(
 ) -> Result<(), AllocError>
     requires subject { IsOf derivation.old.table subject }
     requires member { IsOf derivation.old.table member }
-    requires conforms { States derivation.old
-        (Requires (Conforms (term_at derivation.old.table subject) of.0)) }
+    requires conforms { StatesConformance derivation.old derivation.old subject of.0 }
     ensures table { derivation.new.table ≡ derivation.old.table }
     ensures valid { OnOk result
         (States derivation.new (IsValid (term_at derivation.old.table member))) }
@@ -68,8 +61,7 @@ pub fn add_assoc_decl(
 ) -> Result<(), AllocError>
     requires subject { IsOf derivation.old.table subject }
     requires member { IsOf derivation.old.table member }
-    requires conforms { States derivation.old
-        (Requires (Conforms (term_at derivation.old.table subject) of.0)) }
+    requires conforms { StatesConformance derivation.old derivation.old subject of.0 }
     ensures table { derivation.new.table ≡ derivation.old.table }
     ensures valid { OnOk result
         (States derivation.new (IsValid (term_at derivation.old.table member))) }

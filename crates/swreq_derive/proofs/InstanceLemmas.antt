@@ -19,7 +19,7 @@ use Rattle.swreq_derive.specs.Derivation.TermStatement.{IsValid, Requires}
 use Rattle.swreq_derive.specs.Facts.{requirement_of, statement_of, IdFacts, generic_params, IsRequirementOver, IsStatementOver, AreFactsOf}
 use Rattle.swreq_derive.specs.Instances.{HasNumber}
 use Rattle.swreq_derive.specs.Lines.{IsGiven}
-use Rattle.swreq_lemmas.proofs.Elements.{get_map, get_of_map}
+use Rattle.swreq_param.proofs.swreq_lemmas.Elements.{get_map, get_of_map}
 
 -- ---- equal type parameters have equal ids
 

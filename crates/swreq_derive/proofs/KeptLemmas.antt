@@ -7,7 +7,7 @@ use Rattle.swreq_derive.specs.Derivation.Source.{SelfOf}
 use Rattle.swreq_derive.specs.Derivation.Derives.{generic, conf, same, layout, assoc_name, assoc_decl, assoc_bind, assoc_conf, assoc_same, assoc_layout, reflex, symm, trans, same_conf, same_layout, same_name, same_decl}
 use Rattle.swreq_derive.specs.Kept.{Owned, owned_by, owned_facts, DeriveTheSame, Keeps}
 use Rattle.swreq_derive.specs.Kept.Keeps.{nothing, left_out, kept}
-use Rattle.swreq_lemmas.proofs.Members.{first_member, later_member, member_cases, no_member, added_cases, added_later, added_first}
+use Rattle.swreq_param.proofs.swreq_lemmas.Members.{first_member, later_member, member_cases, no_member, added_cases, added_later, added_first}
 
 -- Derivability grows with the requirements of the protocols, with the guard or without it.
 pub grows_with_protocols : {ds : List AssociatedType} {less more : ProtoId → List TermRequirement} {guarded : Bool}

@@ -9,7 +9,7 @@ use Rattle.swreq_derive.specs.Derivation.TermStatement.{Requires}
 use Rattle.swreq_derive.specs.Derivation.Source.{SelfOf}
 use Rattle.swreq_derive.specs.Derivation.Derives.{generic, conf, same, layout, assoc_name, assoc_decl, assoc_bind, assoc_conf, assoc_same, assoc_layout, reflex, symm, trans, same_conf, same_layout, same_name, same_decl}
 use Rattle.swreq_derive.specs.Kept.{Owned, owned_by, owned_facts, DeriveTheSame}
-use Rattle.swreq_lemmas.proofs.Members.{member_cases}
+use Rattle.swreq_param.proofs.swreq_lemmas.Members.{member_cases}
 use Rattle.swreq_derive.proofs.Substitution.{stands_for_self}
 use Rattle.swreq_derive.proofs.KeptLemmas.{owned_member, member_owned, family_grows, within}
 

@@ -15,10 +15,10 @@ use Rattle.swreq_derive.specs.Facts.{requirement_of, statement_of, IdFacts, gene
 use Rattle.swreq_derive.specs.Instances.{statements_of, TermLine, HasNumber, IsInstance, AreStated, Follows, IsDerivation}
 use Rattle.swreq_derive.specs.Lines.{stated_by, line_of, IsGiven, IsNext, AreLinesOf, AreDerived, IsFirstNotDerived}
 use Rattle.swreq_derive.proofs.Guard.{unguarded}
-use Rattle.swreq_lemmas.proofs.Members.{Each}
+use Rattle.swreq_param.proofs.swreq_lemmas.Members.{Each}
 use Rattle.swreq_derive.proofs.InstanceLemmas.{contains_number, one_number, number_map, map_number}
-use Rattle.swreq_lemmas.proofs.Elements.{get_of_map, get_map}
-use Rattle.swreq_lemmas.proofs.Numbers.{last_or_below}
+use Rattle.swreq_param.proofs.swreq_lemmas.Elements.{get_of_map, get_map}
+use Rattle.swreq_param.proofs.swreq_lemmas.Numbers.{last_or_below}
 
 -- From derivable premises an instance gives what is derivable.
 pub instance_derives : (f : TermFacts) (gs : List ParamId) (ws : List TermRequirement) (rule : DerivRule)

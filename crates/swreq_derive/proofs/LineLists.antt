@@ -12,7 +12,7 @@ use Rattle.swreq_derive.specs.Derivation.Source.{Written}
 use Rattle.swreq_derive.specs.Derivation.Derives.{generic, conf, same, layout, assoc_name, assoc_decl, assoc_bind, assoc_conf, assoc_same, assoc_layout, reflex, symm, trans, same_conf, same_layout, same_name, same_decl}
 use Rattle.swreq_derive.specs.Instances.{TermLine, HasNumber, IsInstance, AreStated, Follows, IsDerivation, statements_of}
 use Rattle.swreq_derive.proofs.PathLemmas.{number_of}
-use Rattle.swreq_lemmas.proofs.Elements.{get_left, get_after}
+use Rattle.swreq_param.proofs.swreq_lemmas.Elements.{get_left, get_after}
 
 -- ---- numbers in longer lists
 

@@ -4,7 +4,7 @@ use Rattle.std.proofs.lemmas.List.Elements.{Contains-push, Contains-push_cases, 
 use Rattle.swreq_param.specs.declared.ids.ParamId.{ParamId}
 use Rattle.swreq_derive.specs.declared.known.Params.{Params}
 use Rattle.swreq_derive.specs.Facts.{params_of_depth, generic_params}
-use Rattle.swreq_lemmas.proofs.Numbers.{last_or_below}
+use Rattle.swreq_param.proofs.swreq_lemmas.Numbers.{last_or_below}
 
 has_depth : (d n : ℕ) (g : ParamId) → g.depth ≡ d → g.index < n → Contains (params_of_depth d n) g
 has_depth d zero g e h = absurd (omega arith)

@@ -1,3 +1,5 @@
+pub use Rattle.swreq_param.specs.swreq_lemmas as swreq_lemmas
+pub use Rattle.swreq_param.specs as swreq_param
 pub mod Derivation
 pub mod Substitution
 pub mod WellFormed

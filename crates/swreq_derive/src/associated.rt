@@ -3,9 +3,7 @@
 ghost use Rattle.std.specs.Prelude.{◌↔◌, ◌<◌, [], ◌∷◌, IsTrue};
 ghost use Rattle.swreq_param.specs.Tables.{AreDistinct};
 ghost use Rattle.swreq_derive.specs.declared.lines.DerivRule.TheVariants as Rule;
-ghost use Rattle.swreq_derive.specs.Facts.{IsStatementOver};
-ghost use Rattle.swreq_derive.specs.Inferences.{IsInferenceOver};
-ghost use Rattle.swreq_derive.specs.Lines.{IsGiven};
+ghost use Rattle.swreq_derive.specs.{Facts.{IsStatementOver}, Inferences.{IsInferenceOver}, Lines.{IsGiven}};
 
 use crate::comparing::{Sides, are_members, is_member};
 use crate::instances::Inference;

@@ -1,10 +1,7 @@
 //! The checker of derivations.
 ghost use Rattle.std.specs.Prelude.{◌≡◌, ◌↔◌, ℕ, Some, IsOk, IfErr, OnOk, IsTrue, slice_get};
 ghost use Rattle.swreq_param.specs.Tables.{AreDistinct};
-ghost use Rattle.swreq_derive.specs.declared.lines.Line.{Line};
-ghost use Rattle.swreq_derive.specs.Derivation.{BookDerivable};
-ghost use Rattle.swreq_derive.specs.Facts.{statement_of, term_facts, term_source, AreFactsOf};
-ghost use Rattle.swreq_derive.specs.Lines.{AreDerived, IsFirstNotDerived, IsNext, stated_by, AreLinesOf, IsLineOf};
+ghost use Rattle.swreq_derive.specs.{declared.lines.Line.{Line}, Derivation.{BookDerivable}, Facts.{statement_of, term_facts, term_source, AreFactsOf}, Lines.{AreDerived, IsFirstNotDerived, IsNext, stated_by, AreLinesOf, IsLineOf}};
 
 use crate::instances::{Inference, gives_from_none, gives_from_one, gives_from_two};
 use crate::known::Facts;

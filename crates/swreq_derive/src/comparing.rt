@@ -1,9 +1,7 @@
 //! Members of type parameters, and type parameters with another for `Self`, by their ids.
 ghost use Rattle.std.specs.Prelude.{◌≡◌, ◌↔◌, IsTrue};
-ghost use Rattle.swreq_param.specs.Terms.Term.{Member};
-ghost use Rattle.swreq_param.specs.Tables.{IsOf, term_at, AreDistinct};
-ghost use Rattle.swreq_derive.specs.Derivation.{for_self};
-ghost use Rattle.swreq_derive.specs.Inferences.{AreSidesOf};
+ghost use Rattle.swreq_param.specs.{Terms.Term.{Member}, Tables.{IsOf, term_at, AreDistinct}};
+ghost use Rattle.swreq_derive.specs.{Derivation.{for_self}, Inferences.{AreSidesOf}};
 
 use swreq_param::{ParamTable, Step, TermId};
 

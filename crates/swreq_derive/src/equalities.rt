@@ -1,10 +1,8 @@
 //! Whether the rules of equality give a statement: REFLEX, SYMM, TRANS, SAMECONF and SAMELAYOUT.
 ghost use Rattle.std.specs.Prelude.{◌↔◌, List, [], ◌∷◌, IsTrue};
-ghost use Rattle.swreq_param.specs.Terms.{Term};
-ghost use Rattle.swreq_param.specs.Tables.{AreDistinct};
+ghost use Rattle.swreq_param.specs.{Terms.{Term}, Tables.{AreDistinct}};
 ghost use Rattle.swreq_derive.specs.declared.lines.DerivRule.TheVariants as Rule;
-ghost use Rattle.swreq_derive.specs.Facts.{IsStatementOver, IdFacts};
-ghost use Rattle.swreq_derive.specs.Lines.{IsGiven};
+ghost use Rattle.swreq_derive.specs.{Facts.{IsStatementOver, IdFacts}, Lines.{IsGiven}};
 
 use crate::requirements::{Requirement, Statement};
 use crate::shapes::is_same;

@@ -1,9 +1,7 @@
 //! Whether a rule gives a statement from its premises.
 ghost use Rattle.std.specs.Prelude.{◌↔◌, [], ◌∷◌, IsTrue};
 ghost use Rattle.swreq_param.specs.Tables.{AreDistinct};
-ghost use Rattle.swreq_derive.specs.Facts.{IsStatementOver, AreFactsOf};
-ghost use Rattle.swreq_derive.specs.Inferences.{IsInferenceOver};
-ghost use Rattle.swreq_derive.specs.Lines.{IsGiven, IsRuleOf};
+ghost use Rattle.swreq_derive.specs.{Facts.{IsStatementOver, AreFactsOf}, Inferences.{IsInferenceOver}, Lines.{IsGiven, IsRuleOf}};
 
 use crate::associated::{assoc_bind, assoc_decl, assoc_name, same_decl, same_name};
 use crate::equalities::{reflex, same_conf, same_layout, symm, trans};

@@ -22,3 +22,8 @@ pub use checking::check;
 pub use known::{Facts, Params};
 pub use lines::{BadLine, DerivRule, Line};
 pub use requirements::{Requirement, Statement};
+
+/// What the crates above use of `swreq_param`.
+pub mod param {
+    pub use swreq_param::{AssocId, NameId, ParamId, ParamTable, ProtoId, Step, TermId, TypeParam};
+}

@@ -1,8 +1,6 @@
 //! The premises of a line, as they are read.
 ghost use Rattle.std.specs.Prelude.{MatchOption};
-ghost use Rattle.swreq_derive.specs.declared.requirements.Statement.{Statement};
-ghost use Rattle.swreq_derive.specs.Instances.{HasNumber};
-ghost use Rattle.swreq_derive.specs.Lines.{IsReadAs, stated_by};
+ghost use Rattle.swreq_derive.specs.{declared.requirements.Statement.{Statement}, Instances.{HasNumber}, Lines.{IsReadAs, stated_by}};
 
 use crate::lines::Line;
 use crate::requirements::Statement;

@@ -3,8 +3,7 @@
 ghost use Rattle.std.specs.Prelude.{◌↔◌, ◌<◌, [], ◌∷◌, IsTrue};
 ghost use Rattle.swreq_param.specs.Tables.{AreDistinct};
 ghost use Rattle.swreq_derive.specs.declared.lines.DerivRule.TheVariants as Rule;
-ghost use Rattle.swreq_derive.specs.Facts.{IsStatementOver, AreFactsOf};
-ghost use Rattle.swreq_derive.specs.Lines.{IsGiven};
+ghost use Rattle.swreq_derive.specs.{Facts.{IsStatementOver, AreFactsOf}, Lines.{IsGiven}};
 
 use crate::comparing::{Sides, are_for_self, is_for_self};
 use crate::known::Facts;

@@ -1,11 +1,7 @@
 //! Statements and requirements by their shapes.
 ghost use Rattle.std.specs.Prelude.{◌≡◌, ◌↔◌, MatchOption, IsTrue};
-ghost use Rattle.swreq_param.specs.declared.ids.TermId.{TermId};
-ghost use Rattle.swreq_param.specs.declared.ids.ProtoId.{ProtoId};
-ghost use Rattle.swreq_derive.specs.declared.requirements.Requirement.{Requirement};
-ghost use Rattle.swreq_derive.specs.declared.requirements.Requirement.TheVariants.{Conf, Layout, Same};
-ghost use Rattle.swreq_derive.specs.declared.requirements.Statement.TheVariants.{Valid, Holds};
-ghost use Rattle.swreq_derive.specs.Instances.{HasNumber};
+ghost use Rattle.swreq_param.specs.{declared.ids.TermId.{TermId}, declared.ids.ProtoId.{ProtoId}};
+ghost use Rattle.swreq_derive.specs.{declared.requirements.Requirement.{Requirement}, declared.requirements.Requirement.TheVariants.{Conf, Layout, Same}, declared.requirements.Statement.TheVariants.{Valid, Holds}, Instances.{HasNumber}};
 
 use crate::requirements::{Requirement, Statement};
 use swreq_param::{ProtoId, TermId};

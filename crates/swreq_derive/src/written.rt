@@ -1,12 +1,9 @@
 //! Whether the rules that take nothing give a statement: GENERIC, CONF, SAME and LAYOUT.
 ghost use Rattle.std.specs.Prelude.{◌≡◌, ◌↔◌, [], IsTrue};
 ghost use Rattle.swreq_param.specs.Tables.{AreDistinct};
-ghost use Rattle.swreq_derive.specs.declared.requirements.Requirement.{Requirement};
-ghost use Rattle.swreq_derive.specs.declared.requirements.Statement.TheVariants.{Holds};
+ghost use Rattle.swreq_derive.specs.{declared.requirements.Requirement.{Requirement}, declared.requirements.Statement.TheVariants.{Holds}};
 ghost use Rattle.swreq_derive.specs.declared.lines.DerivRule.TheVariants as Rule;
-ghost use Rattle.swreq_derive.specs.Facts.{IsStatementOver, AreFactsOf};
-ghost use Rattle.swreq_derive.specs.Instances.{HasNumber};
-ghost use Rattle.swreq_derive.specs.Lines.{IsGiven};
+ghost use Rattle.swreq_derive.specs.{Facts.{IsStatementOver, AreFactsOf}, Instances.{HasNumber}, Lines.{IsGiven}};
 
 use crate::known::Facts;
 use crate::requirements::{Requirement, Statement};

@@ -1,11 +1,11 @@
 //! Type parameters and their ids.
 ghost use Rattle.std.specs.Prelude.{◌≡◌, ◌<◌, length};
-ghost use Rattle.swreq_param.specs.Tables.{IsOf};
+ghost use Rattle.swreq_derive.specs.swreq_param.Tables.{IsOf};
 
 use std::alloc::{AllocError, Global};
 use std::cmp::Ordering;
 use std::process::Abort;
-use swreq_param::{AssocId, NameId, ParamId, ParamTable, Step, TermId};
+use swreq_derive::param::{AssocId, NameId, ParamId, ParamTable, Step, TermId};
 
 const A: Step = Step::Name(NameId { rank: 0 });
 

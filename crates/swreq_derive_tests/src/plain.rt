@@ -1,7 +1,7 @@
 //! What follows where only inheritance and conformances are written.
 
+use swreq_derive::param::{ParamId, ProtoId};
 use swreq_derive::plain::{Conformance, Inheritance, is_derivable};
-use swreq_param::{ParamId, ProtoId};
 
 const P0: ProtoId = ProtoId { rank: 0 };
 

@@ -4,11 +4,11 @@ ghost use Rattle.swreq_subst.specs.Saying.{HaveIds};
 use crate::worlds::world_of;
 use std::alloc::{AllocError, Global};
 use std::test::Fail;
-use swreq_decl::{CallDecl, Span, TypeDecl};
-use swreq_param::ParamTable;
+use swreq_machine::decl::{CallDecl, Span, TypeDecl};
+use swreq_machine::param::ParamTable;
+use swreq_machine::world::World;
 use swreq_subst::resolve_calls;
 use swreq_text::Seq;
-use swreq_world::World;
 
 /// What is named first in `V f k`, this many times.
 fn named_first(alloc: Global, count: usize) -> Result<Vec<TypeDecl>, AllocError> {

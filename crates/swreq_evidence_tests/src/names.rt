@@ -4,10 +4,11 @@ ghost use Rattle.std.specs.Prelude.{◌<◌, length};
 use crate::worlds::world_of;
 use std::alloc::{AllocError, Global};
 use std::test::Fail;
-use swreq_param::ParamTable;
+use swreq_machine::lowering::FuncId;
+use swreq_machine::param::ParamTable;
+use swreq_machine::world::World;
 use swreq_query::full_name;
 use swreq_text::append_bytes;
-use swreq_world::{FuncId, World};
 
 /// Appends the name of a signature as a line.
 fn put_name(

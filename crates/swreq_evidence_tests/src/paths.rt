@@ -1,28 +1,22 @@
 //! The numbers of the paths that are given.
 ghost use Rattle.std.specs.Prelude.{◌<◌, length};
-ghost use Rattle.swreq_derive.specs.declared.requirements.Requirement.TheVariants.{Conf};
-ghost use Rattle.swreq_derive.specs.WellFormed.{AreProtocolsWellFormed};
-ghost use Rattle.swreq_lowering.specs.ByTable.{HasQueryIdsOf, query_by};
-ghost use Rattle.swreq_symbols.specs.Known.{IsRequirementIn, IsTextOver};
-ghost use Rattle.swreq_symbols.specs.Meaning.{facts_of};
-ghost use Rattle.swreq_valid.specs.Protocols.{AreRulesOf};
-ghost use Rattle.swreq_valid.specs.Rounds.{last_rules};
-ghost use Rattle.swreq_world.specs.ByTable.{world_by};
-ghost use Rattle.swreq_world.specs.Closed.{IsQueryOf};
-ghost use Rattle.swreq_world.specs.Short.{IsShort};
+ghost use Rattle.swreq_machine.specs.swreq_derive.{declared.requirements.Requirement.TheVariants.{Conf}, WellFormed.{AreProtocolsWellFormed}};
+ghost use Rattle.swreq_machine.specs.swreq_symbols.{Known.{IsQueryIn, IsRequirementIn, IsTextOver}, Meaning.{facts_of}};
+ghost use Rattle.swreq_machine.specs.swreq_valid.{Protocols.{AreRulesOf}, Rounds.{last_rules}};
+ghost use Rattle.swreq_machine.specs.swreq_world.{ByTable.{world_by}, Short.{IsShort}};
 ghost use Rattle.swreq_confpath.specs.Searches.{IsMachineFor};
 
 use crate::worlds::{machine_of, protocols_of, world_of};
 use std::alloc::Global;
 use std::test::Fail;
 use swreq_confpath::{ConfPath, shortest};
-use swreq_derive::Requirement;
-use swreq_lowering::Query;
 use swreq_machine::Machine;
-use swreq_param::{ParamTable, ProtoId, TermId};
-use swreq_symbols::Text;
-use swreq_valid::Protocols;
-use swreq_world::{FuncId, World};
+use swreq_machine::derive::Requirement;
+use swreq_machine::lowering::{Asks, FuncId, Query};
+use swreq_machine::param::{ParamTable, ProtoId, TermId};
+use swreq_machine::symbols::Text;
+use swreq_machine::valid::Protocols;
+use swreq_machine::world::World;
 
 /// Writes the numbers of a path, with blanks between them, as a line.
 fn put_numbers(path: &ConfPath, out: &mut String) -> Result<(), Fail> {
@@ -70,14 +64,23 @@ fn put_asked(
     requires short { IsShort world.now }
     requires formed { AreProtocolsWellFormed (facts_of (world_by table.now world.now)) }
     requires rules { AreRulesOf (world_by table.now world.now) (last_rules protocols.now.rounds) }
-    requires query { HasQueryIdsOf table.now query
-        × IsQueryOf (world_by table.now world.now) (query_by table.now query) }
+    requires query { IsQueryIn table.now world.now query }
 {
-    match query {
-        Query::Conf { f, t, p } => {
-            let machine = machine_of(alloc, world, table, protocols, f)?;
-            put_given(alloc, world, table, &machine, (f, t, p), out)
-        }
+    match query.asks {
+        Asks::Requirement(r) => match r {
+            Requirement::Conf { subject, proto } => {
+                let machine = machine_of(alloc, world, table, protocols, query.f)?;
+                put_given(
+                    alloc,
+                    world,
+                    table,
+                    &machine,
+                    (query.f, subject, proto),
+                    out,
+                )
+            }
+            _ => Err("another requirement".into()),
+        },
         _ => Err("another query".into()),
     }
 }

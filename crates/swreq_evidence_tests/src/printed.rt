@@ -1,29 +1,24 @@
 //! What a caller of the library gets of a small text: answers, a minimised list, and a reduced system.
-ghost use Rattle.std.specs.Prelude.{◌≡◌, ◌<◌, List, IfSome, length};
-ghost use Rattle.swreq_map.specs.Follows.{IsMapOf};
-ghost use Rattle.swreq_param.specs.Terms.{Term};
-ghost use Rattle.swreq_derive.specs.WellFormed.{AreProtocolsWellFormed};
-ghost use Rattle.swreq_lowering.specs.ByTable.{HasQueryIdsOf};
-ghost use Rattle.swreq_query.specs.Asked.{IsQueryIn};
-ghost use Rattle.swreq_symbols.specs.Known.{IsTextOver};
-ghost use Rattle.swreq_symbols.specs.Meaning.{facts_of};
-ghost use Rattle.swreq_valid.specs.Protocols.{AreRulesOf};
-ghost use Rattle.swreq_valid.specs.Rounds.{last_rules};
-ghost use Rattle.swreq_world.specs.ByTable.{world_by};
+ghost use Rattle.std.specs.Prelude.{◌≡◌, ◌<◌, length};
+ghost use Rattle.swreq_machine.specs.swreq_map.Follows.{IsMapOf};
+ghost use Rattle.swreq_machine.specs.swreq_derive.WellFormed.{AreProtocolsWellFormed};
+ghost use Rattle.swreq_machine.specs.swreq_symbols.{Known.{IsQueryIn, IsTextOver}, Meaning.{facts_of}};
+ghost use Rattle.swreq_machine.specs.swreq_valid.{Protocols.{AreRulesOf}, Rounds.{last_rules}};
+ghost use Rattle.swreq_machine.specs.swreq_world.ByTable.{world_by};
 ghost use Rattle.swreq_confpath.specs.Searches.{IsMachineFor};
-ghost use Rattle.swreq_evidence_tests.specs.Sides.{HasSides};
 
 use crate::worlds::{LIMITS, machine_of, protocols_of, world_of};
 use std::alloc::{AllocError, Global};
 use std::test::Fail;
-use swreq_lowering::Query;
-use swreq_machine::{Machine, Scratch};
-use swreq_map::PropertyMap;
-use swreq_param::{ParamTable, TermId};
-use swreq_query::{answer, minimised_line, system_text};
-use swreq_valid::Protocols;
-use swreq_watch::Quiet;
-use swreq_world::{FuncId, World};
+use swreq_machine::Machine;
+use swreq_machine::lowering::{Asks, FuncId, Query};
+use swreq_machine::map::PropertyMap;
+use swreq_machine::param::ParamTable;
+use swreq_machine::symbols::Text;
+use swreq_machine::valid::Protocols;
+use swreq_machine::watch::Quiet;
+use swreq_machine::world::World;
+use swreq_query::{answer, minimised_line, room_for, system_text};
 
 /// What is printed of a signature.
 #[derive(Clone, Copy)]
@@ -46,49 +41,6 @@ struct Own<'a, 'b> {
     f: FuncId,
 }
 
-/// The sides of a query of a requirement or a type. Where it has one side, both are this one.
-fn sides_of(query: Query) -> Option<(TermId, TermId)>
-    ensures { IfSome result
-        (λ sides. (terms : List Term) → HasQueryIdsOf terms query → HasSides terms query sides) }
-{
-    match query {
-        Query::Signature { .. } => None,
-        Query::Reduced { t, .. } => Some((t, t)),
-        Query::Conf { t, .. } => Some((t, t)),
-        Query::Layout { t, .. } => Some((t, t)),
-        Query::Same { a, b, .. } => Some((a, b)),
-    }
-}
-
-/// Appends the line that answers a query with these sides.
-fn put_line(
-    own: &Own<'_, '_>,
-    table: &ParamTable,
-    map: &PropertyMap,
-    query: Query,
-    sides: (TermId, TermId),
-    out: &mut Vec<u8>,
-) -> Result<(), AllocError>
-    requires text { IsTextOver table.now own.now.world.now }
-    requires map { IsMapOf (last_rules own.now.machine.now.rounds) map.now }
-    requires protocols { map.now.protocols ≡ length own.now.world.now.lexicon.protocols }
-    requires query { IsQueryIn table.now own.now.world.now query }
-    requires sides { HasSides table.now query sides }
-{
-    let mut scratch = Scratch::for_types(own.alloc, table, sides.0, sides.1)?;
-    answer(
-        own.alloc,
-        own.world,
-        table,
-        own.machine,
-        map,
-        &query,
-        &mut scratch,
-        out,
-    )?;
-    Ok(())
-}
-
 /// Appends the line that answers a query of a requirement or a type.
 fn put_answer(
     own: &Own<'_, '_>,
@@ -102,9 +54,25 @@ fn put_answer(
     requires protocols { map.now.protocols ≡ length own.now.world.now.lexicon.protocols }
     requires query { IsQueryIn table.now own.now.world.now query }
 {
-    match sides_of(query) {
-        None => Err("a query of a signature".into()),
-        Some(sides) => Ok(put_line(own, table, map, query, sides, out)?),
+    match query.asks {
+        Asks::Signature => Err("a query of a signature".into()),
+        Asks::Reduced(_) | Asks::Requirement(_) => {
+            let text = Text {
+                world: own.world,
+                table,
+            };
+            let mut scratch = room_for(own.alloc, &text, query.asks)?;
+            answer(
+                own.alloc,
+                &text,
+                own.machine,
+                map,
+                query.asks,
+                &mut scratch,
+                out,
+            )?;
+            Ok(())
+        }
     }
 }
 

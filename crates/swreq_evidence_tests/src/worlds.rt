@@ -1,27 +1,25 @@
 //! The worlds of texts, and the machines of their signatures.
 ghost use Rattle.std.specs.Prelude.{◌<◌, IfOk, length};
-ghost use Rattle.swreq_derive.specs.WellFormed.{AreProtocolsWellFormed};
-ghost use Rattle.swreq_symbols.specs.Known.{IsTextOver};
-ghost use Rattle.swreq_symbols.specs.Meaning.{facts_of};
-ghost use Rattle.swreq_valid.specs.Protocols.{AreRulesOf};
-ghost use Rattle.swreq_valid.specs.Rounds.{last_rules};
-ghost use Rattle.swreq_world.specs.ByTable.{world_by};
-ghost use Rattle.swreq_world.specs.Short.{IsShort};
+ghost use Rattle.swreq_machine.specs.swreq_derive.WellFormed.{AreProtocolsWellFormed};
+ghost use Rattle.swreq_machine.specs.swreq_symbols.{Known.{IsTextOver}, Meaning.{facts_of}};
+ghost use Rattle.swreq_machine.specs.swreq_valid.{Protocols.{AreRulesOf}, Rounds.{last_rules}};
+ghost use Rattle.swreq_machine.specs.swreq_world.{ByTable.{world_by}, Short.{IsShort}};
 ghost use Rattle.swreq_confpath.specs.Searches.{IsMachineFor};
 ghost use Rattle.swreq_subst.specs.Saying.{HaveIds};
 
 use std::alloc::Global;
 use std::test::Fail;
-use swreq_complete::Limits;
 use swreq_machine::Machine;
-use swreq_param::ParamTable;
+use swreq_machine::complete::Limits;
+use swreq_machine::lowering::FuncId;
+use swreq_machine::param::ParamTable;
+use swreq_machine::symbols::Text;
+use swreq_machine::valid::Protocols;
+use swreq_machine::watch::Quiet;
+use swreq_machine::world::World;
 use swreq_reqsig::laws::valid_sides_are_well_formed;
 use swreq_samples::skeleton_of;
 use swreq_subst::laws::names_have_ids;
-use swreq_symbols::Text;
-use swreq_valid::Protocols;
-use swreq_watch::Quiet;
-use swreq_world::{FuncId, World};
 
 /// The limits of machines.
 pub(crate) const LIMITS: Limits = Limits {

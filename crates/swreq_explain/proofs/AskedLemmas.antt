@@ -1,21 +1,21 @@
 -- Reduction by the rules of a signature's history shows what is derivable from its list.
 use Rattle.std.proofs.Common.{List, []}
-use Rattle.swreq_rule.specs.declared.rules.Rule.{Rule}
-use Rattle.swreq_complete.specs.Alike.{ReduceAlike}
-use Rattle.swreq_complete.specs.Complete.{IsComplete}
-use Rattle.swreq_param.specs.declared.ids.ParamId.{ParamId}
-use Rattle.swreq_derive.specs.Derivation.{Derivable, Source, TermFacts, TermRequirement}
-use Rattle.swreq_derive.specs.Derivation.Source.{Written}
-use Rattle.swreq_derive.specs.Derivation.TermRequirement.{Conforms, Equals, IsAnyObject}
-use Rattle.swreq_derive.specs.Derivation.TermStatement.{Requires}
-use Rattle.swreq_correspondence.specs.Equations.{Linking, UsableEquation}
-use Rattle.swreq_correspondence.specs.Shown.{Shows, ShowsUsable}
-use Rattle.swreq_correspondence.specs.Symbols.{AreOfText, AreSymbolsOf, IsInText, Symbols, Word, left_side, right_side}
-use Rattle.swreq_correspondence.proofs.Chained.{chained_usable}
-use Rattle.swreq_correspondence.proofs.Shown.{shown_by_more}
-use Rattle.swreq_rounds.specs.Presents.{AreListRules}
+use Rattle.swreq_machine.specs.swreq_rule.declared.rules.Rule.{Rule}
+use Rattle.swreq_machine.specs.swreq_complete.Alike.{ReduceAlike}
+use Rattle.swreq_machine.specs.swreq_complete.Complete.{IsComplete}
+use Rattle.swreq_machine.specs.swreq_param.declared.ids.ParamId.{ParamId}
+use Rattle.swreq_machine.specs.swreq_derive.Derivation.{Derivable, Source, TermFacts, TermRequirement}
+use Rattle.swreq_machine.specs.swreq_derive.Derivation.Source.{Written}
+use Rattle.swreq_machine.specs.swreq_derive.Derivation.TermRequirement.{Conforms, Equals, IsAnyObject}
+use Rattle.swreq_machine.specs.swreq_derive.Derivation.TermStatement.{Requires}
+use Rattle.swreq_machine.specs.swreq_correspondence.Equations.{Linking, UsableEquation}
+use Rattle.swreq_machine.specs.swreq_correspondence.Shown.{Shows, ShowsUsable}
+use Rattle.swreq_machine.specs.swreq_correspondence.Symbols.{AreOfText, AreSymbolsOf, IsInText, Symbols, Word, left_side, right_side}
+use Rattle.swreq_machine.proofs.swreq_correspondence.Chained.{chained_usable}
+use Rattle.swreq_machine.proofs.swreq_correspondence.Shown.{shown_by_more}
+use Rattle.swreq_machine.specs.swreq_rounds.Presents.{AreListRules}
 use Rattle.swreq_births.proofs.Ends.{alike_back}
-use Rattle.swreq_complete.proofs.Alike.{linked_are_alike}
+use Rattle.swreq_machine.proofs.swreq_complete.Alike.{linked_are_alike}
 
 module _ (m : Symbols) (f : TermFacts) (fit : AreSymbolsOf m f) (ranges : AreOfText m f) (rules : List Rule) (gs : List ParamId)
     (rs : List TermRequirement)

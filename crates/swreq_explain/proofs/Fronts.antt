@@ -1,29 +1,19 @@
 -- The first lines of a derivation, up to the line that states this.
-use Rattle.std.proofs.Common.{◌≡◌, ◌∙◌, ℕ, zero, suc, ◌-◌, ◌≤◌, List, [], ◌∷◌, ap, arith, map, refl, subst, sym, take}
-use Rattle.swreq_lemmas.proofs.Elements.{get_map, get_of_map, in_whole, take_one}
-use Rattle.swreq_param.specs.Tables.{AreDistinct}
-use Rattle.swreq_param.specs.Terms.{Term}
-use Rattle.swreq_derive.specs.declared.lines.Line.{Line}
-use Rattle.swreq_derive.specs.declared.requirements.Statement.{Statement}
-use Rattle.swreq_derive.specs.Facts.{IdFacts, generic_params, requirement_of, statement_of, term_facts}
-use Rattle.swreq_derive.specs.Instances.{Follows, HasNumber, TermLine, statements_of}
-use Rattle.swreq_derive.specs.Lines.{AreDerived, line_of, stated_by}
-use Rattle.swreq_derive.proofs.LineLemmas.{get_take}
+use Rattle.std.proofs.Common.{◌≡◌, ◌∙◌, ℕ, suc, ◌-◌, List, ap, arith, map, refl, subst, sym, take}
+use Rattle.std.proofs.lemmas.List.{take-map, take-take}
+use Rattle.swreq_machine.proofs.swreq_lemmas.Elements.{get_map, get_of_map, in_whole, take_one}
+use Rattle.swreq_machine.specs.swreq_param.Tables.{AreDistinct}
+use Rattle.swreq_machine.specs.swreq_param.Terms.{Term}
+use Rattle.swreq_machine.specs.swreq_derive.declared.lines.Line.{Line}
+use Rattle.swreq_machine.specs.swreq_derive.declared.requirements.Statement.{Statement}
+use Rattle.swreq_machine.specs.swreq_derive.Facts.{IdFacts, generic_params, requirement_of, statement_of, term_facts}
+use Rattle.swreq_machine.specs.swreq_derive.Instances.{Follows, HasNumber, TermLine, statements_of}
+use Rattle.swreq_machine.specs.swreq_derive.Lines.{AreDerived, line_of, stated_by}
+use Rattle.swreq_machine.proofs.swreq_derive.LineLemmas.{get_take}
 use Rattle.swreq_derivation.specs.declared.derivation.Derivation.{Derivation}
 use Rattle.swreq_derivation.specs.UnderWay.{AllIn, AreIdsIn, statements_in}
 use Rattle.swreq_derivation.proofs.DerivationLemmas.{same_ids}
 use Rattle.swreq_derivation.specs.Needed.{AreSomeOf, EndIn}
-
-map_front : {A B : Type 0} (f : A → B) (n : ℕ) (xs : List A) → map f (take n xs) ≡ take n (map f xs)
-map_front f zero xs = refl
-map_front f (suc n) [] = refl
-map_front f (suc n) (x ∷ xs) = ap (λ ys. f x ∷ ys) (map_front f n xs)
-
-front_of_front : {A : Type 0} (k n : ℕ) (xs : List A) → k ≤ n → take k (take n xs) ≡ take k xs
-front_of_front zero n xs l = refl
-front_of_front (suc k) zero xs l = absurd (omega (arith, l))
-front_of_front (suc k) (suc n) [] l = refl
-front_of_front (suc k) (suc n) (x ∷ xs) l = ap (λ ys. x ∷ ys) (front_of_front k n xs (omega (arith, l)))
 
 -- the first lines of a derivation are a derivation
 pub front_derived : (terms : List Term) (m : IdFacts) (ls : List Line) (n : ℕ) → AreDerived terms m ls → AreDerived terms m (take n ls)
@@ -32,8 +22,9 @@ front_derived terms m ls n d k l e =
     let (below, there) = get_take n k ls x at in
     let h = d k (line_of terms x) (get_map (line_of terms) ls k x there) in
     let earlier : take k (statements_of (map (line_of terms) (take n ls))) ≡ take k (statements_of (map (line_of terms) ls))
-    = ap (take k) (ap statements_of (map_front (line_of terms) n ls) ∙ map_front (λ (z : TermLine). z.statement) n (map (line_of terms) ls))
-    ∙ front_of_front k n (statements_of (map (line_of terms) ls)) (omega (arith, below)) in
+    = ap (take k) (ap statements_of (sym (take-map (line_of terms) n ls))
+    ∙ sym (take-map (λ (z : TermLine). z.statement) n (map (line_of terms) ls)))
+    ∙ take-take k n (statements_of (map (line_of terms) ls)) (omega (arith, below)) in
     subst (λ z. Follows (term_facts terms m) (generic_params m.params) (map (requirement_of terms) m.written) z l) (sym earlier)
     (subst (Follows (term_facts terms m) (generic_params m.params) (map (requirement_of terms) m.written)
     (take k (statements_of (map (line_of terms) ls)))) same h)

@@ -1,32 +1,34 @@
 -- The history of a machine is a history (`IsHistory`), and fits the facts of its signature.
 use Rattle.std.proofs.Common.{◌≡◌, ◌∙◌, inl, inr, ℕ, suc, ◌+◌, ◌-◌, ◌<◌, ◌≤◌, ◌^◌, List, [], ◌∷◌, ◌++◌, Option, Some, None, ap, ap₂, arith, length, length-append, map, refl, slice_get, subst, sym}
-use Rattle.std.proofs.lemmas.List.{map-append}
+use Rattle.std.proofs.lemmas.List.{length-map, map-append}
 use Rattle.std.proofs.lemmas.Option.{get_or_from_slice_get, same_Some, slice_get-get_or, slice_get_within}
-use Rattle.swreq_lemmas.proofs.Elements.{get_after, get_cases, get_either, get_left, get_map, in_front, there_is}
-use Rattle.swreq_param.specs.declared.ids.ParamId.{ParamId}
-use Rattle.swreq_param.specs.declared.ids.ProtoId.{ProtoId}
-use Rattle.swreq_param.specs.Owned.{as_term}
-use Rattle.swreq_param.specs.Terms.{Term}
-use Rattle.swreq_word.specs.declared.symbols.Symbol.TheVariants as symbols
-use Rattle.swreq_rule.specs.declared.rules.Rule.{Rule}
-use Rattle.swreq_derive.specs.Derivation.{TermFacts, TermRequirement}
-use Rattle.swreq_derive.specs.Derivation.Source.{Written as WrittenList}
-use Rattle.swreq_derive.specs.Facts.{generic_params, requirement_of}
-use Rattle.swreq_derive.specs.Instances.{HasNumber}
-use Rattle.swreq_complete.specs.Alike.{ReduceAlike}
-use Rattle.swreq_complete.specs.Complete.{IsComplete}
-use Rattle.swreq_complete.specs.Reached.{IsBorn}
-use Rattle.swreq_correspondence.specs.Shown.{ShowsUsable, ShowsValid}
-use Rattle.swreq_correspondence.specs.Symbols.{IsInText, Symbols, Word, left_side, right_side, word_of}
-use Rattle.swreq_lowering.specs.declared.ids.FuncId.{FuncId}
-use Rattle.swreq_rounds.specs.Given.{of_list}
-use Rattle.swreq_rounds.specs.Presents.{AreListRules}
-use Rattle.swreq_rounds.specs.Plan.{AreShownByReduction, Item, Plan, equation_of, given}
+use Rattle.swreq_machine.proofs.swreq_lemmas.Elements.{get_after, get_cases, get_either, get_left, get_map, in_front, there_is}
+use Rattle.swreq_machine.specs.swreq_param.declared.ids.ParamId.{ParamId}
+use Rattle.swreq_machine.specs.swreq_param.declared.ids.ProtoId.{ProtoId}
+use Rattle.swreq_machine.specs.swreq_param.Owned.{as_term}
+use Rattle.swreq_machine.specs.swreq_param.Terms.{Term}
+use Rattle.swreq_readings.specs.swreq_word.declared.symbols.Symbol.TheVariants as symbols
+use Rattle.swreq_machine.specs.swreq_rule.declared.rules.Rule.{Rule}
+use Rattle.swreq_machine.specs.swreq_derive.Derivation.{TermFacts, TermRequirement}
+use Rattle.swreq_machine.specs.swreq_derive.Derivation.Source.{Written as WrittenList}
+use Rattle.swreq_machine.specs.swreq_derive.Facts.{generic_params, requirement_of}
+use Rattle.swreq_machine.specs.swreq_derive.Instances.{HasNumber}
+use Rattle.swreq_machine.specs.swreq_complete.Alike.{ReduceAlike}
+use Rattle.swreq_machine.specs.swreq_complete.Complete.{IsComplete}
+use Rattle.swreq_machine.specs.swreq_complete.Reached.{IsBorn}
+use Rattle.swreq_machine.specs.swreq_correspondence.Shown.{ShowsUsable, ShowsValid}
+use Rattle.swreq_machine.specs.swreq_correspondence.Symbols.{IsInText, Symbols, Word, left_side, right_side, word_of}
+use Rattle.swreq_machine.specs.swreq_lowering.declared.ids.FuncId.{FuncId}
+use Rattle.swreq_machine.specs.swreq_rounds.Given.{of_list}
+use Rattle.swreq_machine.specs.swreq_rounds.Presents.{AreListRules}
+use Rattle.swreq_machine.specs.swreq_rounds.Plan.{AreShownByReduction, Item, Plan, equation_of, given}
 use Rattle.swreq_derivation.specs.UnderWay.{Assumptions}
 use Rattle.swreq_readings.specs.declared.alphabet.Alphabet.{Alphabet}
-use Rattle.swreq_readings.specs.declared.alphabet.Named.{Named}
-use Rattle.swreq_symbols.specs.Meaning.{symbols_of}
-use Rattle.swreq_symbols.specs.Overs.{source_by}
+use Rattle.swreq_machine.specs.swreq_lexicon.declared.pair.ProtocolName.{ProtocolName}
+use Rattle.swreq_readings.specs.Alphabets.{lexicon}
+use Rattle.swreq_machine.specs.swreq_symbols.Known.{IsTextOver}
+use Rattle.swreq_machine.specs.swreq_symbols.Meaning.{symbols_of}
+use Rattle.swreq_machine.specs.swreq_symbols.Overs.{source_by}
 use Rattle.swreq_births.specs.declared.history.History.{History}
 use Rattle.swreq_births.specs.declared.history.Equation.{Equation}
 use Rattle.swreq_births.specs.declared.history.OwnedRequirement.{OwnedRequirement}
@@ -35,26 +37,27 @@ use Rattle.swreq_births.specs.declared.history.Reason.{Reason}
 use Rattle.swreq_births.specs.declared.history.Reason.TheVariants.{Doubled, Named as NamedBy, Required}
 use Rattle.swreq_births.specs.declared.history.System.{System}
 use Rattle.swreq_births.specs.Systems.{AreSymbols, FitsHistory, HasShownSides, IsGivenBy, IsHistory, IsShown, IsSystem, IsWritten, given_of, requirement_by, rules_at, source_of, system_at, systems_of}
-use Rattle.swreq_valid.specs.Flags.{chosen}
+use Rattle.swreq_machine.specs.swreq_valid.Flags.{chosen}
 use Rattle.swreq_machine.specs.Machines.{MachineView, machine_plan}
-use Rattle.swreq_valid.specs.Protocols.{ProtocolsView, protocols_of}
-use Rattle.swreq_valid.specs.Plans.{bare, listed}
-use Rattle.swreq_valid.specs.Rounds.{RoundView, last_rules}
-use Rattle.swreq_valid.proofs.Flagged.{chosen_map}
-use Rattle.swreq_lowering.specs.Requirements.{PlacedRequirement}
-use Rattle.swreq_symbols.proofs.OfText.{requirements_placed, signature_is}
-use Rattle.swreq_world.specs.ByTable.{signature_by, world_by}
-use Rattle.swreq_world.specs.Closed.{IsClosed}
-use Rattle.swreq_world.specs.FactsAt.{facts_of, written_list}
-use Rattle.swreq_world.specs.Worlds.{IdWorld, SignatureOver, signature_at}
+use Rattle.swreq_machine.specs.swreq_valid.Protocols.{ProtocolsView, protocols_of}
+use Rattle.swreq_machine.specs.swreq_valid.Plans.{bare, listed}
+use Rattle.swreq_machine.specs.swreq_valid.Rounds.{RoundView, last_rules}
+use Rattle.swreq_machine.proofs.swreq_valid.Flagged.{chosen_map}
+use Rattle.swreq_machine.specs.swreq_lowering.Requirements.{PlacedRequirement}
+use Rattle.swreq_machine.proofs.swreq_symbols.OfText.{requirements_placed, signature_is}
+use Rattle.swreq_machine.specs.swreq_world.ByTable.{signature_by, world_by}
+use Rattle.swreq_machine.specs.swreq_world.Short.{IsShort}
+use Rattle.swreq_machine.specs.swreq_world.FactsAt.{facts_of, written_list}
+use Rattle.swreq_machine.specs.swreq_world.Worlds.{IdWorld, SignatureOver, signature_at}
 use Rattle.swreq_explain.specs.declared.numbered.Numbered.{Numbered}
-use Rattle.swreq_explain.specs.Asked.{AreRoundsFor}
+use Rattle.swreq_explain.proofs.ReadRounds.{AreRoundsRead}
 use Rattle.swreq_explain.specs.Histories.{IsHistoryFor, IsHistoryOf, assumptions_of, list_origin, protocols_origin}
 use Rattle.swreq_explain.specs.Numbering.{IsBasicBy, item_by, sides_of, source_in}
 use Rattle.swreq_explain.specs.Rounds.{AreFirstSystems, AreSystemsOf, IsSystemOf, Origin}
 use Rattle.swreq_explain.specs.Uses.{IsShownBy}
 use Rattle.swreq_explain.proofs.AlphabetLemmas.{are_symbols, fits_assumptions, is_inherited}
-use Rattle.swreq_explain.proofs.NumberingLemmas.{equations_at, equations_sides, left_by, numbered_is, numbered_items, protocol_number, protocols_items, right_by, spell_append, written_of}
+use Rattle.swreq_machine.proofs.swreq_correspondence.Spelling.{spell-append}
+use Rattle.swreq_explain.proofs.NumberingLemmas.{equations_at, equations_sides, left_by, numbered_is, numbered_items, protocol_number, protocols_items, right_by, written_of}
 use Rattle.swreq_explain.proofs.RoundLemmas.{IsReachedRound, chosen_of, ended_complete, last_ends, last_is, none_complete, reached_at, some_round}
 use Rattle.swreq_explain.proofs.UseLemmas.{shown_before}
 
@@ -104,11 +107,12 @@ module _ (g : Alphabet) (m : Symbols) (f : TermFacts) (are : AreSymbols g m f) (
       → ShowsUsable m f (source_of g list owner) (ReduceAlike rules) (requirement_by q) → HasShownSides g owner rules q left right
   shown_sides (Conf t p) left right l r h = (
     shown_word (as_term t) right h r,
-    l ∙ spell_append m (source_of g list owner) (as_term t) (symbols.Proto p.rank ∷ []) ∙ ap (λ z. z ++ symbols.Proto p.rank ∷ []) (sym r),
+    l ∙ sym (spell-append m (source_of g list owner) (as_term t) [] (symbols.Proto p.rank ∷ []))
+        ∙ ap (λ z. z ++ symbols.Proto p.rank ∷ []) (sym r),
   )
   shown_sides (Layout t) left right l r h = (
     shown_word (as_term t) right h r,
-    l ∙ spell_append m (source_of g list owner) (as_term t) (symbols.Layout ∷ []) ∙ ap (λ z. z ++ symbols.Layout ∷ []) (sym r),
+    l ∙ sym (spell-append m (source_of g list owner) (as_term t) [] (symbols.Layout ∷ [])) ∙ ap (λ z. z ++ symbols.Layout ∷ []) (sym r),
   )
   shown_sides (Same t u) left right l r h = (shown_word (as_term t) left h.0 l, shown_word (as_term u) right h.1 r)
 
@@ -135,7 +139,7 @@ module _ (g : Alphabet) (m : Symbols) (f : TermFacts) (are : AreSymbols g m f) (
 
 module _ (terms : List Term) (o : Origin) (plan : Plan) (b : History) (list : List TermRequirement) (base : length plan.base ≡ o.base)
     (basic : plan.basic ≡ o.basic) (all : plan.all ≡ map (item_by terms (generic_params b.alphabet.params) list) o.course.all)
-    (members : o.members ≡ b.alphabet.members) (are : AreSymbols b.alphabet plan.symbols plan.facts) where
+    (members : o.members ≡ (lexicon b.alphabet).symbols) (are : AreSymbols b.alphabet plan.symbols plan.facts) where
   module _ (k : ℕ) (v : System) (is : IsSystemOf plan.symbols terms o k v) where
     given_is : given_of v ≡ given plan (chosen plan.all is.round.used)
     given_is =
@@ -163,7 +167,7 @@ module _ (terms : List Term) (o : Origin) (plan : Plan) (b : History) (list : Li
         → (s < r) × AreShownByReduction plan (rules_at b s) (item_by terms (generic_params b.alphabet.params) list x)) where
       basic_given : (why : Reason) (left right : Word) → IsBasicBy o.members why left right → IsGivenBy b r why left right
       basic_given (Doubled p) left right h = h
-      basic_given (NamedBy k) left right (n, at, l, w) = (n, ap (λ (z : List Named). slice_get z k) (sym members) ∙ at, l, w)
+      basic_given (NamedBy k) left right (n, at, l, w) = (n, ap (λ (z : List ProtocolName). slice_get z k) (sym members) ∙ at, l, w)
       basic_given (Required owner n q s) left right h = absurd h
 
       given_by : (j : ℕ) (e : Equation) → slice_get v.given j ≡ Some e → IsGivenBy b r e.reason e.left e.right
@@ -206,7 +210,7 @@ module _ (terms : List Term) (o : Origin) (plan : Plan) (b : History) (list : Li
 
 module _ (terms : List Term) (w : IdWorld) (fn : FuncId) (p : ProtocolsView) (m : MachineView) (b : History)
     (is : IsHistoryOf terms w fn p m b)
-    (rounds : AreRoundsFor terms w fn p m) (closed : IsClosed (world_by terms w)) where
+    (rounds : AreRoundsRead terms w fn p m) (text : IsTextOver terms w) (short : IsShort w) where
   abbrev f : TermFacts
   f = facts_of (world_by terms w)
 
@@ -220,8 +224,15 @@ module _ (terms : List Term) (w : IdWorld) (fn : FuncId) (p : ProtocolsView) (m 
   same_params : generic_params m.params ≡ params
   same_params = ap generic_params (sym is.alphabet.params_are)
 
+  own_text : IsTextOver terms b.alphabet.world.now
+  own_text = subst (IsTextOver terms) (sym is.alphabet.world) text
+
   pub history_symbols : AreSymbols b.alphabet (symbols_of w.lexicon) f
-  history_symbols = are_symbols terms w m.params b.alphabet is.alphabet closed
+  history_symbols = subst (λ (z : IdWorld). AreSymbols b.alphabet (symbols_of z.lexicon) (facts_of (world_by terms z))) is.alphabet.world
+      (are_symbols terms b.alphabet is.alphabet.self_id own_text)
+
+  members : w.lexicon.symbols ≡ (lexicon b.alphabet).symbols
+  members = ap (λ (z : IdWorld). z.lexicon.symbols) (sym is.alphabet.world)
 
   abbrev below_plan : Plan
   below_plan = protocols_of (world_by terms w)
@@ -313,10 +324,10 @@ module _ (terms : List Term) (w : IdWorld) (fn : FuncId) (p : ProtocolsView) (m 
       let made = is.of_protocols.each r v e in
       record {
         few = made.few;
-        born = born_is terms below_origin below_plan b own_list refl refl below_all (sym is.alphabet.members) history_symbols r v made
+        born = born_is terms below_origin below_plan b own_list refl refl below_all members history_symbols r v made
             (reached_at rounds.protocols.1 r made.round made.there);
         lower = λ k rule l h. absurd (let z : v.base ≡ 0 = made.base in omega (arith, l, z));
-        given = given_by terms below_origin below_plan b own_list refl refl below_all (sym is.alphabet.members) history_symbols r v made r
+        given = given_by terms below_origin below_plan b own_list refl refl below_all members history_symbols r v made r
             (below_shown r);
       }
 
@@ -360,9 +371,9 @@ module _ (terms : List Term) (w : IdWorld) (fn : FuncId) (p : ProtocolsView) (m 
       let reached = reached_at rounds.list.1 j made.round made.there in
       record {
         few = made.few;
-        born = born_is terms own_origin own_plan b own_list refl refl own_all (sym is.alphabet.members) history_symbols j v made reached;
+        born = born_is terms own_origin own_plan b own_list refl refl own_all members history_symbols j v made reached;
         lower = own_lower (length b.below.now + j) j v (omega arith) made reached;
-        given = given_by terms own_origin own_plan b own_list refl refl own_all (sym is.alphabet.members) history_symbols j v made
+        given = given_by terms own_origin own_plan b own_list refl refl own_all members history_symbols j v made
             (length b.below.now + j) (own_shown j);
       }
 
@@ -377,7 +388,8 @@ module _ (terms : List Term) (w : IdWorld) (fn : FuncId) (p : ProtocolsView) (m 
 
   pub is_history : IsHistory b
   is_history = record {
-    inherited = is_inherited terms w m.params b.alphabet is.alphabet closed;
+    inherited = is_inherited terms b.alphabet is.alphabet.self_id own_text
+        (subst (λ (z : IdWorld). IsShort z) (sym is.alphabet.world) short);
     few = is.few;
     systems = λ r l. each_system r (system_at b r) (system_there r l);
   }
@@ -409,15 +421,16 @@ module _ (terms : List Term) (w : IdWorld) (fn : FuncId) (p : ProtocolsView) (m 
     each_written : (r k : ℕ) (v : System) (e : Equation) → slice_get (systems_of b) r ≡ Some v → slice_get v.given k ≡ Some e
         → IsWritten assumptions e.reason
     each_written r k v e at in_v = elim (get_either b.below.now b.own r v at) [
-      | inl h ↦ written_by terms below_origin below_plan b own_list refl refl below_all (sym is.alphabet.members) history_symbols r v
+      | inl h ↦ written_by terms below_origin below_plan b own_list refl refl below_all members history_symbols r v
           (is.of_protocols.each r v h) assumptions below_written k e in_v
-      | inr h ↦ written_by terms own_origin own_plan b own_list refl refl own_all (sym is.alphabet.members) history_symbols h.0 v
+      | inr h ↦ written_by terms own_origin own_plan b own_list refl refl own_all members history_symbols h.0 v
           (is.of_list.each h.0 v h.2) assumptions own_written k e in_v
     ]
 
     pub fits_history : FitsHistory b assumptions
     fits_history = record {
-      alphabet = fits_assumptions terms w m.params b.alphabet is.alphabet closed assumptions facts params_are;
+      alphabet = fits_assumptions terms b.alphabet is.alphabet.self_id own_text assumptions
+          (facts ∙ ap (λ (z : IdWorld). facts_of (world_by terms z)) (sym is.alphabet.world)) (params_are ∙ same_params);
       written = λ r k e l at. each_written r k (system_at b r) e (system_there r l) at;
     }
 
@@ -443,6 +456,7 @@ module _ (terms : List Term) (w : IdWorld) (fn : FuncId) (p : ProtocolsView) (m 
 
   pub history_for : IsHistoryFor (world_by terms w) fn b
   history_for = record {
+    signature = (let e = length-map w.signatures (signature_by terms) in let l = rounds.signature in omega (arith, l, e));
     history = is_history;
     fits = fits_history (assumptions_of (world_by terms w) fn) refl params_now list_now;
     symbols = history_symbols;

@@ -3,9 +3,9 @@ pub mod AskedLemmas
 pub mod Fronts
 pub mod HistoryLemmas
 pub mod NumberingLemmas
-pub mod ParentLemmas
 pub mod RoundLemmas
 pub mod SideLemmas
 pub mod Standing
 pub mod TextLines
 pub mod UseLemmas
+mod ReadRounds

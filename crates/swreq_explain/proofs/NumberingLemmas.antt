@@ -1,45 +1,38 @@
 -- Written requirements with their numbers, and their equations.
-use Rattle.std.proofs.Common.{◌≡◌, ◌∙◌, inl, inr, ℕ, zero, suc, ◌+◌, ◌-◌, ◌<◌, ◌≤◌, Bool, List, [], ◌∷◌, ◌++◌, Option, Some, None, ap, ap₂, append_assoc, arith, drop, get_or, length, map, refl, slice_get, subst, sym, take, take_all, true, false}
-use Rattle.std.proofs.lemmas.List.{append-nil, drop_all, drop_more, map-append}
-use Rattle.swreq_lemmas.proofs.Elements.{contains_get, get_cases, get_contains, get_either, get_map, get_of_map}
-use Rattle.swreq_param.specs.declared.ids.ParamId.{ParamId}
-use Rattle.swreq_param.specs.declared.ids.ProtoId.{ProtoId}
-use Rattle.swreq_param.specs.Terms.{Term, head}
-use Rattle.swreq_param.specs.Terms.Term.{Generic, Member}
-use Rattle.swreq_derive.specs.declared.requirements.Requirement.{Requirement}
-use Rattle.swreq_derive.specs.Derivation.{Source, TermFacts, TermRequirement}
-use Rattle.swreq_derive.specs.Derivation.TermRequirement.{Conforms, Equals, IsAnyObject}
-use Rattle.swreq_derive.specs.Facts.{requirement_of}
-use Rattle.swreq_derive.specs.Instances.{HasNumber}
-use Rattle.swreq_correspondence.specs.Symbols.{Symbols, Word, left_side, right_side, spell, start, steps, symbol, word_of}
-use Rattle.swreq_lowering.specs.declared.ids.FuncId.{FuncId}
-use Rattle.swreq_lowering.specs.declared.ids.Written.{Written}
-use Rattle.swreq_rounds.specs.Given.{items_of, of_self}
-use Rattle.swreq_rounds.specs.Plan.{equation_of}
-use Rattle.swreq_symbols.specs.Overs.{source_by}
-use Rattle.swreq_symbols.specs.Known.{IsRequirementIn, IsTextOver}
-use Rattle.swreq_symbols.proofs.OfText.{own_requirements, protocol_written, signature_written}
-use Rattle.swreq_readings.specs.declared.alphabet.Named.{Named}
+use Rattle.std.proofs.Common.{◌≡◌, ◌∙◌, inl, inr, ℕ, zero, suc, ◌+◌, ◌-◌, ◌^◌, ◌<◌, ◌≤◌, All, Bool, List, [], ◌∷◌, ◌++◌, Option, Some, None, ap, ap₂, append_assoc, arith, drop, get_or, length, map, refl, slice_get, subst, sym, take, take_all, true, false}
+use Rattle.std.proofs.lemmas.Bool.{cases_lt}
+use Rattle.std.proofs.lemmas.List.{append-nil, drop_all, drop_more, get_or_past, length-map, map-append}
+use Rattle.std.proofs.lemmas.List.Elements.{All-get_or}
+use Rattle.swreq_machine.proofs.swreq_lemmas.Elements.{contains_get, get_cases, get_contains, get_either, get_map, get_of_map}
+use Rattle.swreq_machine.specs.swreq_param.declared.ids.ParamId.{ParamId}
+use Rattle.swreq_machine.specs.swreq_param.declared.ids.ProtoId.{ProtoId}
+use Rattle.swreq_machine.specs.swreq_param.Terms.{Term}
+use Rattle.swreq_machine.specs.swreq_derive.declared.requirements.Requirement.{Requirement}
+use Rattle.swreq_machine.specs.swreq_derive.Derivation.{TermFacts, TermRequirement}
+use Rattle.swreq_machine.specs.swreq_derive.Derivation.TermRequirement.{Conforms, Equals, IsAnyObject}
+use Rattle.swreq_machine.specs.swreq_derive.Facts.{requirement_of}
+use Rattle.swreq_machine.specs.swreq_derive.Instances.{HasNumber}
+use Rattle.swreq_machine.specs.swreq_correspondence.Symbols.{Symbols, left_side, right_side}
+use Rattle.swreq_machine.specs.swreq_lowering.declared.ids.FuncId.{FuncId}
+use Rattle.swreq_machine.specs.swreq_lowering.declared.ids.Written.{Written}
+use Rattle.swreq_machine.specs.swreq_lowering.ByTable.{placed}
+use Rattle.swreq_machine.specs.swreq_rounds.Given.{items_of, of_self}
+use Rattle.swreq_machine.specs.swreq_rounds.Plan.{equation_of}
+use Rattle.swreq_machine.specs.swreq_symbols.Overs.{source_by}
+use Rattle.swreq_machine.specs.swreq_symbols.Known.{IsRequirementIn, IsTextOver}
+use Rattle.swreq_machine.proofs.swreq_symbols.OfText.{own_requirements, protocol_written, signature_written}
+use Rattle.swreq_machine.specs.swreq_lexicon.declared.pair.ProtocolName.{ProtocolName}
 use Rattle.swreq_births.specs.declared.history.Equation.{Equation}
-use Rattle.swreq_valid.specs.Flags.{chosen}
-use Rattle.swreq_valid.specs.Plans.{bare, listed}
-use Rattle.swreq_world.specs.ByTable.{world_by}
-use Rattle.swreq_world.specs.FactsAt.{facts_of}
-use Rattle.swreq_world.specs.Worlds.{IdWorld, requirements_of, signature_at}
+use Rattle.swreq_machine.specs.swreq_valid.Flags.{chosen}
+use Rattle.swreq_machine.specs.swreq_valid.Plans.{bare, listed}
+use Rattle.swreq_machine.specs.swreq_world.ByTable.{world_by}
+use Rattle.swreq_machine.specs.swreq_world.FactsAt.{facts_of}
+use Rattle.swreq_machine.specs.swreq_world.Worlds.{IdWorld, requirements_of, signature_at}
 use Rattle.swreq_explain.specs.declared.numbered.Numbered.{Numbered}
 use Rattle.swreq_explain.specs.Numbering.{AreBasic, AreEquationsOf, AreNumberedIn, IsBasicBy, IsEquationIn, item_by, numbered_from, numbered_in, sides_of, source_in}
 use Rattle.swreq_explain.specs.Uses.{Course}
 
 -- ---- words
-
-steps_append : (m : Symbols) (t : Term) (rest : Word) → steps m t rest ≡ steps m t [] ++ rest
-steps_append m (Generic g) rest = refl
-steps_append m (Member t x) rest =
-    steps_append m t (symbol m x ∷ rest) ∙ sym (append_assoc (steps m t []) (symbol m x ∷ []) rest)
-    ∙ ap (λ z. z ++ rest) (sym (steps_append m t (symbol m x ∷ [])))
-
-pub spell_append : (m : Symbols) (s : Source) (t : Term) (rest : Word) → spell m s t rest ≡ word_of m s t ++ rest
-spell_append m s t rest = ap (λ z. start s (head t) ∷ z) (steps_append m t rest)
 
 -- The words of a requirement do not depend on the list.
 pub left_by : (m : Symbols) (params : List ParamId) (list : List TermRequirement) (owner : Option ProtoId) (r : TermRequirement)
@@ -163,7 +156,7 @@ module _ (terms : List Term) (w : IdWorld) where
 
 -- ---- equations, one by one
 
-pub basic_more : (members : List Named) (es : List Equation) (e : Equation) → AreBasic members es
+pub basic_more : (members : List ProtocolName) (es : List Equation) (e : Equation) → AreBasic members es
     → IsBasicBy members e.reason e.left e.right
     → AreBasic members (es ++ e ∷ [])
 basic_more members es e h i k x at = elim (get_cases es e k x at) [
@@ -171,7 +164,7 @@ basic_more members es e h i k x at = elim (get_cases es e k x at) [
   | inr j ↦ subst (λ (z : Equation). IsBasicBy members z.reason z.left z.right) (sym j.1) i
 ]
 
-pub basic_none : (members : List Named) → AreBasic members []
+pub basic_none : (members : List ProtocolName) → AreBasic members []
 basic_none members k e at = cc
 
 module _ {A : Type 0} where
@@ -198,16 +191,38 @@ module _ {A : Type 0} where
       → chosen (take k xs) (take k bs) ≡ chosen xs bs
   chosen_all xs bs k c l = ap₂ chosen (take_all k xs l) (take_all k bs (omega (arith, c, l)))
 
--- ---- ids of the text
+-- ---- requirements of the text
+
+-- the requirements of a protocol are numbered by 32 bits
+pub short_list : (w : IdWorld) → All (λ (rs : List Written). length rs < 2 ^ 32) w.requirements → (p : ProtoId)
+    → length (requirements_of w p) < 2 ^ 32
+short_list w all p = elim (cases_lt p.rank (length w.requirements)) [
+  | inl l ↦ All-get_or (λ (rs : List Written). length rs < 2 ^ 32) w.requirements p.rank [] l all
+  | inr l ↦ subst (λ (z : List Written). length z < 2 ^ 32) (sym (get_or_past w.requirements p.rank [] l)) (omega arith)
+]
 
 module _ (terms : List Term) (w : IdWorld) (text : IsTextOver terms w) where
+  pub required_in_text : (p : ProtoId) (k : ℕ) (r : Requirement) → slice_get (bare (requirements_of w p)) k ≡ Some r
+      → IsRequirementIn terms w.lexicon r
+  required_in_text p k r at =
+      let (x, there, same) = get_of_map (λ (z : Written). z.requirement) (requirements_of w p) k r at in
+      subst (IsRequirementIn terms w.lexicon) same (protocol_written w terms text p x (get_contains (requirements_of w p) k x there))
+
+  -- a protocol with a requirement is of the text
+  pub required_of_text : (p : ProtoId) (k : ℕ) (r : Requirement) → slice_get (bare (requirements_of w p)) k ≡ Some r
+      → p.rank < length w.lexicon.protocols
+  required_of_text p k r at = elim (cases_lt p.rank (length w.requirements)) [
+    | inl l ↦ (let count = length-map w.requirements (placed terms) in let all = text.closed.protocols in omega (arith, l, count, all))
+    | inr l ↦ (let none : slice_get (bare []) k ≡ Some r
+        = subst (λ (z : List Written). slice_get (bare z) k ≡ Some r) (get_or_past w.requirements p.rank [] l) at in
+        absurd cc)
+  ]
+
   pub protocols_in_text : (ps : List ProtoId) → AreNumberedIn terms w.lexicon (numbered_in w ps)
   protocols_in_text ps x c =
       let (k, at) = contains_get (numbered_in w ps) x c in
       let (p, own, number) = protocol_number terms w ps k x at in
-      let (r, there, same) = get_of_map (λ (z : Written). z.requirement) (requirements_of w p) (x.number - 1) x.requirement number.1 in
-      subst (IsRequirementIn terms w.lexicon) same
-      (protocol_written w terms text p r (get_contains (requirements_of w p) (x.number - 1) r there))
+      required_in_text p (x.number - 1) x.requirement number.1
 
   pub list_in_text : (fn : FuncId) → fn.place < length w.signatures
       → AreNumberedIn terms w.lexicon (numbered_from None 1 (bare (signature_at w fn).requirements))

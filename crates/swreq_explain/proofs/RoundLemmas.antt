@@ -2,19 +2,19 @@
 use Rattle.std.proofs.Common.{◌≡◌, ◌∙◌, ◌⊎◌, inl, inr, ℕ, zero, suc, ◌-◌, ◌<◌, ◌^◌, Bool, true, false, List, [], ◌∷◌, Option, Some, ap, arith, length, refl, replicate, slice_get, subst, sym}
 use Rattle.std.proofs.lemmas.List.{length-replicate}
 use Rattle.std.proofs.lemmas.Option.{slice_get_within}
-use Rattle.swreq_lemmas.proofs.Elements.{there_is}
-use Rattle.swreq_rule.specs.declared.rules.Rule.{Rule}
-use Rattle.swreq_complete.specs.Complete.{IsComplete}
-use Rattle.swreq_complete.specs.Reached.{BeginsWith, IsReached}
-use Rattle.swreq_complete.specs.declared.limit.Limits.{Limits}
-use Rattle.swreq_complete.proofs.Ended.{pairs_meet}
-use Rattle.swreq_complete.proofs.Outcome.{fresh_of_reached}
-use Rattle.swreq_rounds.specs.Plan.{AreShown, AreShownByReduction, Item, Plan, given}
-use Rattle.swreq_rounds.specs.Rounds.{Ends, Passed}
-use Rattle.swreq_valid.specs.Flags.{Tells, TellsMore, chosen}
-use Rattle.swreq_valid.specs.Rounds.{AreRounds, AreRoundsFrom, RoundView, ended_round, last_rules, short_round, stopped_round}
-use Rattle.swreq_valid.specs.Rounds.AreRoundsFrom.{before_others, begun_anew, once_more, the_last}
-use Rattle.swreq_valid.proofs.Flagged.{tells_length}
+use Rattle.swreq_machine.proofs.swreq_lemmas.Elements.{contains_get, get_contains, there_is}
+use Rattle.swreq_machine.specs.swreq_rule.declared.rules.Rule.{Rule}
+use Rattle.swreq_machine.specs.swreq_complete.Complete.{IsComplete}
+use Rattle.swreq_machine.specs.swreq_complete.Reached.{BeginsWith, IsReached}
+use Rattle.swreq_machine.specs.swreq_complete.declared.limit.Limits.{Limits}
+use Rattle.swreq_machine.proofs.swreq_complete.Ended.{pairs_meet}
+use Rattle.swreq_machine.proofs.swreq_complete.Outcome.{fresh_of_reached}
+use Rattle.swreq_machine.specs.swreq_rounds.Plan.{AreShown, AreShownByReduction, Item, Plan, given}
+use Rattle.swreq_machine.specs.swreq_rounds.Rounds.{Ends, Passed}
+use Rattle.swreq_machine.specs.swreq_valid.Flags.{Tells, TellsMore, chosen}
+use Rattle.swreq_machine.specs.swreq_valid.Rounds.{AreRounds, AreRoundsFrom, RoundView, ended_round, last_rules, short_round, stopped_round}
+use Rattle.swreq_machine.specs.swreq_valid.Rounds.AreRoundsFrom.{before_others, begun_anew, once_more, the_last}
+use Rattle.swreq_machine.proofs.swreq_valid.Flagged.{chosen_in, tells_length}
 use Rattle.swreq_explain.specs.Uses.{HaveFlags}
 
 -- ---- flags
@@ -22,11 +22,7 @@ use Rattle.swreq_explain.specs.Uses.{HaveFlags}
 module _ {A : Type 0} where
   -- what the flags choose from a list stands in the list
   pub chosen_of : (xs : List A) (bs : List Bool) (k : ℕ) (x : A) → slice_get (chosen xs bs) k ≡ Some x → (j : ℕ) × (slice_get xs j ≡ Some x)
-  chosen_of [] bs k x e = cc
-  chosen_of (y ∷ xs) [] k x e = cc
-  chosen_of (y ∷ xs) (true ∷ bs) zero x e = (0, e)
-  chosen_of (y ∷ xs) (true ∷ bs) (suc k) x e = let h = chosen_of xs bs k x e in (suc h.0, h.1)
-  chosen_of (y ∷ xs) (false ∷ bs) k x e = let h = chosen_of xs bs k x e in (suc h.0, h.1)
+  chosen_of xs bs k x e = contains_get xs x (chosen_in xs bs x (get_contains (chosen xs bs) k x e))
 
   -- what the flags tell holds of an item whose flag is set
   pub set_holds : (P : A → Type 0) (xs : List A) (bs : List Bool) → Tells P xs bs → (k : ℕ) (x : A) → slice_get xs k ≡ Some x

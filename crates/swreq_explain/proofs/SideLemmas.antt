@@ -1,34 +1,33 @@
 -- Type parameters that are read in a derivation.
-use Rattle.std.proofs.Common.{◌≡◌, ◌∙◌, ◌-◌, List, [], ◌∷◌, ◌++◌, Option, None, Contains, ap, arith, length, length-append, refl, subst, sym, take}
+use Rattle.std.proofs.Common.{◌≡◌, ◌∙◌, ◌-◌, List, [], ◌∷◌, ◌++◌, Option, None, Contains, ap, arith, length, length-append, subst, sym, take}
 use Rattle.std.proofs.Math.Seq.{take-append_seam}
-use Rattle.swreq_param.specs.declared.ids.ParamId.{ParamId}
-use Rattle.swreq_param.specs.declared.ids.ProtoId.{ProtoId}
-use Rattle.swreq_param.specs.declared.ids.Step.{Step}
-use Rattle.swreq_param.specs.declared.ids.Step.TheVariants.{Bound, Name}
-use Rattle.swreq_param.specs.Terms.Term.{Generic, Member}
-use Rattle.swreq_word.specs.declared.symbols.Symbol.TheVariants.{Proto}
-use Rattle.swreq_rule.specs.declared.rules.Rule.{Rule}
-use Rattle.swreq_complete.specs.Alike.{ReduceAlike}
-use Rattle.swreq_derive.specs.Derivation.{Source}
-use Rattle.swreq_derive.specs.Facts.{generic_params}
-use Rattle.swreq_correspondence.specs.Shown.{ShowsConformance, ShowsValid}
-use Rattle.swreq_correspondence.specs.Symbols.{symbol, word_of}
+use Rattle.swreq_machine.specs.swreq_param.declared.ids.ParamId.{ParamId}
+use Rattle.swreq_machine.specs.swreq_param.declared.ids.ProtoId.{ProtoId}
+use Rattle.swreq_machine.specs.swreq_param.declared.ids.Step.{Step}
+use Rattle.swreq_machine.specs.swreq_param.Terms.Term.{Generic, Member}
+use Rattle.swreq_machine.specs.swreq_rule.declared.rules.Rule.{Rule}
+use Rattle.swreq_machine.specs.swreq_complete.Alike.{ReduceAlike}
+use Rattle.swreq_machine.specs.swreq_derive.Derivation.{Source}
+use Rattle.swreq_machine.specs.swreq_derive.Facts.{generic_params}
+use Rattle.swreq_machine.specs.swreq_correspondence.Shown.{ShowsValid}
+use Rattle.swreq_machine.specs.swreq_correspondence.Symbols.{symbol, word_of}
 use Rattle.swreq_readings.specs.declared.alphabet.Alphabet.{Alphabet}
 use Rattle.swreq_births.specs.Systems.{IsShown, source_of}
 use Rattle.swreq_births.specs.Types.{IsStepShown}
-use Rattle.swreq_births.proofs.Ends.{alike_back}
-use Rattle.swreq_explain.proofs.NumberingLemmas.{spell_append}
-use Rattle.swreq_param.specs.Tables.{IsOf, term_at}
-use Rattle.swreq_param.specs.Terms.{Term}
-use Rattle.swreq_word.specs.declared.symbols.Symbol.{Symbol}
+use Rattle.swreq_births.proofs.ShownSteps as steps
+use Rattle.swreq_births.proofs.ShownSteps.{valid_front}
+use Rattle.swreq_machine.proofs.swreq_correspondence.Spelling.{spell-append}
+use Rattle.swreq_machine.specs.swreq_param.Tables.{IsOf, term_at}
+use Rattle.swreq_machine.specs.swreq_param.Terms.{Term}
+use Rattle.swreq_readings.specs.swreq_word.declared.symbols.Symbol.{Symbol}
 use Rattle.swreq_derivation.specs.declared.derivation.Derivation.{Derivation}
 use Rattle.swreq_derivation.specs.UnderWay.{AddsLines, AreEqualIds, AreStatedEqual}
 use Rattle.swreq_derivation.proofs.DerivationLemmas.{grows_then}
 use Rattle.swreq_readings.specs.Readable.{AllowsSymbol, AllowsWord}
 use Rattle.swreq_readings.proofs.ReadingLemmas.{equal_as, equal_still, is_still, term_still, word_right, word_still}
-use Rattle.swreq_explain.specs.declared.sides.RoundReader.{RoundReader}
-use Rattle.swreq_explain.specs.declared.sides.ReadAs.{ReadAs}
-use Rattle.swreq_explain.specs.declared.sides.WordOfType.{WordOfType}
+use Rattle.swreq_explain.specs.declared.validity.RoundReader.{RoundReader}
+use Rattle.swreq_explain.specs.declared.validity.ReadAs.{ReadAs}
+use Rattle.swreq_explain.specs.declared.validity.WordOfType.{WordOfType}
 use Rattle.swreq_explain.specs.Stating.{IsReadAt, IsReady, alphabet_at}
 
 pub ready_still : (d : RoundReader) (s u : Derivation) → AddsLines s u → IsReady d s → IsReady d u
@@ -88,30 +87,24 @@ module _ (g : Alphabet) (owner : Option ProtoId) (rules : List Rule) (t b : Term
   front_is : take (length w - 1) w ≡ word_of h.symbols s b
   front_is =
       let e : w ≡ word_of h.symbols s b ++ symbol h.symbols x ∷ []
-      = h.word ∙ ap (word_of h.symbols s) is ∙ spell_append h.symbols s b (symbol h.symbols x ∷ []) in
+      = h.word ∙ ap (word_of h.symbols s) is ∙ sym (spell-append h.symbols s b [] (symbol h.symbols x ∷ [])) in
       ap (λ (z : List Symbol). take (length z - 1) z) e ∙ front_of (word_of h.symbols s b) (symbol h.symbols x)
 
   member_shown : ShowsValid h.symbols h.facts s (ReduceAlike rules) (Member b x)
   member_shown = subst (ShowsValid h.symbols h.facts s (ReduceAlike rules)) is h.shown
 
   pub base_shown : IsShown g owner rules b (take (length w - 1) w)
-  base_shown = record { symbols = h.symbols; facts = h.facts; list = h.list; are = h.are; shown = of x member_shown; word = front_is }
-    where
-      of : (y : Step) → ShowsValid h.symbols h.facts s (ReduceAlike rules) (Member b y)
-          → ShowsValid h.symbols h.facts s (ReduceAlike rules) b
-      of (Name a) v = v.0
-      of (Bound d) v = v.0
+  base_shown = record {
+    symbols = h.symbols;
+    facts = h.facts;
+    list = h.list;
+    are = h.are;
+    shown = valid_front h.symbols h.facts s (ReduceAlike rules) b (x ∷ []) member_shown;
+    word = front_is;
+  }
 
   pub step_shown : IsStepShown g rules (take (length w - 1) w) x
-  step_shown = subst (λ z. IsStepShown g rules z x) (sym front_is) (of x member_shown)
-    where
-      on : (p : ProtoId) → ShowsConformance h.symbols s (ReduceAlike rules) b p
-          → ReduceAlike rules (word_of h.symbols s b) (word_of h.symbols s b ++ Proto p.rank ∷ [])
-      on p c = subst (ReduceAlike rules (word_of h.symbols s b)) (spell_append h.symbols s b (Proto p.rank ∷ [])) (alike_back rules _ _ c)
-
-      of : (y : Step) → ShowsValid h.symbols h.facts s (ReduceAlike rules) (Member b y) → IsStepShown g rules (word_of h.symbols s b) y
-      of (Name a) v = (let (p, d, c, k) = v.1 in (d.rank, record { proto = p; name = a }, (h.are.associated p a d c, refl, on p k)))
-      of (Bound d) v = (let (p, a, c, k) = v.1 in (d.rank, record { proto = p; name = a }, (h.are.associated p a d c, refl, on p k)))
+  step_shown = subst (λ z. IsStepShown g rules z x) (sym front_is) (steps.step_shown g h.symbols h.facts s rules h.are b x member_shown)
 
 -- a generic parameter that the rules show valid is one of the list
 pub shown_generic : (g : Alphabet) (rules : List Rule) (t : Term) (p : ParamId) (w : List Symbol) → t ≡ Generic p → IsShown g None rules t w

@@ -1,62 +1,50 @@
 -- What lines are derived from, over a table that has grown.
 use Rattle.std.proofs.Common.{◌≡◌, ◌∙◌, ℕ, ◌<◌, List, [], ◌∷◌, Contains, Some, ap, length, map, refl, slice_get, subst, sym}
-use Rattle.swreq_lemmas.proofs.Elements.{contains_get, get_contains}
-use Rattle.swreq_lemmas.proofs.Members.{contains_of_map, first_member, later_member}
-use Rattle.swreq_param.specs.declared.ids.ProtoId.{ProtoId}
-use Rattle.swreq_param.specs.Tables.{Extends}
-use Rattle.swreq_param.specs.Terms.{Term}
-use Rattle.swreq_derive.specs.declared.lines.Line.{Line}
-use Rattle.swreq_derive.specs.declared.requirements.Requirement.{Requirement}
-use Rattle.swreq_derive.specs.declared.requirements.Requirement.TheVariants.{Conf, Layout, Same}
-use Rattle.swreq_derive.specs.Derivation.{TermFacts, TermRequirement}
-use Rattle.swreq_param.specs.declared.ids.ParamId.{ParamId}
-use Rattle.swreq_derive.specs.Derivation.TermRequirement.{Conforms}
-use Rattle.swreq_derive.specs.Facts.{IdFacts, IsRequirementOver, generic_params, requirement_of}
-use Rattle.swreq_derive.specs.Instances.{IsDerivation}
-use Rattle.swreq_derive.specs.Lines.{AreDerived, AreLinesOf, line_of}
-use Rattle.swreq_lowering.specs.declared.ids.FuncId.{FuncId}
-use Rattle.swreq_lowering.specs.declared.ids.Query.{Query}
-use Rattle.swreq_lowering.specs.declared.ids.Query.TheVariants as queries
-use Rattle.swreq_lowering.specs.Requirements.{PlacedRequirement}
+use Rattle.swreq_machine.proofs.swreq_lemmas.Elements.{contains_get, get_contains}
+use Rattle.swreq_machine.proofs.swreq_lemmas.Members.{contains_of_map, first_member, later_member}
+use Rattle.swreq_machine.specs.swreq_param.declared.ids.ProtoId.{ProtoId}
+use Rattle.swreq_machine.specs.swreq_param.Tables.{Extends}
+use Rattle.swreq_machine.specs.swreq_param.Terms.{Term}
+use Rattle.swreq_machine.specs.swreq_derive.declared.lines.Line.{Line}
+use Rattle.swreq_machine.specs.swreq_derive.declared.requirements.Requirement.{Requirement}
+use Rattle.swreq_machine.specs.swreq_derive.declared.requirements.Requirement.TheVariants.{Conf, Layout, Same}
+use Rattle.swreq_machine.specs.swreq_derive.Derivation.{TermFacts, TermRequirement}
+use Rattle.swreq_machine.specs.swreq_param.declared.ids.ParamId.{ParamId}
+use Rattle.swreq_machine.specs.swreq_derive.Derivation.TermRequirement.{Conforms}
+use Rattle.swreq_machine.specs.swreq_derive.Facts.{IdFacts, IsRequirementOver, generic_params, requirement_of}
+use Rattle.swreq_machine.specs.swreq_derive.Instances.{IsDerivation}
+use Rattle.swreq_machine.specs.swreq_derive.Lines.{AreDerived, AreLinesOf, line_of}
+use Rattle.swreq_machine.specs.swreq_lowering.declared.ids.FuncId.{FuncId}
+use Rattle.swreq_machine.specs.swreq_lowering.Requirements.{PlacedRequirement}
 use Rattle.swreq_derivation.specs.UnderWay.{AllIn, AreIdsIn, Assumptions, ContinuesFrom, IsDerivedFrom}
 use Rattle.swreq_derivation.specs.declared.derivation.Derivation.{Derivation}
 use Rattle.swreq_births.specs.declared.history.History.{History}
 use Rattle.swreq_births.specs.declared.history.Equation.{Equation}
 use Rattle.swreq_births.specs.declared.history.System.{System}
 use Rattle.swreq_births.specs.Systems.{FitsHistory}
-use Rattle.swreq_correspondence.specs.Symbols.{Symbols, left_side, right_side}
-use Rattle.swreq_lexicon.specs.Views.{LexiconView}
-use Rattle.swreq_lowering.proofs.Growing.{requirement_stays}
-use Rattle.swreq_symbols.specs.Known.{IsRequirementIn, IsTextOver}
-use Rattle.swreq_symbols.specs.Meaning.{symbols_of}
-use Rattle.swreq_symbols.specs.Overs.{source_by}
-use Rattle.swreq_valid.specs.Flags.{chosen}
-use Rattle.swreq_valid.specs.Protocols.{ProtocolsView}
-use Rattle.swreq_symbols.proofs.Growing.{world_stays}
-use Rattle.swreq_symbols.proofs.OfText.{are_facts, facts_are, requirements_placed, signature_is}
-use Rattle.swreq_world.specs.ByTable.{IsOverTable, world_by}
-use Rattle.swreq_world.specs.FactsAt.{facts_at, facts_of, written_list}
-use Rattle.swreq_world.specs.Worlds.{IdWorld, SignatureOver, TextWorld, signature_at}
-use Rattle.swreq_explain.specs.Asked.{Asks}
+use Rattle.swreq_machine.specs.swreq_correspondence.Symbols.{Symbols, left_side, right_side}
+use Rattle.swreq_machine.specs.swreq_lexicon.Views.{LexiconView}
+use Rattle.swreq_machine.proofs.swreq_lowering.Growing.{requirement_stays}
+use Rattle.swreq_machine.specs.swreq_symbols.Known.{IsRequirementIn, IsTextOver}
+use Rattle.swreq_machine.specs.swreq_symbols.Meaning.{symbols_of}
+use Rattle.swreq_machine.specs.swreq_symbols.Overs.{source_by}
+use Rattle.swreq_machine.specs.swreq_valid.Flags.{chosen}
+use Rattle.swreq_machine.specs.swreq_valid.Protocols.{ProtocolsView}
+use Rattle.swreq_machine.proofs.swreq_symbols.Growing.{world_stays}
+use Rattle.swreq_machine.proofs.swreq_symbols.OfText.{are_facts, facts_are, requirements_placed, signature_is}
+use Rattle.swreq_machine.specs.swreq_world.ByTable.{IsOverTable, world_by}
+use Rattle.swreq_machine.specs.swreq_world.FactsAt.{facts_at, facts_of, written_list}
+use Rattle.swreq_machine.specs.swreq_world.Worlds.{IdWorld, SignatureOver, TextWorld, signature_at}
 use Rattle.swreq_explain.specs.declared.numbered.Numbered.{Numbered}
-use Rattle.swreq_explain.specs.declared.text_history.TextHistory.{TextHistory}
+use Rattle.swreq_explain.specs.declared.history.TextHistory.{TextHistory}
 use Rattle.swreq_explain.specs.Histories.{IsHistoryFor, IsTextHistory, assumptions_of, protocols_origin}
-use Rattle.swreq_explain.specs.TextAlphabet.{AreNamesOf}
 use Rattle.swreq_explain.specs.Numbering.{AreEquationsOf, AreNumberedIn, IsEquationOf}
 use Rattle.swreq_explain.specs.Rounds.{IsSystemOf, Origin}
 use Rattle.swreq_explain.specs.Uses.{Course}
 use Rattle.swreq_explain.specs.Written.{AreWritten, IsAssumptionsOver}
-use Rattle.swreq_explain.proofs.NumberingLemmas.{protocols_in_text}
+use Rattle.swreq_explain.proofs.NumberingLemmas.{protocols_in_text, required_in_text}
 use Rattle.swreq_explain.proofs.RoundLemmas.{chosen_of}
 use Rattle.swreq_explain.proofs.TextLines.{lines_are_of}
-
--- A query asks of one signature only.
-pub asks_one : (q : Query) (f g : FuncId) (r s : Requirement) → Asks q f r → Asks q g s → f ≡ g
-asks_one (queries.Signature h) f g r s a b = absurd a
-asks_one (queries.Reduced h t) f g r s a b = absurd a
-asks_one (queries.Conf h t p) f g r s a b = sym a.0 ∙ b.0
-asks_one (queries.Layout h t) f g r s a b = sym a.0 ∙ b.0
-asks_one (queries.Same h t u) f g r s a b = sym a.0 ∙ b.0
 
 module _ (old new : List Term) (w : IdWorld) (f : FuncId) where
   list_over : (terms : List Term) → written_list (signature_at (world_by terms w) f) ≡ map (requirement_of terms) (facts_at w f).written
@@ -159,7 +147,10 @@ module _ (old new : List Term) (more : Extends old new) where
       let o : Origin = protocols_origin w p.rounds in
       let known : AreNumberedIn old w.lexicon o.course.all = protocols_in_text old w text w.lexicon.written_order in
       record {
-        names = subst (λ (z : TextWorld). AreNamesOf z b.names) (sym (world_stays old new more w text.table)) h.names;
+        world = h.world;
+        self_id = λ q k t o at.
+            let stays = more.stands t (required_in_text old w text q k _ at).0 in
+            let is = h.self_id q k t o at in ((λ e. is.0 (sym stays ∙ e)), λ e. stays ∙ is.1 e);
         systems = record {
           count_is = h.systems.count_is;
           each = λ k v e. system_stays (symbols_of w.lexicon) w.lexicon o k v known (h.systems.each k v e);

@@ -1,34 +1,34 @@
 -- The lines of a derivation over the facts of a world mention only what the world has.
 use Rattle.std.proofs.Common.{◌≡◌, ℕ, zero, suc, ◌-◌, ◌<◌, List, [], ◌∷◌, Contains, Some, arith, length, map, slice_get, subst, sym, take}
-use Rattle.swreq_lemmas.proofs.Elements.{contains_get, get_contains, get_map, get_of_map}
-use Rattle.swreq_param.specs.declared.ids.ParamId.{ParamId}
-use Rattle.swreq_param.specs.declared.ids.ProtoId.{ProtoId}
-use Rattle.swreq_param.specs.declared.ids.NameId.{NameId}
-use Rattle.swreq_param.specs.declared.ids.AssocId.{AssocId}
-use Rattle.swreq_param.specs.Terms.{Term}
-use Rattle.swreq_derive.specs.declared.lines.DerivRule.{DerivRule}
-use Rattle.swreq_derive.specs.declared.lines.DerivRule.TheVariants as Rule
-use Rattle.swreq_derive.specs.declared.lines.Line.{Line}
-use Rattle.swreq_derive.specs.declared.requirements.Requirement.TheVariants.{Conf, Layout, Same}
-use Rattle.swreq_derive.specs.declared.requirements.Statement.{Statement}
-use Rattle.swreq_derive.specs.declared.requirements.Statement.TheVariants.{Holds, Valid}
-use Rattle.swreq_derive.specs.Derivation.{Declares, TermFacts, TermRequirement, TermStatement}
-use Rattle.swreq_derive.specs.Derivation.TermRequirement.{Conforms, Equals, IsAnyObject}
-use Rattle.swreq_derive.specs.Derivation.TermStatement.{IsValid, Requires}
-use Rattle.swreq_derive.specs.Facts.{IdFacts, IsStatementOver, statement_of}
-use Rattle.swreq_derive.specs.Instances.{AreStated, HasNumber, IsDerivation, IsInstance, TermLine, statements_of}
-use Rattle.swreq_derive.specs.Lines.{AreLinesOf, IsRuleOf, line_of}
-use Rattle.swreq_derive.proofs.LineLemmas.{get_take}
-use Rattle.swreq_correspondence.specs.Symbols.{AreOfText}
-use Rattle.swreq_lexicon.specs.Views.{IsName, IsProtocol, LexiconView}
+use Rattle.swreq_machine.proofs.swreq_lemmas.Elements.{contains_get, get_contains, get_map, get_of_map}
+use Rattle.swreq_machine.specs.swreq_param.declared.ids.ParamId.{ParamId}
+use Rattle.swreq_machine.specs.swreq_param.declared.ids.ProtoId.{ProtoId}
+use Rattle.swreq_machine.specs.swreq_param.declared.ids.NameId.{NameId}
+use Rattle.swreq_machine.specs.swreq_param.declared.ids.AssocId.{AssocId}
+use Rattle.swreq_machine.specs.swreq_param.Terms.{Term}
+use Rattle.swreq_machine.specs.swreq_derive.declared.lines.DerivRule.{DerivRule}
+use Rattle.swreq_machine.specs.swreq_derive.declared.lines.DerivRule.TheVariants as Rule
+use Rattle.swreq_machine.specs.swreq_derive.declared.lines.Line.{Line}
+use Rattle.swreq_machine.specs.swreq_derive.declared.requirements.Requirement.TheVariants.{Conf, Layout, Same}
+use Rattle.swreq_machine.specs.swreq_derive.declared.requirements.Statement.{Statement}
+use Rattle.swreq_machine.specs.swreq_derive.declared.requirements.Statement.TheVariants.{Holds, Valid}
+use Rattle.swreq_machine.specs.swreq_derive.Derivation.{Declares, TermFacts, TermRequirement, TermStatement}
+use Rattle.swreq_machine.specs.swreq_derive.Derivation.TermRequirement.{Conforms, Equals, IsAnyObject}
+use Rattle.swreq_machine.specs.swreq_derive.Derivation.TermStatement.{IsValid, Requires}
+use Rattle.swreq_machine.specs.swreq_derive.Facts.{IdFacts, IsStatementOver, statement_of}
+use Rattle.swreq_machine.specs.swreq_derive.Instances.{AreStated, HasNumber, IsDerivation, IsInstance, TermLine, statements_of}
+use Rattle.swreq_machine.specs.swreq_derive.Lines.{AreLinesOf, IsRuleOf, line_of}
+use Rattle.swreq_machine.proofs.swreq_derive.LineLemmas.{get_take}
+use Rattle.swreq_machine.specs.swreq_correspondence.Symbols.{AreOfText}
+use Rattle.swreq_machine.specs.swreq_lexicon.Views.{IsName, IsProtocol, LexiconView}
 use Rattle.swreq_lines.specs.LineTexts.{HasLineIds, HasRuleIds, HasStatementIds, fields_of}
 use Rattle.swreq_derivation.specs.UnderWay.{AreIdsIn}
-use Rattle.swreq_symbols.specs.Meaning.{symbols_of}
-use Rattle.swreq_symbols.proofs.Declared.{of_text}
-use Rattle.swreq_symbols.proofs.Symbols.{text_law}
-use Rattle.swreq_world.specs.Closed.{IsClosed}
-use Rattle.swreq_world.specs.FactsAt.{facts_of}
-use Rattle.swreq_world.specs.Worlds.{TextWorld}
+use Rattle.swreq_machine.specs.swreq_symbols.Meaning.{symbols_of}
+use Rattle.swreq_machine.proofs.swreq_symbols.Declared.{of_text}
+use Rattle.swreq_machine.proofs.swreq_symbols.Symbols.{text_law}
+use Rattle.swreq_machine.specs.swreq_world.Closed.{IsClosed}
+use Rattle.swreq_machine.specs.swreq_world.FactsAt.{facts_of}
+use Rattle.swreq_machine.specs.swreq_world.Worlds.{TextWorld}
 
 module _ (w : TextWorld) (closed : IsClosed w) (m : IdFacts) (protocols : m.protocols ≡ length w.lexicon.protocols)
     (names : m.names ≡ length w.lexicon.names)

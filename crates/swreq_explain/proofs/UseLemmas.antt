@@ -2,21 +2,21 @@
 use Rattle.std.proofs.Common.{◌≡◌, ◌∙◌, inl, inr, ℕ, zero, suc, ◌-◌, ◌<◌, ◌≤◌, ◌^◌, List, Some, ap, arith, length, map, slice_get, sym}
 use Rattle.std.proofs.lemmas.Bool.{cases_lt}
 use Rattle.std.proofs.lemmas.Option.{slice_get_within}
-use Rattle.swreq_lemmas.proofs.Elements.{get_map, there_is}
-use Rattle.swreq_word.specs.Relations.{Linked}
-use Rattle.swreq_rule.specs.declared.rules.Rule.{Rule}
-use Rattle.swreq_rule.specs.Steps.{Step}
-use Rattle.swreq_complete.specs.Alike.{ReduceAlike}
-use Rattle.swreq_complete.specs.Complete.{IsComplete}
-use Rattle.swreq_complete.specs.declared.limit.Limits.{Limits}
-use Rattle.swreq_correspondence.proofs.Shown.{usable_by_more}
-use Rattle.swreq_rounds.specs.Plan.{AreShown, AreShownByReduction, Item, Plan}
-use Rattle.swreq_valid.specs.Flags.{chosen}
-use Rattle.swreq_valid.specs.Rounds.{AreRounds, RoundView}
+use Rattle.swreq_machine.proofs.swreq_lemmas.Elements.{get_map, there_is}
+use Rattle.swreq_readings.specs.swreq_word.Relations.{Linked}
+use Rattle.swreq_machine.specs.swreq_rule.declared.rules.Rule.{Rule}
+use Rattle.swreq_machine.specs.swreq_rule.Steps.{Step}
+use Rattle.swreq_machine.specs.swreq_complete.Alike.{ReduceAlike}
+use Rattle.swreq_machine.specs.swreq_complete.Complete.{IsComplete}
+use Rattle.swreq_machine.specs.swreq_complete.declared.limit.Limits.{Limits}
+use Rattle.swreq_machine.proofs.swreq_correspondence.Shown.{usable_by_more}
+use Rattle.swreq_machine.specs.swreq_rounds.Plan.{AreShown, AreShownByReduction, Item, Plan}
+use Rattle.swreq_machine.specs.swreq_valid.Flags.{chosen}
+use Rattle.swreq_machine.specs.swreq_valid.Rounds.{AreRounds, RoundView}
 use Rattle.swreq_explain.specs.declared.numbered.Numbered.{Numbered}
 use Rattle.swreq_explain.specs.Uses.{Course, Uses, UsesFirst}
-use Rattle.swreq_complete.proofs.Alike.{linked_are_alike}
-use Rattle.swreq_valid.proofs.Flagged.{none_set}
+use Rattle.swreq_machine.proofs.swreq_complete.Alike.{linked_are_alike}
+use Rattle.swreq_machine.proofs.swreq_valid.Flagged.{none_set}
 use Rattle.swreq_explain.proofs.RoundLemmas.{ended_complete, left_at, more_holds, none_at_first, set_holds}
 
 -- The first round that uses a requirement comes no later than any round that uses it.

@@ -1,38 +1,49 @@
 -- The history of a machine.
-use Rattle.std.specs.Prelude.{◌≡◌, ◌<◌, ◌-◌, ◌^◌, [], List, None, length, map}
-use Rattle.swreq_param.specs.Terms.{Term}
-use Rattle.swreq_derive.specs.Facts.{generic_params}
-use Rattle.swreq_correspondence.specs.Symbols.{IsInText}
-use Rattle.swreq_complete.specs.Complete.{IsComplete}
-use Rattle.swreq_lowering.specs.declared.ids.FuncId.{FuncId}
-use Rattle.swreq_readings.specs.declared.alphabet.Named.{Named}
-use Rattle.swreq_rounds.specs.Given.{basic_equations}
-use Rattle.swreq_rounds.specs.Presents.{AreListRules}
+use Rattle.std.specs.Prelude.{◌≡◌, ◌↔◌, ◌<◌, ◌-◌, ◌^◌, ℕ, [], List, None, Option, Some, length, slice_get}
+use Rattle.swreq_machine.specs.swreq_param.declared.ids.ProtoId.{ProtoId}
+use Rattle.swreq_machine.specs.swreq_param.declared.ids.TermId.{TermId}
+use Rattle.swreq_machine.specs.swreq_param.Tables.{term_at}
+use Rattle.swreq_machine.specs.swreq_param.Terms.{Term, self}
+use Rattle.swreq_machine.specs.swreq_derive.declared.known.Params.{Params}
+use Rattle.swreq_machine.specs.swreq_derive.declared.requirements.Requirement.TheVariants.{Conf}
+use Rattle.swreq_machine.specs.swreq_derive.Facts.{generic_params}
+use Rattle.swreq_machine.specs.swreq_correspondence.Symbols.{IsInText}
+use Rattle.swreq_machine.specs.swreq_complete.Complete.{IsComplete}
+use Rattle.swreq_machine.specs.swreq_lowering.declared.ids.FuncId.{FuncId}
+use Rattle.swreq_readings.specs.declared.alphabet.Alphabet.{Alphabet}
+use Rattle.swreq_machine.specs.swreq_rounds.Given.{basic_equations}
+use Rattle.swreq_machine.specs.swreq_rounds.Presents.{AreListRules}
 use Rattle.swreq_derivation.specs.UnderWay.{Assumptions}
-use Rattle.swreq_symbols.specs.Meaning.{symbols_of}
+use Rattle.swreq_machine.specs.swreq_symbols.Meaning.{symbols_of}
 use Rattle.swreq_births.specs.declared.history.History.{History}
 use Rattle.swreq_births.specs.Systems.{AreSymbols, FitsHistory, IsHistory, rules_at, systems_of}
 use Rattle.swreq_machine.specs.Machines.{MachineView}
-use Rattle.swreq_valid.specs.Protocols.{ProtocolsView}
-use Rattle.swreq_valid.specs.Plans.{bare}
-use Rattle.swreq_valid.specs.Rounds.{RoundView, last_rules}
-use Rattle.swreq_world.specs.FactsAt.{facts_of, source_of, written_list}
-use Rattle.swreq_world.specs.Worlds.{IdWorld, TextWorld, signature_at}
-use Rattle.swreq_world.specs.ByTable.{world_by}
-use Rattle.swreq_explain.specs.declared.text_history.TextHistory.{TextHistory}
-use Rattle.swreq_explain.specs.TextAlphabet.{AreNamesOf, IsAlphabetOf, named_by}
+use Rattle.swreq_machine.specs.swreq_valid.Protocols.{ProtocolsView}
+use Rattle.swreq_machine.specs.swreq_valid.Plans.{bare}
+use Rattle.swreq_machine.specs.swreq_valid.Rounds.{RoundView, last_rules}
+use Rattle.swreq_machine.specs.swreq_world.FactsAt.{facts_of, source_of, written_list}
+use Rattle.swreq_machine.specs.swreq_world.Worlds.{IdWorld, TextWorld, requirements_of, signature_at}
+use Rattle.swreq_explain.specs.declared.history.TextHistory.{TextHistory}
 use Rattle.swreq_explain.specs.Numbering.{numbered_from, numbered_in}
 use Rattle.swreq_explain.specs.Rounds.{AreSystemsOf, Origin}
 
-abbrev pub members_in : IdWorld → List Named
-members_in w = map named_by w.lexicon.symbols
+-- It is the id of `Self` in each requirement `[T : Q]` of a protocol.
+abbrev pub IsSelfId : List Term → IdWorld → Option TermId → Type 0
+IsSelfId terms w s = (p : ProtoId) (k : ℕ) (t : TermId) (q : ProtoId) → slice_get (bare (requirements_of w p)) k ≡ Some (Conf t q)
+    → (term_at terms t ≡ self) ↔ (s ≡ Some t)
+
+-- Words are read by the world and by these generic parameters.
+pub record IsAlphabetOf (terms : List Term) (w : IdWorld) (params : Params) (g : Alphabet) : Type 0 where
+  pub world : g.world.now ≡ w
+  pub self_id : IsSelfId terms g.world.now g.self_id
+  pub params_are : g.params ≡ params
 
 -- The rounds of the protocols begin with no rules, and use the requirements of all protocols.
 abbrev pub protocols_origin : IdWorld → List RoundView → Origin
 protocols_origin w rounds = record {
   base = 0;
   below = 0;
-  members = members_in w;
+  members = w.lexicon.symbols;
   basic = basic_equations (symbols_of w.lexicon);
   course = record { all = numbered_in w w.lexicon.written_order; rounds = rounds; first = 0 };
 }
@@ -42,7 +53,7 @@ abbrev pub list_origin : IdWorld → FuncId → ProtocolsView → MachineView �
 list_origin w f p m = record {
   base = length (last_rules p.rounds);
   below = length p.rounds - 1;
-  members = members_in w;
+  members = w.lexicon.symbols;
   basic = [];
   course = record {
     all = numbered_from None 1 (bare (signature_at w f).requirements);
@@ -51,13 +62,13 @@ list_origin w f p m = record {
   };
 }
 
--- The names are those of the text, and the systems are those of the rounds of its protocols.
+-- It is of the world, with the id of `Self`, and the systems are those of the rounds of the protocols.
 pub record IsTextHistory (terms : List Term) (w : IdWorld) (p : ProtocolsView) (b : TextHistory) : Type 0 where
-  pub names : AreNamesOf (world_by terms w) b.names
+  pub world : b.world.now ≡ w
+  pub self_id : IsSelfId terms w b.self_id
   pub systems : AreSystemsOf (symbols_of w.lexicon) terms (protocols_origin w p.rounds) b.systems
 
--- The alphabet is that of the world, and the systems are those of the rounds of the protocols and of the machine. Each has a place of 64
--- bits.
+-- Words are read by the world, and the systems are those of the rounds of the protocols and of the machine. Each has a place of 64 bits.
 pub record IsHistoryOf (terms : List Term) (w : IdWorld) (f : FuncId) (p : ProtocolsView) (m : MachineView) (b : History) : Type 0 where
   pub alphabet : IsAlphabetOf terms w m.params b.alphabet
   pub few : length (systems_of b) < 2 ^ 64
@@ -74,9 +85,10 @@ assumptions_of w f = record {
   written = written_list (signature_at w f);
 }
 
--- It is a history, and its equations are of written requirements. Its last system has the rules of the signature's list, and they are
--- complete.
+-- The signature is of the world. This is a history, and its equations are of written requirements. Its last system has the rules of the
+-- signature's list, and they are complete.
 pub record IsHistoryFor (w : TextWorld) (f : FuncId) (b : History) : Type 0 where
+  pub signature : f.place < length w.signatures
   pub history : IsHistory b
   pub fits : FitsHistory b (assumptions_of w f)
   pub symbols : AreSymbols b.alphabet (symbols_of w.lexicon) (facts_of w)

@@ -3,6 +3,5 @@ pub mod Histories
 pub mod Numbering
 pub mod Rounds
 pub mod Stating
-pub mod TextAlphabet
 pub mod Uses
 pub mod Written

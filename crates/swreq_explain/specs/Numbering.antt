@@ -1,26 +1,26 @@
 -- Written requirements with their numbers, and the equations of those that a round uses.
 use Rattle.std.specs.Prelude.{◌≡◌, ℕ, suc, List, [], ◌∷◌, ◌++◌, Option, Some, None, Contains, slice_get}
-use Rattle.swreq_param.specs.declared.ids.ProtoId.{ProtoId}
-use Rattle.swreq_param.specs.Terms.{Term}
-use Rattle.swreq_derive.specs.declared.requirements.Requirement.{Requirement}
-use Rattle.swreq_derive.specs.Derivation.{Source, TermRequirement}
-use Rattle.swreq_derive.specs.Derivation.Source.{SelfOf, Written as WrittenList}
-use Rattle.swreq_derive.specs.Facts.{requirement_of}
-use Rattle.swreq_param.specs.declared.ids.ParamId.{ParamId}
-use Rattle.swreq_correspondence.specs.Symbols.{Symbols, Word, left_side, right_side}
-use Rattle.swreq_word.specs.declared.symbols.Symbol.TheVariants.{Member, Name, Proto}
-use Rattle.swreq_readings.specs.declared.alphabet.Named.{Named}
-use Rattle.swreq_lexicon.specs.Views.{LexiconView}
-use Rattle.swreq_rounds.specs.Plan.{Item}
-use Rattle.swreq_symbols.specs.Known.{IsRequirementIn}
-use Rattle.swreq_symbols.specs.Overs.{source_by}
+use Rattle.swreq_machine.specs.swreq_param.declared.ids.ProtoId.{ProtoId}
+use Rattle.swreq_machine.specs.swreq_param.Terms.{Term}
+use Rattle.swreq_machine.specs.swreq_derive.declared.requirements.Requirement.{Requirement}
+use Rattle.swreq_machine.specs.swreq_derive.Derivation.{Source, TermRequirement}
+use Rattle.swreq_machine.specs.swreq_derive.Derivation.Source.{SelfOf, Written as WrittenList}
+use Rattle.swreq_machine.specs.swreq_derive.Facts.{requirement_of}
+use Rattle.swreq_machine.specs.swreq_param.declared.ids.ParamId.{ParamId}
+use Rattle.swreq_machine.specs.swreq_correspondence.Symbols.{Symbols, Word, left_side, right_side}
+use Rattle.swreq_readings.specs.swreq_word.declared.symbols.Symbol.TheVariants.{Member, Name, Proto}
+use Rattle.swreq_machine.specs.swreq_lexicon.declared.pair.ProtocolName.{ProtocolName}
+use Rattle.swreq_machine.specs.swreq_lexicon.Views.{LexiconView}
+use Rattle.swreq_machine.specs.swreq_rounds.Plan.{Item}
+use Rattle.swreq_machine.specs.swreq_symbols.Known.{IsRequirementIn}
+use Rattle.swreq_machine.specs.swreq_symbols.Overs.{source_by}
 use Rattle.swreq_births.specs.declared.history.Equation.{Equation}
 use Rattle.swreq_births.specs.declared.history.OwnedRequirement.{OwnedRequirement}
 use Rattle.swreq_births.specs.declared.history.Reason.{Reason}
 use Rattle.swreq_births.specs.declared.history.Reason.TheVariants.{Doubled, Named as NamedBy, Required}
 use Rattle.swreq_births.specs.Systems.{requirement_by}
-use Rattle.swreq_valid.specs.Plans.{bare}
-use Rattle.swreq_world.specs.Worlds.{IdWorld, requirements_of}
+use Rattle.swreq_machine.specs.swreq_valid.Plans.{bare}
+use Rattle.swreq_machine.specs.swreq_world.Worlds.{IdWorld, requirements_of}
 use Rattle.swreq_explain.specs.declared.numbered.Numbered.{Numbered}
 use Rattle.swreq_explain.specs.Uses.{Course, IsShownBy}
 
@@ -55,14 +55,14 @@ abbrev pub sides_of : Equation → Word × Word
 sides_of e = (e.left, e.right)
 
 -- The equation is the basic one that its reason names.
-abbrev pub IsBasicBy : List Named → Reason → Word → Word → Type 0
+abbrev pub IsBasicBy : List ProtocolName → Reason → Word → Word → Type 0
 IsBasicBy members (Doubled p) left right = (left ≡ Proto p.rank ∷ Proto p.rank ∷ []) × (right ≡ Proto p.rank ∷ [])
 IsBasicBy members (NamedBy k) left right =
-    (n : Named) × (slice_get members k ≡ Some n) × (left ≡ Proto n.proto.rank ∷ Name n.name.rank ∷ []) × (right ≡ Member k ∷ [])
+    (n : ProtocolName) × (slice_get members k ≡ Some n) × (left ≡ Proto n.proto.rank ∷ Name n.name.rank ∷ []) × (right ≡ Member k ∷ [])
 IsBasicBy members (Required owner n q shown) left right = ⊥
 
 -- Each equation is a basic one.
-abbrev pub AreBasic : List Named → List Equation → Type 0
+abbrev pub AreBasic : List ProtocolName → List Equation → Type 0
 AreBasic members given = (k : ℕ) (e : Equation) → slice_get given k ≡ Some e → IsBasicBy members e.reason e.left e.right
 
 -- The reason is that the requirement is written, with this number, and that the rules of the system show its type parameters valid.

@@ -1,32 +1,45 @@
 -- The systems of rounds.
-use Rattle.std.specs.Prelude.{◌≡◌, ℕ, ◌<◌, ◌-◌, ◌^◌, List, ◌++◌, Some, length, map, slice_get}
-use Rattle.swreq_param.specs.Terms.{Term}
-use Rattle.swreq_correspondence.specs.Symbols.{Symbols, Word}
-use Rattle.swreq_readings.specs.declared.alphabet.Named.{Named}
+use Rattle.std.specs.Prelude.{◌≡◌, ℕ, ◌<◌, ◌-◌, ◌^◌, List, [], ◌++◌, Some, length, map, slice_get}
+use Rattle.std.specs.Bool.{if◌then◌else◌}
+use Rattle.swreq_machine.specs.swreq_param.Terms.{Term}
+use Rattle.swreq_machine.specs.swreq_correspondence.Symbols.{Symbols, Word}
+use Rattle.swreq_machine.specs.swreq_lexicon.declared.pair.ProtocolName.{ProtocolName}
 use Rattle.swreq_births.specs.declared.history.Equation.{Equation}
 use Rattle.swreq_births.specs.declared.history.System.{System}
-use Rattle.swreq_valid.specs.Flags.{chosen}
-use Rattle.swreq_valid.specs.Rounds.{RoundView}
+use Rattle.swreq_machine.specs.swreq_valid.Flags.{chosen}
+use Rattle.swreq_machine.specs.swreq_valid.Rounds.{RoundView}
 use Rattle.swreq_explain.specs.declared.numbered.Numbered.{Numbered}
-use Rattle.swreq_explain.specs.Numbering.{AreBasic, AreEquationsOf, sides_of}
-use Rattle.swreq_explain.specs.Uses.{Course}
+use Rattle.swreq_machine.specs.swreq_rounds.Given.{basic_equations}
+use Rattle.swreq_machine.specs.swreq_symbols.Known.{IsTextOver}
+use Rattle.swreq_machine.specs.swreq_symbols.Meaning.{symbols_of}
+use Rattle.swreq_explain.specs.declared.numbered.Makings.{Makings}
+use Rattle.swreq_explain.specs.Numbering.{AreBasic, AreEquationsOf, AreNumberedIn, sides_of}
+use Rattle.swreq_explain.specs.Uses.{Course, HaveFlags, course_of}
 
 -- What the systems of rounds are made from: how many rules the base has, the place of the system that has it, the basic equations, and the
 -- rounds with the requirements that they may use.
 pub record Origin : Type 0 where
   pub base : ℕ
   pub below : ℕ
-  pub members : List Named
+  pub members : List ProtocolName
   pub basic : List (Word × Word)
   pub course : Course
 
--- The base, the place of the system below, the rounds and the basic equations are those of the origin.
-pub record IsBegun (o : Origin) (base below : ℕ) (course : Course) (basic : List Equation) : Type 0 where
-  pub base_is : base ≡ o.base
-  pub below_is : below ≡ o.below
-  pub course_is : course ≡ o.course
-  pub sides : map sides_of basic ≡ o.basic
-  pub are_basic : AreBasic o.members basic
+-- what the systems of a text's rounds, or of a list's, are made from
+abbrev pub origin_of : Makings → Origin
+origin_of m = record {
+  base = m.base;
+  below = m.below;
+  members = m.world.now.lexicon.symbols;
+  basic = if m.basic then basic_equations (symbols_of m.world.now.lexicon) else [];
+  course = course_of m;
+}
+
+-- The requirements are of the text, and each round has a flag for each of them.
+pub record AreOfText (m : Makings) : Type 0 where
+  pub text : IsTextOver m.table.now m.world.now
+  pub all : AreNumberedIn m.table.now m.world.now.lexicon m.all.now
+  pub flags : HaveFlags (length m.all.now) m.rounds.now
 
 -- The equations are the basic ones, and then those of the requirements that the round k uses.
 pub record AreGiven (m : Symbols) (terms : List Term) (o : Origin) (k : ℕ) (used : List Numbered) (given : List Equation) : Type 0 where

@@ -1,19 +1,19 @@
 -- What a requirement of a list is stated from.
 use Rattle.std.specs.Prelude.{◌≡◌, ◌++◌, [], ◌∷◌, List, None}
-use Rattle.swreq_param.specs.Owned.{as_term}
-use Rattle.swreq_param.specs.Tables.{IsOf, term_at}
-use Rattle.swreq_param.specs.Terms.{Term}
-use Rattle.swreq_word.specs.declared.symbols.Symbol.{Symbol}
-use Rattle.swreq_rule.specs.declared.rules.Rule.{Rule}
-use Rattle.swreq_complete.specs.Alike.{ReduceAlike}
+use Rattle.swreq_machine.specs.swreq_param.Owned.{as_term}
+use Rattle.swreq_machine.specs.swreq_param.Tables.{IsOf, term_at}
+use Rattle.swreq_machine.specs.swreq_param.Terms.{Term}
+use Rattle.swreq_readings.specs.swreq_word.declared.symbols.Symbol.{Symbol}
+use Rattle.swreq_machine.specs.swreq_rule.declared.rules.Rule.{Rule}
+use Rattle.swreq_machine.specs.swreq_complete.Alike.{ReduceAlike}
 use Rattle.swreq_readings.specs.declared.alphabet.Alphabet.{Alphabet}
 use Rattle.swreq_readings.specs.Readable.{AllowsWord, read_word}
 use Rattle.swreq_derivation.specs.declared.derivation.Derivation.{Derivation}
 use Rattle.swreq_derivation.specs.UnderWay.{AreStatedEqual}
 use Rattle.swreq_births.specs.Systems.{HasSystem, IsShown, rules_at}
-use Rattle.swreq_explain.specs.declared.sides.RoundReader.{RoundReader}
-use Rattle.swreq_explain.specs.declared.sides.ReadAs.{ReadAs}
-use Rattle.swreq_explain.specs.declared.sides.WordOfType.{WordOfType}
+use Rattle.swreq_explain.specs.declared.validity.RoundReader.{RoundReader}
+use Rattle.swreq_explain.specs.declared.validity.ReadAs.{ReadAs}
+use Rattle.swreq_explain.specs.declared.validity.WordOfType.{WordOfType}
 
 abbrev pub alphabet_at : RoundReader → Alphabet
 alphabet_at d = d.history.now.alphabet

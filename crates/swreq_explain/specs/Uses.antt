@@ -1,7 +1,7 @@
 -- Which round uses a requirement first, and so which rules show its type parameters valid.
 use Rattle.std.specs.Prelude.{◌≡◌, ℕ, ◌+◌, ◌-◌, ◌<◌, ◌≤◌, true, List, Some, length, slice_get}
-use Rattle.swreq_valid.specs.Rounds.{RoundView}
-use Rattle.swreq_explain.specs.declared.first_use.Makings.{Makings}
+use Rattle.swreq_machine.specs.swreq_valid.Rounds.{RoundView}
+use Rattle.swreq_explain.specs.declared.numbered.Makings.{Makings}
 use Rattle.swreq_explain.specs.declared.numbered.Numbered.{Numbered}
 
 -- The rounds of a plan, the requirements that they may use, and the place of the system of the first round.

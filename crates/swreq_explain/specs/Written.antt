@@ -1,10 +1,10 @@
 -- Lines that are written by a history.
 use Rattle.std.specs.Prelude.{◌≡◌, ℕ, List, Some, map, slice_get}
-use Rattle.swreq_param.specs.Tables.{Extends}
-use Rattle.swreq_param.specs.Terms.{Term}
-use Rattle.swreq_derive.specs.declared.lines.Line.{Line}
-use Rattle.swreq_derive.specs.Facts.{IdFacts, generic_params, requirement_of, term_facts}
-use Rattle.swreq_derive.specs.Lines.{AreDerived}
+use Rattle.swreq_machine.specs.swreq_param.Tables.{Extends}
+use Rattle.swreq_machine.specs.swreq_param.Terms.{Term}
+use Rattle.swreq_machine.specs.swreq_derive.declared.lines.Line.{Line}
+use Rattle.swreq_machine.specs.swreq_derive.Facts.{IdFacts, generic_params, requirement_of, term_facts}
+use Rattle.swreq_machine.specs.swreq_derive.Lines.{AreDerived}
 use Rattle.swreq_derivation.specs.UnderWay.{AreIdsIn, Assumptions}
 use Rattle.swreq_births.specs.declared.history.History.{History}
 use Rattle.swreq_births.specs.Systems.{FitsHistory}

@@ -1,32 +1,24 @@
 //! The equations of rounds, with their reasons.
-ghost use Rattle.std.specs.Prelude.{◌≡◌, ◌+◌, ◌<◌, ◌^◌, ◌++◌, ◌∷◌, [], IfOk, List, OnOk, Some, length, map, slice_get};
-ghost use Rattle.std.specs.Bool.{if◌then◌else◌, nat_eq};
-ghost use Rattle.swreq_derive.specs.Facts.{requirement_of};
-ghost use Rattle.swreq_rounds.specs.Given as basics;
-ghost use Rattle.swreq_lowering.specs.ByTable.{HasIdsOf};
-ghost use Rattle.swreq_symbols.specs.Known.{IsRequirementIn, IsTextOver};
-ghost use Rattle.swreq_readings.specs.declared.alphabet.Named.{Named as NamedView};
-ghost use Rattle.swreq_symbols.specs.Meaning.{symbols_of};
-ghost use Rattle.swreq_births.specs.declared.history.Equation.{Equation as EquationView};
+ghost use Rattle.std.specs.{Prelude.{◌≡◌, ◌+◌, ◌<◌, ◌^◌, ◌++◌, ◌∷◌, [], IfOk, List, OnOk, Some, length, map, slice_get}, Bool.{if◌then◌else◌, nat_eq}};
+ghost use Rattle.swreq_machine.specs.swreq_derive.Facts.{requirement_of};
+ghost use Rattle.swreq_machine.specs.swreq_lowering.ByTable.{HasIdsOf};
+ghost use Rattle.swreq_machine.specs.swreq_symbols.{Known.{IsRequirementIn, IsTextOver}, Meaning.{symbols_of}};
+ghost use Rattle.swreq_machine.specs.swreq_lexicon.declared.pair.ProtocolName.{ProtocolName as PairView};
+ghost use Rattle.swreq_births.specs.{declared.history.Equation.{Equation as EquationView}, Systems.{requirement_by}};
+ghost use Rattle.swreq_machine.specs.swreq_valid.{Flags.{chosen}, Rounds.{RoundView}};
+ghost use Rattle.swreq_machine.specs.swreq_world.Closed.{AreIds};
+ghost use Rattle.swreq_explain.specs.{Numbering.{AreBasic, AreEquationsOf, IsEquationOf, sides_of}, Rounds.{AreOfText}, Uses.{course_of}};
+ghost use Rattle.swreq_machine.specs.swreq_rounds.Given as basics;
 ghost use Rattle.swreq_births.specs.declared.history.Reason.TheVariants as reasons;
-ghost use Rattle.swreq_births.specs.Systems.{requirement_by};
-ghost use Rattle.swreq_valid.specs.Flags.{chosen};
-ghost use Rattle.swreq_valid.specs.Rounds.{RoundView};
-ghost use Rattle.swreq_world.specs.Closed.{AreIds};
-ghost use Rattle.swreq_explain.specs.Histories.{members_in};
-ghost use Rattle.swreq_explain.specs.Numbering.{AreBasic, AreEquationsOf, AreNumberedIn, IsEquationOf, sides_of};
-ghost use Rattle.swreq_explain.specs.Uses.{HaveFlags, course_of};
 
-use crate::first_use::{Makings, shown_by};
-use crate::numbered::Numbered;
+use crate::numbered::{Makings, Numbered, shown_by};
 use std::alloc::{AllocError, Global};
 use swreq_births::{Equation, OwnedRequirement, Reason};
-use swreq_derive::Requirement;
-use swreq_param::{NameId, ParamTable, ProtoId};
-use swreq_readings::Named;
-use swreq_symbols::equation;
-use swreq_word::{Symbol, Word};
-use swreq_world::World;
+use swreq_machine::derive::Requirement;
+use swreq_machine::param::{NameId, ParamTable, ProtoId};
+use swreq_machine::symbols::equation;
+use swreq_machine::word::{Symbol, Word};
+use swreq_machine::world::World;
 
 /// The word of these symbols.
 fn word_of(alloc: Global, symbols: &[Symbol]) -> Result<Word, AllocError>
@@ -68,36 +60,28 @@ fn named(alloc: Global, p: ProtoId, a: NameId, rank: u64) -> Result<Equation, Al
     })
 }
 
-fn named_at(members: &[Named], rank: usize) -> Named
-    requires { rank < length members.now }
-    ensures { slice_get members.now rank ≡ Some result }
-{
-    members[rank]
-}
-
 /// Puts the equation of the member symbol last, if the symbol is one of the protocol.
 fn add_member(
     alloc: Global,
     world: &World,
-    members: &[Named],
     p: ProtoId,
-    rank: usize,
+    rank: u64,
     given: &mut Vec<Equation>,
 ) -> Result<(), AllocError>
-    requires members { members.now ≡ members_in world.now }
-    requires rank { rank < length members.now }
-    requires basic { AreBasic (members_in world.now) given.old.items }
-    ensures sides { OnOk result ((n : NamedView) → slice_get members.now rank ≡ Some n
+    requires rank { rank < length world.now.lexicon.symbols }
+    requires basic { AreBasic world.now.lexicon.symbols given.old.items }
+    ensures sides { OnOk result ((n : PairView)
+        → slice_get world.now.lexicon.symbols rank ≡ Some n
         → map sides_of given.new.items ≡ map sides_of given.old.items
         ++ (if nat_eq n.proto.rank p.rank
         then basics.named p (record { proto = n.proto; name = n.name }) rank ∷ [] else [])) }
-    ensures basic { OnOk result (AreBasic (members_in world.now) given.new.items) }
+    ensures basic { OnOk result (AreBasic world.now.lexicon.symbols given.new.items) }
 {
-    let member = named_at(members, rank);
+    let member = world.member_at(rank);
     if member.proto.rank != p.rank {
         return Ok(());
     }
-    let e = named(alloc, p, member.name, rank as u64)?;
+    let e = named(alloc, p, member.name, rank)?;
     given.push(e)?;
     Ok(())
 }
@@ -106,41 +90,33 @@ fn add_member(
 fn add_protocol(
     alloc: Global,
     world: &World,
-    members: &[Named],
     p: ProtoId,
     given: &mut Vec<Equation>,
 ) -> Result<(), AllocError>
-    requires members { members.now ≡ members_in world.now }
-    requires basic { AreBasic (members_in world.now) given.old.items }
-    ensures sides { OnOk result (map sides_of given.new.items
-        ≡ map sides_of given.old.items
-        ++ (basics.doubled p ∷ basics.named_from p 0 (symbols_of world.now.lexicon).members)) }
-    ensures basic { OnOk result (AreBasic (members_in world.now) given.new.items) }
+    requires { AreBasic world.now.lexicon.symbols given.old.items }
+    ensures sides { OnOk result (map sides_of given.new.items ≡ map sides_of given.old.items ++
+        (basics.doubled p ∷ basics.named_from p 0 (symbols_of world.now.lexicon).members)) }
+    ensures basic { OnOk result (AreBasic world.now.lexicon.symbols given.new.items) }
 {
     let e = doubled(alloc, p)?;
     given.push(e)?;
-    for rank in 0..members.len() {
-        add_member(alloc, world, members, p, rank, given)?;
+    for rank in 0..world.members() {
+        add_member(alloc, world, p, rank, given)?;
     }
     Ok(())
 }
 
 /// The basic equations: for each protocol, in written order, the equation of its symbol and then those of its member names.
-pub(crate) fn basic(
-    alloc: Global,
-    world: &World,
-    members: &[Named],
-) -> Result<Vec<Equation>, AllocError>
-    requires ids { AreIds world.now.lexicon }
-    requires members { members.now ≡ members_in world.now }
+pub(crate) fn basic(alloc: Global, world: &World) -> Result<Vec<Equation>, AllocError>
+    requires { AreIds world.now.lexicon }
     ensures sides { IfOk result
         (λ v. map sides_of v.items ≡ basics.basic_equations (symbols_of world.now.lexicon)) }
-    ensures basic { IfOk result (λ v. AreBasic (members_in world.now) v.items) }
+    ensures basic { IfOk result (λ v. AreBasic world.now.lexicon.symbols v.items) }
 {
     let mut given = Vec::new(alloc);
     for k in 0..world.protocols() {
         let p = world.proto_at(k);
-        add_protocol(alloc, world, members, p, &mut given)?;
+        add_protocol(alloc, world, p, &mut given)?;
     }
     Ok(given)
 }
@@ -203,9 +179,7 @@ pub(crate) fn add_used(
     round: usize,
     given: &mut Vec<Equation>,
 ) -> Result<(), AllocError>
-    requires text { IsTextOver makings.table.now makings.world.now }
-    requires all { AreNumberedIn makings.table.now makings.world.now.lexicon makings.all.now }
-    requires flags { HaveFlags (length makings.all.now) makings.rounds.now }
+    requires of_text { AreOfText makings }
     requires round { round < length makings.rounds.now }
     requires room { makings.first + round < 2 ^ 64 }
     ensures { OnOk result ((r : RoundView) → slice_get makings.entry.rounds.now round ≡ Some r

@@ -2,19 +2,15 @@
 //! of derivation, and the checker of derivations accepts them by themselves.
 #![tactic(auto)]
 
-mod alphabets;
 mod equations;
 mod explaining;
-mod first_use;
+mod history;
 mod numbered;
-mod sides;
+mod self_id;
 mod stating;
 mod systems;
-mod text_history;
 mod validity;
 mod writing;
 
-pub use alphabets::TextNames;
-pub use explaining::{explain, explain_by};
-pub use systems::history_of;
-pub use text_history::{TextHistory, text_history_of};
+pub use explaining::{derivation_of, explain, explain_by};
+pub use history::{TextHistory, history_of, text_history_of};

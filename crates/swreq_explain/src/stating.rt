@@ -1,22 +1,19 @@
 //! How requirements of a list are stated.
 ghost use Rattle.std.specs.Prelude.{◌≡◌, IfOk, None, OnOk};
-ghost use Rattle.swreq_param.specs.Owned.{as_term};
-ghost use Rattle.swreq_param.specs.Tables.{IsOf, term_at};
-ghost use Rattle.swreq_derive.specs.Derivation.TermRequirement.{Conforms, Equals, IsAnyObject};
-ghost use Rattle.swreq_derive.specs.Derivation.TermStatement.{Requires};
-ghost use Rattle.swreq_word.specs.declared.symbols.Symbol.TheVariants.{Layout, Proto};
-ghost use Rattle.swreq_complete.specs.Alike.{ReduceAlike};
+ghost use Rattle.swreq_machine.specs.swreq_param.{Owned.{as_term}, Tables.{IsOf, term_at}};
+ghost use Rattle.swreq_machine.specs.swreq_derive.{Derivation.TermRequirement.{Conforms, Equals, IsAnyObject}, Derivation.TermStatement.{Requires}};
+ghost use Rattle.swreq_readings.specs.swreq_word.declared.symbols.Symbol.TheVariants.{Layout, Proto};
+ghost use Rattle.swreq_machine.specs.swreq_complete.Alike.{ReduceAlike};
 ghost use Rattle.swreq_derivation.specs.UnderWay.{AreStatedEqual, ContinuesFrom, States};
 ghost use Rattle.swreq_births.specs.Systems.{FitsHistory, HasShownSides, requirement_by};
 ghost use Rattle.swreq_explain.specs.Stating.{IsReady, IsWordOf, Vanishes, alphabet_at, rules_of};
 
-use crate::sides::{RoundReader, WordOfType, read_side};
-use crate::validity::reflect;
+use crate::validity::{RoundReader, WordOfType, read_side, reflect};
 use std::alloc::AllocError;
 use swreq_births::{OwnedRequirement, conform_by_member, link};
 use swreq_derivation::{Derivation, add_same_conf, add_same_layout, add_symm, add_trans, are_one};
-use swreq_param::{ProtoId, TermId};
-use swreq_word::Symbol;
+use swreq_machine::param::{ProtoId, TermId};
+use swreq_machine::word::Symbol;
 
 /// States that the type parameter conforms to the protocol. The protocol's symbol vanishes after the word of the type parameter.
 pub(crate) fn state_conformance(
@@ -89,13 +86,13 @@ pub(crate) fn equate(
     requires left { IsWordOf reader left }
     requires right { IsWordOf reader right }
     requires alike { ReduceAlike (rules_of reader) right.word.now left.word.now }
-    ensures ids { IfOk result (λ r. IsOf derivation.new.table r.0 × IsOf derivation.new.table r.1) }
+    ensures ids { IfOk result (λ r. IsOf derivation.new.table r.0 × IsOf derivation.new.table
+        r.1) }
     ensures first { IfOk result
         (λ r. term_at derivation.new.table r.0 ≡ as_term left.entry.param.now) }
     ensures last { IfOk result (λ r. term_at derivation.new.table r.1
         ≡ as_term right.entry.param.now) }
-    ensures equal { OnOk result
-        (AreStatedEqual derivation.new (as_term left.entry.param.now)
+    ensures equal { OnOk result (AreStatedEqual derivation.new (as_term left.entry.param.now)
         (as_term right.entry.param.now)) }
     ensures continues { ContinuesFrom (FitsHistory reader.entry.history.now) derivation.old
         derivation.new }

@@ -1,24 +1,70 @@
-//! How it is stated that type parameters of a list are valid.
-ghost use Rattle.std.specs.Prelude.{◌≡◌, IfOk, MatchOption, OnOk};
-ghost use Rattle.swreq_param.specs.Tables.{IsOf, term_at};
-ghost use Rattle.swreq_param.specs.Owned.{as_term};
-ghost use Rattle.swreq_param.specs.Terms.Term.{Generic, Member};
-ghost use Rattle.swreq_derive.specs.Derivation.TermRequirement.{Equals};
-ghost use Rattle.swreq_derive.specs.Derivation.TermStatement.{IsValid, Requires};
-ghost use Rattle.swreq_derivation.specs.UnderWay.{AreStatedEqual, ContinuesFrom, States};
-ghost use Rattle.swreq_readings.specs.Readable.{IsGiven};
+//! Type parameters of a list, read in a derivation, and how it is stated that they are valid.
+ghost use Rattle.std.specs.Prelude.{IfOk, ◌≡◌, MatchOption, OnOk};
+ghost use Rattle.swreq_machine.specs.swreq_param.{Tables.{term_at, IsOf}, Owned.{as_term}, Terms.Term.{Generic, Member}};
+ghost use Rattle.swreq_derivation.specs.UnderWay.{ContinuesFrom, AreStatedEqual, States};
 ghost use Rattle.swreq_births.specs.Systems.{FitsHistory};
-ghost use Rattle.swreq_explain.specs.Stating.{IsReady, IsWordOf, alphabet_at};
+ghost use Rattle.swreq_explain.specs.Stating.{IsReadAt, IsReady, IsWordOf, alphabet_at};
+ghost use Rattle.swreq_machine.specs.swreq_derive.{Derivation.TermRequirement.{Equals}, Derivation.TermStatement.{IsValid, Requires}};
+ghost use Rattle.swreq_readings.specs.Readable.{IsGiven};
 
-use crate::sides::{ReadAs, RoundReader, WordOfType, read_side};
 use std::alloc::{AllocError, Global};
-use swreq_births::{ReadingPlace, declare};
+use swreq_births::{History, ReadingPlace, declare, read_type};
 use swreq_derivation::{
     Derivation, add_assoc_decl, add_assoc_name, add_generic, add_reflex, add_same_conf,
 };
-use swreq_param::{Step, TermId, TypeParam};
-use swreq_readings::Named;
+use swreq_machine::lexicon::ProtocolName;
+use swreq_machine::param::{Step, TermId, TypeParam};
+use swreq_machine::word::Symbol;
+use swreq_readings::read_word;
 use swreq_text::Seq;
+
+/// What requirements of a list are stated by: the rules of a system of the history. Words are read after `t`. Words of a list begin with
+/// generic parameters, so any type parameter will do for `t`.
+#[derive(Clone, Copy)]
+pub(crate) struct RoundReader<'a> {
+    pub alloc: Global,
+    pub history: &'a History<'a>,
+    pub system: usize,
+    pub t: TermId,
+}
+
+/// A type parameter of a requirement, with its word.
+#[derive(Clone, Copy)]
+pub(crate) struct WordOfType<'a> {
+    pub param: &'a TypeParam,
+    pub word: &'a [Symbol],
+}
+
+/// The id of a type parameter, and the id of the type parameter that its word is read as.
+#[derive(Clone, Copy)]
+pub(crate) struct ReadAs {
+    pub itself: TermId,
+    pub word: TermId,
+}
+
+/// States that the type parameter equals the one that its word is read as. Answers the ids of the two.
+pub(crate) fn read_side(
+    reader: RoundReader<'_>,
+    derivation: &mut Derivation,
+    side: WordOfType<'_>,
+) -> Result<ReadAs, AllocError>
+    requires ready { IsReady reader derivation.old }
+    requires side { IsWordOf reader side }
+    ensures read { IfOk result
+        (IsReadAt reader.entry side.entry
+        (term_at derivation.old.table reader.entry.t) derivation.new) }
+    ensures continues { ContinuesFrom (FitsHistory reader.entry.history.now) derivation.old
+        derivation.new }
+{
+    let scope = ReadingPlace {
+        system: reader.system,
+        owner: None,
+        for_self: reader.t,
+    };
+    let itself = read_type(reader.history, derivation, scope, side.param, side.word)?;
+    let word = read_word(&reader.history.alphabet, derivation, reader.t, side.word)?;
+    Ok(ReadAs { itself, word })
+}
 
 /// The type parameter without its last step, and that step, or None for a generic parameter.
 fn split(alloc: Global, t: &TypeParam) -> Result<Option<(TypeParam, Step)>, AllocError>
@@ -45,7 +91,7 @@ fn validate_member(
     derivation: &mut Derivation,
     base: ReadAs,
     step: Step,
-    named: Named,
+    named: ProtocolName,
 ) -> Result<TermId, AllocError>
     requires ready { IsReady reader derivation.old }
     requires ids { IsOf derivation.old.table base.itself × IsOf derivation.old.table base.word }
@@ -57,8 +103,8 @@ fn validate_member(
     ensures stands { IfOk result
         (λ v. term_at derivation.new.table v ≡ Member
         (term_at derivation.old.table base.itself) step) }
-    ensures says { OnOk result
-        (States derivation.new (IsValid (Member (term_at derivation.old.table base.itself) step))) }
+    ensures says { OnOk result (States derivation.new (IsValid (Member (term_at
+        derivation.old.table base.itself) step))) }
     ensures continues { ContinuesFrom (FitsHistory reader.entry.history.now) derivation.old
         derivation.new }
 {

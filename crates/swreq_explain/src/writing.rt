@@ -1,61 +1,28 @@
 //! The lines that state a requirement.
-ghost use Rattle.std.specs.Prelude.{◌≡◌, ◌<◌, ◌-◌, IfOk, None, OnOk, length};
-ghost use Rattle.swreq_param.specs.Tables.{Extends};
-ghost use Rattle.swreq_derive.specs.declared.requirements.Statement.TheVariants.{Holds};
-ghost use Rattle.swreq_derive.specs.Derivation.TermStatement.{Requires};
-ghost use Rattle.swreq_derive.specs.Facts.{IdFacts, requirement_of};
-ghost use Rattle.swreq_derive.specs.Lines.{AreDerived};
-ghost use Rattle.swreq_complete.specs.Alike.{ReduceAlike};
-ghost use Rattle.swreq_derivation.specs.UnderWay.{AllIn, AreIdsIn, ContinuesFrom, States};
-ghost use Rattle.swreq_derivation.specs.Needed.{EndIn};
+ghost use Rattle.std.specs.Prelude.{◌≡◌, ◌<◌, ◌-◌, IfOk, None, length};
+ghost use Rattle.swreq_machine.specs.swreq_param.Tables.{Extends};
+ghost use Rattle.swreq_machine.specs.swreq_derive.{declared.requirements.Statement.TheVariants.{Holds}, Derivation.TermStatement.{Requires}, Facts.{IdFacts, requirement_of}, Lines.{AreDerived}};
+ghost use Rattle.swreq_machine.specs.swreq_complete.Alike.{ReduceAlike};
+ghost use Rattle.swreq_derivation.specs.{UnderWay.{AllIn, AreIdsIn, ContinuesFrom, States}, Needed.{EndIn}};
 ghost use Rattle.swreq_births.specs.Systems.{FitsHistory, HasShownSides, IsHistory, requirement_by, rules_at, systems_of};
 ghost use Rattle.swreq_explain.specs.Written.{AreWritten};
 
-use crate::sides::RoundReader;
 use crate::stating::state_requirement;
+use crate::validity::RoundReader;
 use std::alloc::{AllocError, Global};
 use std::mem;
 use swreq_births::{History, OwnedRequirement, system_count};
 use swreq_derivation::{Derivation, needed};
-use swreq_derive::{Line, Requirement, Statement};
-use swreq_param::{ParamId, ParamTable};
-use swreq_word::Symbol;
-
-/// States the requirement of a list with these two sides. The rules of the last system reduce the sides to one word.
-fn write(
-    alloc: Global,
-    history: &History,
-    derivation: &mut Derivation,
-    r: &OwnedRequirement,
-    left: &[Symbol],
-    right: &[Symbol],
-) -> Result<(), AllocError>
-    requires history { IsHistory history.now × (0 < length (systems_of history.now)) }
-    requires sides { HasShownSides history.now.alphabet None
-        (rules_at history.now (length (systems_of history.now) - 1)) r.now left.now right.now }
-    requires alike { ReduceAlike (rules_at history.now
-        (length (systems_of history.now) - 1)) right.now left.now }
-    ensures says { OnOk result (States derivation.new (Requires (requirement_by r.now))) }
-    ensures continues { ContinuesFrom (FitsHistory history.now) derivation.old derivation.new }
-{
-    let system = system_count(history) - 1;
-    let t = derivation.param(ParamId { depth: 0, index: 0 })?;
-    let reader = RoundReader {
-        alloc,
-        history,
-        system,
-        t,
-    };
-    state_requirement(reader, derivation, r, left, right)
-}
+use swreq_machine::derive::{Line, Requirement, Statement};
+use swreq_machine::param::{ParamId, ParamTable};
+use swreq_machine::word::Symbol;
 
 /// The lines that the line that states the requirement needs, and this line last.
 fn finish(alloc: Global, derivation: &Derivation, r: Requirement) -> Result<Vec<Line>, AllocError>
     requires ids { AreIdsIn derivation.now.table (Holds r) }
     requires says { States derivation.now (Requires (requirement_of derivation.now.table r)) }
-    ensures derived { IfOk result
-        (λ v. (m : IdFacts) → AreDerived derivation.now.table m derivation.now.lines
-        → AreDerived derivation.now.table m v.items) }
+    ensures derived { IfOk result (λ v. (m : IdFacts) → AreDerived derivation.now.table m
+        derivation.now.lines → AreDerived derivation.now.table m v.items) }
     ensures last { IfOk result (λ v. EndIn v.items (Holds r)) }
     ensures ids { IfOk result (λ v. AllIn derivation.now.table v.items) }
 {
@@ -88,14 +55,21 @@ fn lines_on(
         sides.0.now sides.1.now }
     requires alike { ReduceAlike (rules_at history.now (length (systems_of history.now) - 1))
         sides.1.now sides.0.now }
-    ensures derived { IfOk result
-        (λ v. (m : IdFacts) → AreDerived derivation.new.table m derivation.new.lines
-        → AreDerived derivation.new.table m v.items) }
+    ensures derived { IfOk result (λ v. (m : IdFacts) → AreDerived derivation.new.table m
+        derivation.new.lines → AreDerived derivation.new.table m v.items) }
     ensures last { IfOk result (λ v. EndIn v.items (Holds r)) }
     ensures ids { IfOk result (λ v. AllIn derivation.new.table v.items) }
     ensures continues { ContinuesFrom (FitsHistory history.now) derivation.old derivation.new }
 {
-    write(alloc, history, derivation, by_itself, sides.0, sides.1)?;
+    let system = system_count(history) - 1;
+    let t = derivation.param(ParamId { depth: 0, index: 0 })?;
+    let reader = RoundReader {
+        alloc,
+        history,
+        system,
+        t,
+    };
+    state_requirement(reader, derivation, by_itself, sides.0, sides.1)?;
     let lines = finish(alloc, derivation, r)?;
     Ok(lines)
 }

@@ -1,7 +1,6 @@
 //! The lines of the generated text, one by one.
 
-ghost use Rattle.std.specs.Prelude.{◌≡◌, ◌+◌, ◌-◌, ◌<◌, ◌≤◌, ◌++◌, OnOk};
-ghost use Rattle.std.specs.Fmt.{decimal};
+ghost use Rattle.std.specs.{Prelude.{◌≡◌, ◌+◌, ◌-◌, ◌<◌, ◌≤◌, ◌++◌, OnOk}, Fmt.{decimal}};
 ghost use Rattle.swreq_gen.specs.Generated.{next_of, chain, dot, protocol_line, function_line, same_line, chain_line, member_line, query_lines, last_line};
 
 use std::alloc::AllocError;

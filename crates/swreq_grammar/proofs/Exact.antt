@@ -7,7 +7,8 @@ use Rattle.std.proofs.lemmas.List.{length-append}
 use Rattle.swreq_grammar.specs.Grammar.{Limit, unlimited, at_most, Grammar, terminal, empty, mapped, sequence, alternative, repetition, labelled, has, Within, Parts, Matches}
 use Rattle.swreq_grammar.specs.Reader.{begins, nullable, first_set, follow_last, disjoint, is_predictive, steps, read_parts, read}
 use Rattle.swreq_grammar.proofs.Sets.{not_in_disjoint, begins_split, nullable_of, first_of}
-use Rattle.swreq_grammar.proofs.Reading.{parts_stops, parts_goes, text_some}
+use Rattle.swreq_grammar.proofs.Reading.{text_some}
+use Rattle.swreq_grammar.proofs.Repeating.{goes, stops}
 
 module _ {T : Type 0} (number : T → ℕ) where
   begins_has : (firsts : List T) (t : Token T) (ts : List (Token T)) → has number firsts t.terminal ≡ true
@@ -55,7 +56,7 @@ module _ {T : Type 0} (number : T → ℕ) where
       Parts (Matches number g) pre vs → begins number (follow_last g) rest ≡ false → begins number (first_set g) rest ≡ false
       → Room limit m (length vs) (pre ++ rest) → read_parts number (read number g) (first_set g) limit m (pre ++ rest) ≡ Ok (vs, rest)
   many_complete g limit e a each [] m pre rest p b c r =
-      rw p (parts_stops number (Matches number g) (read number g) (first_set g) limit m rest c)
+      rw p (stops number (read number g) (first_set g) limit m rest c)
   many_complete g limit e a each (v ∷ vs) m pre rest p b c r =
       let whole : pre ++ rest ≡ p.0 ++ (p.1 ++ rest) = ap (λ (zs : List (Token T)). zs ++ rest) p.2 ∙ append_assoc p.0 p.1 rest in
       let room : Room limit m (suc (length vs)) (p.0 ++ (p.1 ++ rest)) = subst (λ zs. Room limit m (suc (length vs)) zs) whole r in
@@ -63,7 +64,7 @@ module _ {T : Type 0} (number : T → ℕ) where
       let now = each p.0 v (p.1 ++ rest) p.3 (apart_front (repetition unlimited g) (follow_last g) a p.1 rest vs (p.4, tt) (λ z. b)) in
       let later = many_complete g limit e a each vs k.0 p.1 rest p.4 b c k.2 in
       ap (read_parts number (read number g) (first_set g) limit m) whole
-      ∙ parts_goes number (Matches number g) (read number g) (first_set g) limit m k.0 (p.0 ++ (p.1 ++ rest)) k.1
+      ∙ goes number (read number g) (first_set g) limit m k.0 (p.0 ++ (p.1 ++ rest)) k.1
       (front_begins g e p.0 (p.1 ++ rest) v p.3)
       ∙ rw (now, later) refl
 

@@ -9,7 +9,8 @@ use Rattle.swreq_grammar.specs.Reader.{Fault, begins, nullable, first_set, follo
 use Rattle.swreq_grammar.specs.Refusal.{HasLabel, begins_labelled, is_well_labelled}
 use Rattle.swreq_grammar.proofs.Sets.{not_in_disjoint, ends_front, nullable_of, first_of, first_step, first_parts, more_left, more_right}
 use Rattle.swreq_grammar.proofs.Beginning.{text_begins, begins_no_text}
-use Rattle.swreq_grammar.proofs.Reading.{text_some, parts_goes, parts_long}
+use Rattle.swreq_grammar.proofs.Reading.{text_some, parts_long}
+use Rattle.swreq_grammar.proofs.Repeating.{goes}
 use Rattle.swreq_grammar.proofs.Exact.{apart_front, front_begins, longer, complete, Complete}
 
 module _ {T L : Type 0} (number : T → ℕ) (label : L) (rest : List (Token T)) where
@@ -116,7 +117,7 @@ module _ {T L : Type 0} (number : T → ℕ) (label : L) (rest : List (Token T))
       (λ y. begins_disjoint (follow_last g) (first_set g) tail a b)) in
       let later = parts_before g limit e a each vs k p.1 tail f p.4 b r in
       ap (read_parts number (read number g) (first_set g) limit (length (v ∷ vs) + k)) whole
-      ∙ parts_goes number (Matches number g) (read number g) (first_set g) limit (length (v ∷ vs) + k) (length vs + k)
+      ∙ goes number (read number g) (first_set g) limit (length (v ∷ vs) + k) (length vs + k)
       (p.0 ++ (p.1 ++ tail)) z (front_begins number g e p.0 (p.1 ++ tail) v p.3)
       ∙ rw (now, later) refl
 
@@ -177,8 +178,8 @@ module _ {T L : Type 0} (number : T → ℕ) (label : L) (rest : List (Token T))
       let b = label_begins g a.0 (not-true (begins_labelled g) c.1) k.1 k.5 in
       let whole : pre ++ rest ≡ k.0 ++ (k.1 ++ rest) = ap (λ (zs : List (Token T)). zs ++ rest) k.3 ∙ append_assoc k.0 k.1 rest in
       let n = steps_on limit k.2 k.0 k.1 (parts_shorter g some k.2 k.0 k.4) (first_set g) b k.6 in
-      let now : read_parts number (read number g) (first_set g) limit (suc n.0) (k.1 ++ rest) ≡ Err (rest, Some label) = parts_goes number
-      (Matches number g) (read number g) (first_set g) limit (suc n.0) n.0 (k.1 ++ rest) refl b ∙ rw (label_read g a.0 c.0 k.1 k.5) refl in
+      let now : read_parts number (read number g) (first_set g) limit (suc n.0) (k.1 ++ rest) ≡ Err (rest, Some label) = goes number
+      (read number g) (first_set g) limit (suc n.0) n.0 (k.1 ++ rest) refl b ∙ rw (label_read g a.0 c.0 k.1 k.5) refl in
       ap (read number (repetition limit g)) whole
       ∙ rw n.1 (parts_before g limit some r.1 (complete number g a.0) k.2 (suc n.0) k.0 (k.1 ++ rest) (rest, Some label) k.4 b now)
   label_read (repetition unlimited g) p q pre (inr k) = absurd k.2

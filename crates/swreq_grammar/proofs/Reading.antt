@@ -7,6 +7,7 @@ use Rattle.std.proofs.lemmas.List.{append-nil, length-append}
 use Rattle.swreq_grammar.specs.Grammar.{Limit, unlimited, at_most, Grammar, terminal, empty, mapped, sequence, alternative, repetition, labelled, has, Within, Parts, Matches}
 use Rattle.swreq_grammar.specs.Reader.{Read, ◌>>=◌, begins, nullable, first_set, follow_last, disjoint, is_predictive, read_terminal, steps, read_parts, read}
 use Rattle.swreq_grammar.specs.Refusal.{Viable}
+use Rattle.swreq_grammar.proofs.Repeating.{goes, stops}
 use Rattle.swreq_grammar.proofs.Sets.{nullable_of, text_of}
 
 -- ---- what the reader finds, and what it looks at
@@ -109,29 +110,17 @@ module _ {T : Type 0} (number : T → ℕ) where
   shorter t p q more = omega (arith, length-append p (q ++ more), ap length (append_assoc p q more))
 
   module _ {L A : Type 0} (G : List (Token T) → A → Type 0) (R : List (Token T) → Read T L A) (firsts : List T) where
-    pub parts_stops : (limit : Limit L) (m : ℕ) (ts : List (Token T)) → begins number firsts ts ≡ false
-        → read_parts number R firsts limit m ts ≡ Ok ([], ts)
-    unfolding read_parts
-    parts_stops unlimited zero ts e = refl
-    parts_stops (at_most l label) zero ts e = rw e refl
-    parts_stops limit (suc m) ts e = rw e refl
-
     pub parts_long : (l m : ℕ) (label : L) (ts : List (Token T)) → m ≡ 0 → begins number firsts ts ≡ true
         → read_parts number R firsts (at_most l label) m ts ≡ Err (ts, Some label)
     unfolding read_parts
     parts_long l m label ts z e = rw (z, e) refl
-
-    pub parts_goes : (limit : Limit L) (m k : ℕ) (ts : List (Token T)) → m ≡ suc k → begins number firsts ts ≡ true
-        → read_parts number R firsts limit m ts ≡ (R ts >>= λ x. read_parts number R firsts limit k x.1 >>= λ y. Ok (x.0 ∷ y.0, y.1))
-    unfolding read_parts
-    parts_goes limit m k ts z e = rw (z, e) refl
 
     parts_on : (limit : Limit L) (m k : ℕ) (t : Token T) (p q more : List (Token T)) (v : A) (r : Read T L (List A)) → m ≡ suc k
         → has number firsts t.terminal ≡ true → R ((t ∷ p) ++ (q ++ more)) ≡ Ok (v, q ++ more) →
         read_parts number R firsts limit k (q ++ more) ≡ r
         → read_parts number R firsts limit m (((t ∷ p) ++ q) ++ more) ≡ (r >>= λ y. Ok (v ∷ y.0, y.1))
     parts_on limit m k t p q more v r z h e f =
-        parts_goes limit m k (((t ∷ p) ++ q) ++ more) z h ∙ rw (append_assoc (t ∷ p) q more, e, f) refl
+        goes number R firsts limit m k (((t ∷ p) ++ q) ++ more) z h ∙ rw (append_assoc (t ∷ p) q more, e, f) refl
 
     fuel_some : (limit : Limit L) (n m : ℕ) (ts : List (Token T)) → begins number firsts ts ≡ true
         → Fuel limit (suc n) m ts → (k : ℕ) × (m ≡ suc k)
@@ -150,7 +139,7 @@ module _ {T : Type 0} (number : T → ℕ) where
 
     parts_stop : (limit : Limit L) (n : ℕ) (ts : List (Token T)) → begins number firsts ts ≡ false → ShowsParts limit n ts (Ok ([], ts))
     parts_stop limit n ts e =
-        ([], refl, refl, bound_none limit n, λ more m al f. parts_stops limit m more (alike_begins firsts ts more al ∙ e))
+        ([], refl, refl, bound_none limit n, λ more m al f. stops number R firsts limit m more (alike_begins firsts ts more al ∙ e))
 
     parts_last : (limit : Limit L) (ts : List (Token T)) → Enough limit 0 ts → (b : Bool) → begins number firsts ts ≡ b
         → ShowsParts limit 0 ts (read_parts number R firsts limit 0 ts)
@@ -214,7 +203,7 @@ module _ {T : Type 0} (number : T → ℕ) where
         let al2 : Alike ts (s.0 ++ more) = rw s.1 (alike_append s.0 f.0 more al) in
         let b2 = alike_begins firsts ts (s.0 ++ more) al2 ∙ b in
         let k = fuel_some limit n m (s.0 ++ more) b2 fu in
-        parts_goes limit m k.0 (s.0 ++ more) k.1 b2 ∙ rw (s.3 more al) refl in
+        goes number R firsts limit m k.0 (s.0 ++ more) k.1 b2 ∙ rw (s.3 more al) refl in
         (s.0, s.1, (s.2.0, s.2.1 ∷ [], (s.0 ++ s.2.0, [], sym (append-nil (s.0 ++ s.2.0)), s.2.2, refl), bound_one limit n), local)
 
     parts_go : (limit : Limit L) (n : ℕ) (ts : List (Token T)) → Enough limit (suc n) ts → ((v : A) → G [] v → ⊥) → (b : Bool)
@@ -222,8 +211,9 @@ module _ {T : Type 0} (number : T → ℕ) where
         Shows G R ts (R ts)
         → ((rest : List (Token T)) → Enough limit n rest → ShowsParts limit n rest (read_parts number R firsts limit n rest))
         → ShowsParts limit (suc n) ts (read_parts number R firsts limit (suc n) ts)
-    parts_go limit n ts en some true e s next = rw (parts_goes limit (suc n) n ts refl e) (parts_first limit n ts e en some (R ts) s next)
-    parts_go limit n ts en some false e s next = rw (parts_stops limit (suc n) ts e) (parts_stop limit (suc n) ts e)
+    parts_go limit n ts en some true e s next =
+        rw (goes number R firsts limit (suc n) n ts refl e) (parts_first limit n ts e en some (R ts) s next)
+    parts_go limit n ts en some false e s next = rw (stops number R firsts limit (suc n) ts e) (parts_stop limit (suc n) ts e)
 
     pub parts_show : (limit : Limit L) → ((v : A) → G [] v → ⊥) → ((ts : List (Token T)) → Shows G R ts (R ts))
         → (n : ℕ) (ts : List (Token T)) → Enough limit n ts → ShowsParts limit n ts (read_parts number R firsts limit n ts)

@@ -18,17 +18,17 @@ front_grows front v (Ok x) = ap (λ vs. Ok (vs, x.1)) (simp append_assoc)
 front_grows front v (Err f) = refl
 
 module _ {T L A : Type 0} (number : T → ℕ) (R : List (Token T) → Read T L A) (firsts : List T) where
-  stops : (limit : Limit L) (n : ℕ) (ts : List (Token T)) → begins number firsts ts ≡ false
+  pub stops : (limit : Limit L) (n : ℕ) (ts : List (Token T)) → begins number firsts ts ≡ false
       → read_parts number R firsts limit n ts ≡ Ok ([], ts)
   unfolding read_parts
   stops unlimited zero ts e = refl
   stops (at_most l label) zero ts e = rw e refl
   stops limit (suc n) ts e = rw e refl
 
-  goes : (limit : Limit L) (n : ℕ) (ts : List (Token T)) → begins number firsts ts ≡ true
-      → read_parts number R firsts limit (suc n) ts ≡ (R ts >>= λ x. read_parts number R firsts limit n x.1 >>= λ y. Ok (x.0 ∷ y.0, y.1))
+  pub goes : (limit : Limit L) (m n : ℕ) (ts : List (Token T)) → m ≡ suc n → begins number firsts ts ≡ true
+      → read_parts number R firsts limit m ts ≡ (R ts >>= λ x. read_parts number R firsts limit n x.1 >>= λ y. Ok (x.0 ∷ y.0, y.1))
   unfolding read_parts
-  goes limit n ts e = rw e refl
+  goes limit m n ts z e = rw (z, e) refl
 
   -- one part more is read
   pub part_read : (limit : Limit L) (k n : ℕ) (front : List A) (ts : List (Token T)) (v : A) (rest : List (Token T))
@@ -37,14 +37,14 @@ module _ {T L A : Type 0} (number : T → ℕ) (R : List (Token T) → Read T L 
       → with_front (front ++ v ∷ []) (read_parts number R firsts limit n rest) ≡ total
   part_read limit k n front ts v rest total z b e so_far =
       let one : read_parts number R firsts limit k ts ≡ (read_parts number R firsts limit n rest >>= λ y. Ok (v ∷ y.0, y.1)) =
-      rw z (goes limit n ts b ∙ rw e refl) in
+      goes limit k n ts z b ∙ rw e refl in
       sym (rw one (front_grows front v (read_parts number R firsts limit n rest))) ∙ so_far
 
   -- a part is refused
   pub part_fails : (limit : Limit L) (k n : ℕ) (front : List A) (ts : List (Token T)) (e : Stop T L) (total : Read T L (List A)) → k ≡ suc n
       → begins number firsts ts ≡ true → Fails e (R ts) → with_front front (read_parts number R firsts limit k ts) ≡ total → Fails e total
   part_fails limit k n front ts Memory total z b e so_far = tt
-  part_fails limit k n front ts (Refused rest label) total z b e so_far = sym so_far ∙ rw z (rw (goes limit n ts b, e) refl)
+  part_fails limit k n front ts (Refused rest label) total z b e so_far = sym so_far ∙ rw (goes limit k n ts z b, e) refl
 
   -- no part begins
   pub no_part : (limit : Limit L) (n : ℕ) (front : List A) (ts : List (Token T)) (total : Read T L (List A))

@@ -1,10 +1,7 @@
 //! The laws of grammars and of their reader with one token ahead.
 
 ghost use Rattle.std.specs.Prelude.{◌≡◌, ◌++◌, ℕ, List, Result, Ok, Err, true};
-ghost use Rattle.swreq_grammar.specs.declared.token.Token.{Token};
-ghost use Rattle.swreq_grammar.specs.Grammar.{Grammar, Matches};
-ghost use Rattle.swreq_grammar.specs.Refusal.{RefusedAt, Refuses, Viable, is_well_labelled};
-ghost use Rattle.swreq_grammar.specs.Reader.{Fault, is_predictive, read_whole};
+ghost use Rattle.swreq_grammar.specs.{declared.token.Token.{Token}, Grammar.{Grammar, Matches}, Refusal.{RefusedAt, Refuses, Viable, is_well_labelled}, Reader.{Fault, is_predictive, read_whole}};
 
 /// The grammar that the laws are about.
 pub trait Language {

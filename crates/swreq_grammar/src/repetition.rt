@@ -1,10 +1,7 @@
 //! Reading the parts of a repetition, one after another.
 
 ghost use Rattle.std.specs.Prelude.{◌≡◌, ℕ, List, length};
-ghost use Rattle.swreq_grammar.specs.declared.token.Token.{Token};
-ghost use Rattle.swreq_grammar.specs.Grammar.{unlimited, at_most};
-ghost use Rattle.swreq_grammar.specs.Reader.{Read, begins, read_parts};
-ghost use Rattle.swreq_grammar.specs.Gives.{Gives};
+ghost use Rattle.swreq_grammar.specs.{declared.token.Token.{Token}, Grammar.{unlimited, at_most}, Reader.{Read, begins, read_parts}, Gives.{Gives}};
 
 use crate::stop::Stop;
 use crate::token::Token;

@@ -2,8 +2,8 @@
 use Rattle.std.proofs.Common.{◌≡◌, ◌≢◌, ℕ, zero, suc, ◌+◌, ◌-◌, inl, inr, refl, sym, ap, subst, arith, Bool, true, false, List, [], ◌∷◌, ◌++◌, length, length-drop, take, drop, Some}
 use Rattle.std.specs.List.{slice_get}
 use Rattle.std.proofs.Math.Seq.{take-append_seam, take-length}
-use Rattle.swreq_word.specs.declared.symbols.Symbol.{Symbol}
-use Rattle.swreq_lemmas.proofs.Elements.{get_either}
+use Rattle.swreq_rule.specs.swreq_word.declared.symbols.Symbol.{Symbol}
+use Rattle.swreq_rule.proofs.swreq_lemmas.Elements.{get_either}
 use Rattle.swreq_path.specs.declared.steps.RewriteStep.{RewriteStep}
 use Rattle.swreq_path.specs.declared.paths.Loop.{Loop}
 use Rattle.swreq_path.specs.Inverse.{inverse_step, inverse}

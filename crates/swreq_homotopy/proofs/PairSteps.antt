@@ -1,8 +1,8 @@
 -- Steps of a path at the places of both rules of a pair.
 use Rattle.std.proofs.Common.{◌≡◌, ℕ, ◌≤◌, inl, inr, sym, ◌∙◌, ap, subst, arith, not, List, ◌++◌, length}
 use Rattle.std.proofs.lemmas.List.{append_cancel_left}
-use Rattle.swreq_word.specs.declared.symbols.Symbol.{Symbol}
-use Rattle.swreq_word.proofs.Cuts.{same_cut}
+use Rattle.swreq_rule.specs.swreq_word.declared.symbols.Symbol.{Symbol}
+use Rattle.swreq_rule.proofs.swreq_word.Cuts.{same_cut}
 use Rattle.swreq_rule.specs.declared.rules.Rule.{Rule}
 use Rattle.swreq_rule.specs.declared.rules.Place.{Place}
 use Rattle.swreq_rule.specs.Steps.{RuleAt}

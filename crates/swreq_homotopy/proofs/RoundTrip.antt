@@ -2,7 +2,7 @@
 use Rattle.std.proofs.Common.{◌≡◌, ℕ, suc, refl, sym, ◌∙◌, ap, subst, subst₂, Bool, true, false, List, [], ◌∷◌, ◌++◌, append-nil, length, take, drop, get_or, Some}
 use Rattle.std.specs.List.{slice_get}
 use Rattle.std.proofs.lemmas.Option.{slice_get_within, slice_get_read}
-use Rattle.swreq_word.specs.declared.symbols.Symbol.{Symbol}
+use Rattle.swreq_rule.specs.swreq_word.declared.symbols.Symbol.{Symbol}
 use Rattle.swreq_rule.specs.declared.rules.Rule.{Rule}
 use Rattle.swreq_rule.specs.Steps.{RuleAt}
 use Rattle.swreq_rule.proofs.Numbers.{one_rule}

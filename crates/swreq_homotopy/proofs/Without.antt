@@ -1,10 +1,10 @@
 -- Evidence links the two sides of its rule without the rule.
 use Rattle.std.proofs.Common.{◌≢◌, ℕ, ◌+◌, subst, Bool, List}
-use Rattle.swreq_word.specs.declared.symbols.Symbol.{Symbol}
-use Rattle.swreq_word.specs.Relations.{Linked}
-use Rattle.swreq_word.specs.Relations.Linked.{here, forth}
-use Rattle.swreq_word.specs.Replacement.{Replaced}
-use Rattle.swreq_word.proofs.Congruence.{Replaced-whole, congruent_in_place}
+use Rattle.swreq_rule.specs.swreq_word.declared.symbols.Symbol.{Symbol}
+use Rattle.swreq_rule.specs.swreq_word.Relations.{Linked}
+use Rattle.swreq_rule.specs.swreq_word.Relations.Linked.{here, forth}
+use Rattle.swreq_rule.specs.swreq_word.Replacement.{Replaced}
+use Rattle.swreq_rule.proofs.swreq_word.Congruence.{Replaced-whole, congruent_in_place}
 use Rattle.swreq_rule.specs.declared.rules.Rule.{Rule}
 use Rattle.swreq_rule.specs.Steps.{RuleAt}
 use Rattle.swreq_rule.proofs.Context.{Linked-in-place}

@@ -1,8 +1,8 @@
 -- What evidence is good for: the two sides of its rule are linked without the rule.
 use Rattle.std.specs.Prelude.{◌≡◌, ◌≢◌, ℕ, Bool, List, slice_get, Some}
-use Rattle.swreq_word.specs.declared.symbols.Symbol.{Symbol}
-use Rattle.swreq_word.specs.Relations.{Linked}
-use Rattle.swreq_word.specs.Replacement.{Congruent}
+use Rattle.swreq_rule.specs.swreq_word.declared.symbols.Symbol.{Symbol}
+use Rattle.swreq_rule.specs.swreq_word.Relations.{Linked}
+use Rattle.swreq_rule.specs.swreq_word.Replacement.{Congruent}
 use Rattle.swreq_rule.specs.declared.rules.Rule.{Rule}
 use Rattle.swreq_rule.specs.Steps.{RuleAt, Step}
 use Rattle.swreq_homotopy.specs.declared.around.Evidence.{Evidence}

@@ -1,18 +1,16 @@
 //! The loop that leads from the word of a pair through its one side and back through the other.
 
 ghost use Rattle.std.specs.Prelude.{◌≡◌, ◌-◌, ◌<◌, ◌^◌, List, length, ⊤, IfOk, MatchOption};
-ghost use Rattle.swreq_word.specs.declared.symbols.Symbol.{Symbol};
-ghost use Rattle.swreq_pair.specs.Pairs.{HasPair};
-ghost use Rattle.swreq_pair.specs.PairWords.{IsPairWord};
-ghost use Rattle.swreq_path.specs.Paths.{HasTarget, IsLoop};
-ghost use Rattle.swreq_path.specs.Reductions.{IsRedex};
+ghost use Rattle.swreq_rule.specs.swreq_word.declared.symbols.Symbol.{Symbol};
+ghost use Rattle.swreq_pair.specs.{Pairs.{HasPair}, PairWords.{IsPairWord}};
+ghost use Rattle.swreq_path.specs.{Paths.{HasTarget, IsLoop}, Reductions.{IsRedex}};
 ghost use Rattle.swreq_homotopy.specs.Loops.{IsLoopOfPair, ReducesThrough, SidesReduceToOne};
 
 use std::alloc::{AllocError, Global};
 use swreq_path::{Loop, Path, append_copies, compose, invert, path_of, step_at};
+use swreq_rule::word::{Symbol, Word, are_same};
 use swreq_rule::{Place, Redex, Rule};
 use swreq_text::Seq;
-use swreq_word::{Symbol, Word, are_same};
 
 // The word of the pair.
 fn pair_word(alloc: Global, rules: &[Rule], place: Place) -> Result<Vec<Symbol>, AllocError>

@@ -1,10 +1,8 @@
 //! The search for a rule that a loop shows.
 
-ghost use Rattle.std.specs.Prelude.{◌≡◌, ℕ, ◌<◌, length, IfOk, MatchOption};
-ghost use Rattle.std.specs.Bool.{Decides};
+ghost use Rattle.std.specs.{Prelude.{◌≡◌, ℕ, ◌<◌, length, IfOk, MatchOption}, Bool.{Decides}};
 ghost use Rattle.swreq_path.specs.Paths.{IsLoop};
-ghost use Rattle.swreq_homotopy.specs.Evidence.{AreLoops, AreOfOthers, DoesWithout, IsEvidence, IsMarked, NoneShown, Shows};
-ghost use Rattle.swreq_homotopy.specs.Search.{NoneShows, ShowsAt};
+ghost use Rattle.swreq_homotopy.specs.{Evidence.{AreLoops, AreOfOthers, DoesWithout, IsEvidence, IsMarked, NoneShown, Shows}, Search.{NoneShows, ShowsAt}};
 
 use crate::Evidence;
 use crate::around::round_from;

@@ -1,5 +1,5 @@
 -- Members of lists: of short lists, of a list with one more member, and of a list with a function applied to each.
-use Rattle.std.proofs.Common.{◌≡◌, ◌⊎◌, inl, inr, ℕ, zero, suc, ◌<◌, Bool, true, false, List, [], ◌∷◌, Contains, get_or, length, map, refl, sym, subst, arith, true≢false}
+use Rattle.std.proofs.Common.{◌≡◌, ◌⊎◌, inl, inr, ℕ, zero, suc, ◌<◌, Bool, true, false, List, [], ◌∷◌, ◌++◌, Contains, get_or, length, map, refl, sym, subst, arith, true≢false}
 use Rattle.std.specs.Bool.{if◌then◌else◌}
 use Rattle.std.specs.List.{AllByRecursion}
 
@@ -34,6 +34,10 @@ each_member P (x ∷ xs) e y h = elim (member_cases x y xs h) [ inl i ↦ subst 
 pub each_by_recursion : {X : Type 0} (P : X → Type 0) (xs : List X) → ((x : X) → Contains xs x → P x) → AllByRecursion P xs
 each_by_recursion P [] h = tt
 each_by_recursion P (x ∷ xs) h = (h x (first_member x xs), each_by_recursion P xs (λ y c. h y (later_member x y xs c)))
+
+pub each_append : {X : Type 0} (P : X → Type 0) (xs ys : List X) → AllByRecursion P xs → AllByRecursion P ys → AllByRecursion P (xs ++ ys)
+each_append P [] ys h k = k
+each_append P (x ∷ xs) ys h k = (h.0, each_append P xs ys h.1 k)
 
 -- ---- a function applied to each
 

@@ -1,10 +1,7 @@
 //! The characters of a text, from the front.
 
-ghost use Rattle.std.specs.Prelude.{◌≡◌, ◌+◌, ◌≤◌, ◌∷◌, [], length, MatchOption, IfSome};
-ghost use Rattle.std.specs.Str.{chars};
-ghost use Rattle.std.specs.Char.{len_utf8};
-ghost use Rattle.swreq_lex.specs.Characters.{is_white_space};
-ghost use Rattle.swreq_lex.specs.Tokens.{after_byte_order_mark};
+ghost use Rattle.std.specs.{Prelude.{◌≡◌, ◌+◌, ◌≤◌, ◌∷◌, [], length, MatchOption, IfSome}, Str.{chars}, Char.{len_utf8}};
+ghost use Rattle.swreq_lex.specs.{Characters.{is_white_space}, Tokens.{after_byte_order_mark}};
 
 /// The first character, and what is left after it.
 pub fn first(text: &str) -> Option<(char, &str)>

@@ -1,9 +1,7 @@
 //! The ends of comments.
 
-ghost use Rattle.std.specs.Prelude.{◌≡◌, ◌≤◌, length, MatchOption, IfSome, Some, None};
-ghost use Rattle.std.specs.Str.{chars};
-ghost use Rattle.swreq_lex.specs.Characters.{continues_line};
-ghost use Rattle.swreq_lex.specs.Reader.{forgotten, past, past_comment};
+ghost use Rattle.std.specs.{Prelude.{◌≡◌, ◌≤◌, length, MatchOption, IfSome, Some, None}, Str.{chars}};
+ghost use Rattle.swreq_lex.specs.{Characters.{continues_line}, Reader.{forgotten, past, past_comment}};
 
 use crate::characters::first;
 

@@ -1,9 +1,7 @@
 //! What stands at the front of a text.
 
-ghost use Rattle.std.specs.Prelude.{◌≡◌, ◌≤◌, length};
-ghost use Rattle.std.specs.Str.{chars};
-ghost use Rattle.swreq_lex.specs.Reader.{after_slash, front};
-ghost use Rattle.swreq_lex.specs.Seen.{seen, IsWithin};
+ghost use Rattle.std.specs.{Prelude.{◌≡◌, ◌≤◌, length}, Str.{chars}};
+ghost use Rattle.swreq_lex.specs.{Reader.{after_slash, front}, Seen.{seen, IsWithin}};
 
 use crate::characters::{first, is_white_space};
 use crate::comments::{past_comment, past_line};

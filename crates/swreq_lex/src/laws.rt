@@ -1,12 +1,7 @@
 //! What holds of the tokens of each text, from the front and from an offset on.
 
-ghost use Rattle.std.specs.Prelude.{◌≡◌, ◌≤◌, ◌⊎◌, ◌↔◌, ℕ, List, length};
-ghost use Rattle.std.specs.Str.{chars};
-ghost use Rattle.swreq_lex.specs.declared.token.Token.{Token};
-ghost use Rattle.swreq_lex.specs.declared.refusal.LexErr.{LexErr};
-ghost use Rattle.swreq_lex.specs.Tokens.{begin_from, first_offset, HasTokens, HasTokensFrom};
-ghost use Rattle.swreq_lex.specs.Refusals.{HasRefusal, HasRefusalFrom};
-ghost use Rattle.swreq_lex.specs.Slices.{AreSlices};
+ghost use Rattle.std.specs.{Prelude.{◌≡◌, ◌≤◌, ◌⊎◌, ◌↔◌, ℕ, List, length}, Str.{chars}};
+ghost use Rattle.swreq_lex.specs.{declared.token.Token.{Token}, declared.refusal.LexErr.{LexErr}, Tokens.{begin_from, first_offset, HasTokens, HasTokensFrom}, Refusals.{HasRefusal, HasRefusalFrom}, Slices.{AreSlices}};
 
 /// A text has tokens or a refusal, and one of them alone.
 pub fn one_reading(text: &[u8])

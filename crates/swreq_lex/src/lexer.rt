@@ -1,12 +1,7 @@
 //! The tokens of a text.
 
-ghost use Rattle.std.specs.Prelude.{◌≡◌, ◌≤◌, ◌⊎◌, ℕ, List, length, drop, IfOk, IfErr, MatchResult};
-ghost use Rattle.std.specs.Str.{chars};
-ghost use Rattle.swreq_lex.specs.declared.token.Token.{Token};
-ghost use Rattle.swreq_lex.specs.declared.refusal.LexErr.{LexErr};
-ghost use Rattle.swreq_lex.specs.Tokens.{characters_from, HasTokens, HasTokensFrom};
-ghost use Rattle.swreq_lex.specs.Refusals.{HasRefusal, HasRefusalFrom};
-ghost use Rattle.swreq_lex.specs.Reader.{Answers, read};
+ghost use Rattle.std.specs.{Prelude.{◌≡◌, ◌≤◌, ◌⊎◌, ℕ, List, length, drop, IfOk, IfErr, MatchResult}, Str.{chars}};
+ghost use Rattle.swreq_lex.specs.{declared.token.Token.{Token}, declared.refusal.LexErr.{LexErr}, Tokens.{characters_from, HasTokens, HasTokensFrom}, Refusals.{HasRefusal, HasRefusalFrom}, Reader.{Answers, read}};
 
 use crate::characters::past_byte_order_mark;
 use crate::front::{Front, front_of};

@@ -1,11 +1,7 @@
 //! The marks.
 
-ghost use Rattle.std.specs.Prelude.{◌≡◌, ◌≤◌, ◌<◌, length, position, nat_eq, IsTrue, IfSome};
-ghost use Rattle.std.specs.Str.{chars};
-ghost use Rattle.std.specs.List.{starts_with};
-ghost use Rattle.swreq_lex.specs.Marks.{spellings};
-ghost use Rattle.swreq_lex.specs.Reader.{are_ascii, texts};
-ghost use Rattle.swreq_lex.specs.Seen.{FindsMark};
+ghost use Rattle.std.specs.{Prelude.{◌≡◌, ◌≤◌, ◌<◌, length, position, nat_eq, IsTrue, IfSome}, Str.{chars}, List.{starts_with}};
+ghost use Rattle.swreq_lex.specs.{Marks.{spellings}, Reader.{are_ascii, texts}, Seen.{FindsMark}};
 
 /// The marks, those of the grammar first. A [`TokenKind::Mark`](crate::TokenKind::Mark) has the place
 /// of its mark among them. None begins with one before it, so the first one that a text begins with is the longest.

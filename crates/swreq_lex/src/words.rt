@@ -1,10 +1,7 @@
 //! Words and what they are.
 
-ghost use Rattle.std.specs.Prelude.{◌≡◌, ◌≤◌, length, position};
-ghost use Rattle.std.specs.Str.{chars, bytes_eq};
-ghost use Rattle.swreq_lex.specs.Characters.{starts_word, continues_word};
-ghost use Rattle.swreq_lex.specs.Words.{kind_of_bytes};
-ghost use Rattle.swreq_lex.specs.Reader.{past};
+ghost use Rattle.std.specs.{Prelude.{◌≡◌, ◌≤◌, length, position}, Str.{chars, bytes_eq}};
+ghost use Rattle.swreq_lex.specs.{Characters.{starts_word, continues_word}, Words.{kind_of_bytes}, Reader.{past}};
 
 use crate::characters::first;
 use crate::token::TokenKind;

@@ -1,11 +1,11 @@
 -- A protocol inherits more protocols than each protocol that it inherits.
 use Rattle.std.proofs.Common.{◌≡◌, ℕ, zero, suc, ◌<◌, ◌≤◌, ⊎_elim, Bool, true, false, cond, length, refl, sym, ap, ◌∙◌, arith}
 use Rattle.std.proofs.lemmas.Bool.{false_from_ne_true}
-use Rattle.swreq_lemmas.proofs.Numbers.{last_or_below}
+use Rattle.swreq_rank.proofs.swreq_lemmas.Numbers.{last_or_below}
 use Rattle.swreq_closure.proofs.Marks.{joined_chains}
 use Rattle.swreq_decl.specs.declared.skeleton.Skeleton.{Skeleton}
 use Rattle.swreq_names.specs.Inheritance.{inheritance}
-use Rattle.swreq_param.specs.declared.ids.ProtoId.{ProtoId}
+use Rattle.swreq_derive.specs.swreq_param.declared.ids.ProtoId.{ProtoId}
 use Rattle.swreq_rank.specs.Ranks.{Bytes}
 use Rattle.swreq_lexicon.specs.Associated.{protocol, count_below}
 use Rattle.swreq_lexicon.specs.Texts.{IsLexiconOf}

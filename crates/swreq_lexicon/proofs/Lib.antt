@@ -1,3 +1,9 @@
+pub use Rattle.swreq_closure.proofs as swreq_closure
+pub use Rattle.swreq_rank.proofs as swreq_rank
+pub use Rattle.swreq_decl.proofs.swreq_lex as swreq_lex
+pub use Rattle.swreq_names.proofs as swreq_names
+pub use Rattle.swreq_derive.proofs.swreq_param as swreq_param
+pub use Rattle.swreq_derive.proofs as swreq_derive
 pub mod Places
 pub mod Declarers
 pub mod KeyOrders

@@ -11,7 +11,7 @@ use Rattle.swreq_decl.specs.declared.skeleton.Skeleton.{Skeleton}
 use Rattle.swreq_names.specs.Mentioned.{mentioned}
 use Rattle.swreq_names.specs.Names.{HasDeclared, NamesView}
 use Rattle.swreq_names.specs.Spaces.{word}
-use Rattle.swreq_param.specs.declared.ids.ProtoId.{ProtoId}
+use Rattle.swreq_derive.specs.swreq_param.declared.ids.ProtoId.{ProtoId}
 use Rattle.swreq_rank.specs.Ranks.{Bytes, IsRanking}
 use Rattle.swreq_rank.proofs.Tests.{same_members}
 use Rattle.swreq_lexicon.specs.Associated as over

@@ -5,8 +5,8 @@ use Rattle.std.specs.Ordering.{nat_cmp, ordering_then}
 use Rattle.std.proofs.lemmas.Bool.{cases_lt}
 use Rattle.std.proofs.lemmas.List.{length-map}
 use Rattle.std.proofs.lemmas.List.Elements.{Contains-append_left, Contains-push, Contains-push_cases}
-use Rattle.swreq_lemmas.proofs.Members.{no_member}
-use Rattle.swreq_param.specs.declared.ids.ProtoId.{ProtoId}
+use Rattle.swreq_rank.proofs.swreq_lemmas.Members.{no_member}
+use Rattle.swreq_derive.specs.swreq_param.declared.ids.ProtoId.{ProtoId}
 use Rattle.swreq_lexicon.specs.declared.symbols.OrderKey.{OrderKey}
 use Rattle.swreq_lexicon.specs.contracts.symbols.OrderKeyOrd.TheImpl.{cmp-value}
 use Rattle.swreq_lexicon.specs.Associated.{protocol, order_cmp}

@@ -8,8 +8,8 @@ use Rattle.std.specs.List.Sorted.{IsStrictlySortedBy}
 use Rattle.std.proofs.lemmas.Bool.{eq-eqb, and_from, and_parts, false_from_ne_true}
 use Rattle.std.proofs.lemmas.Cmp.{then_total, on_total, back_total, nat_cmp_total, tied_itself}
 use Rattle.swreq_rank.proofs.Tests.{same_bool, some_passes, passes}
-use Rattle.swreq_param.specs.declared.ids.NameId.{NameId}
-use Rattle.swreq_param.specs.declared.ids.ProtoId.{ProtoId}
+use Rattle.swreq_derive.specs.swreq_param.declared.ids.NameId.{NameId}
+use Rattle.swreq_derive.specs.swreq_param.declared.ids.ProtoId.{ProtoId}
 use Rattle.swreq_lexicon.specs.declared.pair.ProtocolName.{ProtocolName}
 use Rattle.swreq_lexicon.specs.Associated.{depth, inherits_name, is_root, assoc_cmp, InheritsName, order_cmp, symbol_cmp}
 use Rattle.swreq_lexicon.specs.Lexicons.{pair}

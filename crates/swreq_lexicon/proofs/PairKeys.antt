@@ -9,10 +9,10 @@ use Rattle.std.proofs.lemmas.Bool.{eqb-true, false_from_ne_true}
 use Rattle.std.proofs.lemmas.Cmp.{nat_cmp_total, tied_itself}
 use Rattle.std.proofs.lemmas.List.{get_or_default, length-map}
 use Rattle.std.proofs.lemmas.Option.{slice_get_within, get_or_from_slice_get}
-use Rattle.swreq_lemmas.proofs.Orderings.{then_equal}
+use Rattle.swreq_rank.proofs.swreq_lemmas.Orderings.{then_equal}
 use Rattle.swreq_lexicon.proofs.Mapped.{at_map_any}
-use Rattle.swreq_param.specs.declared.ids.NameId.{NameId}
-use Rattle.swreq_param.specs.declared.ids.ProtoId.{ProtoId}
+use Rattle.swreq_derive.specs.swreq_param.declared.ids.NameId.{NameId}
+use Rattle.swreq_derive.specs.swreq_param.declared.ids.ProtoId.{ProtoId}
 use Rattle.swreq_rank.specs.Ranks.{TellsApart}
 use Rattle.swreq_rank.proofs.Rising.{IsRising}
 use Rattle.swreq_lexicon.specs.declared.pair.ProtocolName.{ProtocolName}

@@ -3,9 +3,9 @@ use Rattle.std.proofs.Common.{◌≡◌, ℕ, List, get_or, slice_get, Option, S
 use Rattle.std.specs.List.{position}
 use Rattle.std.specs.Option.{option_map}
 use Rattle.std.proofs.lemmas.List.Quantifiers.{position-Some}
-use Rattle.swreq_param.specs.declared.ids.AssocId.{AssocId}
-use Rattle.swreq_param.specs.declared.ids.NameId.{NameId}
-use Rattle.swreq_param.specs.declared.ids.ProtoId.{ProtoId}
+use Rattle.swreq_derive.specs.swreq_param.declared.ids.AssocId.{AssocId}
+use Rattle.swreq_derive.specs.swreq_param.declared.ids.NameId.{NameId}
+use Rattle.swreq_derive.specs.swreq_param.declared.ids.ProtoId.{ProtoId}
 use Rattle.swreq_lexicon.specs.declared.pair.ProtocolName.{ProtocolName}
 use Rattle.swreq_lexicon.specs.Lexicons.{pair, is_pair, assoc_at}
 use Rattle.swreq_lexicon.proofs.PairKeys.{is_pair_itself, pair_same}

@@ -6,14 +6,14 @@ use Rattle.std.proofs.Math.Bool.{and-false, and-true}
 use Rattle.std.proofs.lemmas.Cmp.{nat_list_cmp_total}
 use Rattle.std.proofs.lemmas.List.{length-map}
 use Rattle.std.proofs.lemmas.Option.{slice_get_within, slice_get-get_or, same_Some}
-use Rattle.swreq_lemmas.proofs.Numbers.{last_or_below}
+use Rattle.swreq_rank.proofs.swreq_lemmas.Numbers.{last_or_below}
 use Rattle.swreq_closure.specs.Bits.{has, room, count_below}
 use Rattle.swreq_closure.specs.Chains.{Matrix, leads}
 use Rattle.swreq_closure.specs.Walks.{AreApart}
 use Rattle.swreq_closure.proofs.Counts.{count_le, count_none, count_same}
 use Rattle.swreq_names.specs.Spaces.{place}
 use Rattle.swreq_names.specs.declared.directory.Declaration.{Declaration}
-use Rattle.swreq_param.specs.declared.ids.ProtoId.{ProtoId}
+use Rattle.swreq_derive.specs.swreq_param.declared.ids.ProtoId.{ProtoId}
 use Rattle.swreq_rank.specs.Ranks.{Bytes, bytes_cmp, IsRanking}
 use Rattle.swreq_rank.proofs.Rising.{rising_from_sorted, one_place}
 use Rattle.swreq_lexicon.specs.Associated.{protocol, depth}

@@ -8,7 +8,7 @@ use Rattle.std.proofs.lemmas.List.{length-map, get_or-map}
 use Rattle.std.proofs.lemmas.List.Elements.{Contains-append_left, Contains-append_right, Contains-push}
 use Rattle.std.proofs.lemmas.Iterator.Adapters.{position_from-zero}
 use Rattle.std.proofs.lemmas.Option.{slice_get_within, get_or_from_slice_get}
-use Rattle.swreq_lemmas.proofs.Elements.{contains_get, get_contains}
+use Rattle.swreq_rank.proofs.swreq_lemmas.Elements.{contains_get, get_contains}
 use Rattle.swreq_decl.specs.declared.skeleton.ProtocolDecl.{ProtocolDecl}
 use Rattle.swreq_names.specs.Spaces.{word, declarations, place}
 use Rattle.swreq_names.specs.declared.directory.Declaration.{Declaration}

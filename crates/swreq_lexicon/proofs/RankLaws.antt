@@ -16,17 +16,17 @@ use Rattle.std.proofs.lemmas.List.Elements.{Contains-append_right}
 use Rattle.std.proofs.lemmas.List.Quantifiers.{position-Some}
 use Rattle.std.proofs.lemmas.Option.{slice_get-get_or, slice_get-map, slice_get_within, get_or_from_slice_get, same_Some}
 use Rattle.std.proofs.lemmas.Slice.Eq.{bytes_eq-Decides}
-use Rattle.swreq_lemmas.proofs.Numbers.{above}
-use Rattle.swreq_lemmas.proofs.Elements.{get_contains}
-use Rattle.swreq_lemmas.proofs.Members.{no_member, member_cases}
+use Rattle.swreq_rank.proofs.swreq_lemmas.Numbers.{above}
+use Rattle.swreq_rank.proofs.swreq_lemmas.Elements.{get_contains}
+use Rattle.swreq_rank.proofs.swreq_lemmas.Members.{no_member, member_cases}
 use Rattle.swreq_decl.specs.declared.skeleton.ProtocolDecl.{ProtocolDecl}
 use Rattle.swreq_decl.specs.declared.skeleton.Skeleton.{Skeleton}
 use Rattle.swreq_derive.specs.Derivation.{AssociatedType}
 use Rattle.swreq_derive.specs.Facts.{AreOneToOne}
 use Rattle.swreq_names.specs.Spaces.{word, place, spaces}
-use Rattle.swreq_param.specs.declared.ids.AssocId.{AssocId}
-use Rattle.swreq_param.specs.declared.ids.NameId.{NameId}
-use Rattle.swreq_param.specs.declared.ids.ProtoId.{ProtoId}
+use Rattle.swreq_derive.specs.swreq_param.declared.ids.AssocId.{AssocId}
+use Rattle.swreq_derive.specs.swreq_param.declared.ids.NameId.{NameId}
+use Rattle.swreq_derive.specs.swreq_param.declared.ids.ProtoId.{ProtoId}
 use Rattle.swreq_lexicon.specs.declared.pair.ProtocolName.{ProtocolName}
 use Rattle.swreq_lexicon.specs.Associated as over
 use Rattle.swreq_lexicon.specs.Lexicons.{pair, is_pair, proto_by, assoc_at, assoc_by, associated_from, associated_types}

@@ -7,7 +7,7 @@ use Rattle.std.specs.List.{AllByRecursion}
 use Rattle.std.specs.List.Sorted.{IsStrictlySortedBy}
 use Rattle.std.specs.Ordering.{ordering_reverse}
 use Rattle.std.proofs.lemmas.Cmp.{tied_itself}
-use Rattle.swreq_lemmas.proofs.Members.{first_member, later_member, member_cases, no_member}
+use Rattle.swreq_rank.proofs.swreq_lemmas.Members.{first_member, later_member, member_cases, no_member}
 use Rattle.swreq_rank.specs.Ranks.{IsRanking}
 
 all_member : {K : Type 0} (P : K → Type 0) (xs : List K) (x : K) → AllByRecursion P xs → Contains xs x → P x

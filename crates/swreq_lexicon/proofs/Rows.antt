@@ -9,10 +9,10 @@ use Rattle.std.proofs.lemmas.List.Folds.{list_any-append}
 use Rattle.std.proofs.lemmas.Option.{none-some, same_Some, slice_get_within}
 use Rattle.swreq_closure.specs.Bits as sets
 use Rattle.swreq_closure.specs.Bits.{count_below}
-use Rattle.swreq_lemmas.proofs.Elements.{contains_get, get_contains, there_is, take_one, set_here, set_kept}
+use Rattle.swreq_rank.proofs.swreq_lemmas.Elements.{contains_get, get_contains, there_is, take_one, set_here, set_kept}
 use Rattle.swreq_rank.proofs.Tests.{same_members}
-use Rattle.swreq_param.specs.declared.ids.NameId.{NameId}
-use Rattle.swreq_param.specs.declared.ids.ProtoId.{ProtoId}
+use Rattle.swreq_derive.specs.swreq_param.declared.ids.NameId.{NameId}
+use Rattle.swreq_derive.specs.swreq_param.declared.ids.ProtoId.{ProtoId}
 use Rattle.swreq_lexicon.specs.declared.pair.ProtocolName.{ProtocolName}
 use Rattle.swreq_lexicon.specs.Associated.{name}
 use Rattle.swreq_lexicon.specs.Symbols.{has_member, having, row_of, AreCounts, AreHeirs, AreOnce, ArePlaces, AreRows, StandsAt}

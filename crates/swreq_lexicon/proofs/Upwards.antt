@@ -8,8 +8,8 @@ use Rattle.std.proofs.lemmas.Option.{none-some, same_Some, slice_get_within}
 use Rattle.swreq_closure.specs.Chains.{Leads, Matrix, next, leads, AreWithin, IsClosureOf}
 use Rattle.swreq_closure.specs.Chains.Leads.{step, more}
 use Rattle.swreq_closure.proofs.Marks.{joined_chains}
-use Rattle.swreq_lemmas.proofs.Elements.{contains_get}
-use Rattle.swreq_param.specs.declared.ids.ProtoId.{ProtoId}
+use Rattle.swreq_rank.proofs.swreq_lemmas.Elements.{contains_get}
+use Rattle.swreq_derive.specs.swreq_param.declared.ids.ProtoId.{ProtoId}
 use Rattle.swreq_lexicon.specs.Heirs.{IsDirectHeir, position_at, leads_up, AreAllHeirs, AreDirectHeirs, ArePositions, HavePositions}
 use Rattle.swreq_lexicon.specs.Heirs.{LeadToProtocols}
 use Rattle.swreq_lexicon.specs.Views.{place_by}

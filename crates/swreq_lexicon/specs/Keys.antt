@@ -1,6 +1,6 @@
 -- The keys by which associated types and protocols are ranked.
 use Rattle.std.specs.Prelude.{ℕ, zero, suc, Bool, List, [], ◌∷◌, ◌++◌}
-use Rattle.swreq_param.specs.declared.ids.ProtoId.{ProtoId}
+use Rattle.swreq_derive.specs.swreq_param.declared.ids.ProtoId.{ProtoId}
 use Rattle.swreq_lexicon.specs.declared.pair.ProtocolName.{ProtocolName}
 use Rattle.swreq_lexicon.specs.declared.associated.AssocKey.{AssocKey}
 use Rattle.swreq_lexicon.specs.declared.symbols.OrderKey.{OrderKey}

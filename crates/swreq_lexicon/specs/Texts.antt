@@ -7,7 +7,7 @@ use Rattle.swreq_names.specs.Spaces.{word, place, spaces}
 use Rattle.swreq_names.specs.Inheritance.{Inherits}
 use Rattle.swreq_names.specs.Mentioned.{mentioned}
 use Rattle.swreq_names.specs.Names.{HasDeclared}
-use Rattle.swreq_param.specs.declared.ids.ProtoId.{ProtoId}
+use Rattle.swreq_derive.specs.swreq_param.declared.ids.ProtoId.{ProtoId}
 use Rattle.swreq_lexicon.specs.declared.pair.ProtocolName.{ProtocolName}
 use Rattle.swreq_rank.specs.Ranks.{Bytes, IsRanking, bytes_cmp}
 use Rattle.swreq_lexicon.specs.Lexicons.{pair, proto_by, name_by}

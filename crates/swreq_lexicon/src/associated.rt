@@ -1,19 +1,12 @@
 // Associated types by rank.
-ghost use Rattle.std.specs.Prelude.{◌≡◌, ◌↔◌, ◌||◌, ◌<◌, ◌≤◌, ◌++◌, ◌∷◌, [], ℕ, nat_eq, List, length, map, slice_get, slice_set, position, slice_index_or, Some, MatchOption, IfOk, OnOk, Contains};
-ghost use Rattle.std.specs.List.{list_any};
-ghost use Rattle.std.specs.Option.{option_map};
-ghost use Rattle.swreq_lexicon.specs.Associated.{assoc_cmp};
-ghost use Rattle.swreq_lexicon.specs.Keys.{key, pair_of};
-ghost use Rattle.swreq_lexicon.specs.Lexicons.{is_pair, assoc_at};
-ghost use Rattle.std.specs.List.Sorted.{IsStrictlySortedBy};
-ghost use Rattle.swreq_lexicon.specs.Symbols.{has_member, AreDeclarers};
-ghost use Rattle.swreq_lexicon.specs.Views.{inherits_by};
+ghost use Rattle.std.specs.{Prelude.{◌≡◌, ◌↔◌, ◌||◌, ◌<◌, ◌≤◌, ◌++◌, ◌∷◌, [], ℕ, nat_eq, List, length, map, slice_get, slice_set, position, slice_index_or, Some, MatchOption, IfOk, OnOk, Contains}, List.{list_any}, Option.{option_map}, List.Sorted.{IsStrictlySortedBy}};
+ghost use Rattle.swreq_lexicon.specs.{Associated.{assoc_cmp}, Keys.{key, pair_of}, Lexicons.{is_pair, assoc_at}, Symbols.{has_member, AreDeclarers}, Views.{inherits_by}};
 
 use crate::pair::ProtocolName;
 use crate::protocols::Protocols;
 use std::alloc::{AllocError, Global};
 use std::marker::Model;
-use swreq_param::{AssocId, NameId, ProtoId};
+use swreq_derive::param::{AssocId, NameId, ProtoId};
 use swreq_rank::{Lists, Ranked};
 
 /// What associated types are ranked by: their name, whether their protocol inherits one that declares it, and their protocol.
@@ -46,9 +39,7 @@ pub struct Associated {
 
 impl Model for Associated {
     ghost use Rattle.std.specs.Prelude.{List, map, length, ◌≤◌, ◌↔◌, Contains};
-    ghost use Rattle.swreq_lexicon.specs.declared.pair.ProtocolName.{ProtocolName};
-    ghost use Rattle.swreq_lexicon.specs.Keys.{pair_of};
-    ghost use Rattle.swreq_lexicon.specs.Symbols.{AreDeclarers};
+    ghost use Rattle.swreq_lexicon.specs.{declared.pair.ProtocolName.{ProtocolName}, Keys.{pair_of}, Symbols.{AreDeclarers}};
 
     ghost Value = { List ProtocolName };
 

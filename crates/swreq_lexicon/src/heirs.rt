@@ -1,17 +1,15 @@
 // Which protocols inherit each protocol, by places in an order.
 ghost use Rattle.std.specs.Prelude.{◌≡◌, ◌↔◌, ◌⊎◌, ◌<◌, ℕ, false, length, Some, Contains, IfOk, MatchOption, OnOk};
-ghost use Rattle.swreq_closure.specs.Bits.{has};
-ghost use Rattle.swreq_closure.specs.Chains.{next};
-ghost use Rattle.swreq_param.specs.declared.ids.ProtoId.{ProtoId};
-ghost use Rattle.swreq_lexicon.specs.Heirs.{leads_up, position_at, AreAllHeirs, AreDirectHeirs, ArePositions, HavePositions};
-ghost use Rattle.swreq_lexicon.specs.Views.{place_by};
+ghost use Rattle.swreq_closure.specs.{Bits.{has}, Chains.{next}};
+ghost use Rattle.swreq_derive.specs.swreq_param.declared.ids.ProtoId.{ProtoId};
+ghost use Rattle.swreq_lexicon.specs.{Heirs.{leads_up, position_at, AreAllHeirs, AreDirectHeirs, ArePositions, HavePositions}, Views.{place_by}};
 
 use crate::ordered::Ordered;
 use crate::protocols::Protocols;
 use std::alloc::{AllocError, Global};
 use std::marker::Model;
 use swreq_closure::{Bits, Closure};
-use swreq_param::ProtoId;
+use swreq_derive::param::ProtoId;
 use swreq_rank::Lists;
 use swreq_text::Seq;
 

@@ -1,20 +1,12 @@
 //! What holds of the ranks of each text.
 
-ghost use Rattle.std.specs.Prelude.{◌≡◌, ◌↔◌, ◌<◌, ℕ, IsTrue, List, length, Contains, Some, slice_get};
-ghost use Rattle.std.specs.List.{IsDistinct};
-ghost use Rattle.std.specs.Str.{bytes_eq};
+ghost use Rattle.std.specs.{Prelude.{◌≡◌, ◌↔◌, ◌<◌, ℕ, IsTrue, List, length, Contains, Some, slice_get}, List.{IsDistinct}, Str.{bytes_eq}};
 ghost use Rattle.swreq_decl.specs.declared.skeleton.Skeleton.{Skeleton};
-ghost use Rattle.swreq_derive.specs.Derivation.{AssociatedType};
-ghost use Rattle.swreq_derive.specs.Facts.{AreOneToOne};
-ghost use Rattle.swreq_names.specs.Mentioned.{mentioned};
-ghost use Rattle.swreq_names.specs.Spaces.{place, spaces};
-ghost use Rattle.swreq_param.specs.declared.ids.NameId.{NameId};
-ghost use Rattle.swreq_param.specs.declared.ids.ProtoId.{ProtoId};
-ghost use Rattle.swreq_lexicon.specs.declared.pair.ProtocolName.{ProtocolName};
-ghost use Rattle.swreq_lexicon.specs.Lexicons.{pair, proto_by, name_by, assoc_by, associated_types};
+ghost use Rattle.swreq_derive.specs.{Derivation.{AssociatedType}, Facts.{AreOneToOne}};
+ghost use Rattle.swreq_names.specs.{Mentioned.{mentioned}, Spaces.{place, spaces}};
+ghost use Rattle.swreq_derive.specs.swreq_param.{declared.ids.NameId.{NameId}, declared.ids.ProtoId.{ProtoId}};
+ghost use Rattle.swreq_lexicon.specs.{declared.pair.ProtocolName.{ProtocolName}, Lexicons.{pair, proto_by, name_by, assoc_by, associated_types}, Texts.{IsLexiconOf, protocol_names, declared_in}, Views.{LexiconView, IsProtocol, place_of, inherits, depth, InheritsName}};
 ghost use Rattle.swreq_rank.specs.Ranks.{Bytes};
-ghost use Rattle.swreq_lexicon.specs.Texts.{IsLexiconOf, protocol_names, declared_in};
-ghost use Rattle.swreq_lexicon.specs.Views.{LexiconView, IsProtocol, place_of, inherits, depth, InheritsName};
 
 use swreq_names::laws::names_are_one;
 

@@ -1,13 +1,8 @@
 // The protocols, names, associated types and member symbols of a text, by rank.
 ghost use Rattle.std.specs.Prelude.{◌≡◌, ◌↔◌, ◌<◌, ◌≤◌, ◌++◌, ℕ, IsTrue, List, length, map, slice_get, Some, MatchOption, IfOk, OnOk, Contains};
-ghost use Rattle.swreq_names.specs.Mentioned.{mentioned};
-ghost use Rattle.swreq_names.specs.Names.{HasDeclared};
-ghost use Rattle.swreq_names.specs.Spaces.{word};
-ghost use Rattle.swreq_lexicon.specs.declared.pair.ProtocolName.{ProtocolName};
-ghost use Rattle.swreq_lexicon.specs.Lexicons.{pair, proto_by, name_by, assoc_by};
+ghost use Rattle.swreq_names.specs.{Mentioned.{mentioned}, Names.{HasDeclared}, Spaces.{word}};
+ghost use Rattle.swreq_lexicon.specs.{declared.pair.ProtocolName.{ProtocolName}, Lexicons.{pair, proto_by, name_by, assoc_by}, Texts.{IsSmall, IsLexiconOf, declared_in}, Views.{inherits, depth, HasMember}};
 ghost use Rattle.swreq_rank.specs.Ranks.{IsRanking, bytes_cmp};
-ghost use Rattle.swreq_lexicon.specs.Texts.{IsSmall, IsLexiconOf, declared_in};
-ghost use Rattle.swreq_lexicon.specs.Views.{inherits, depth, HasMember};
 
 use crate::associated::Associated;
 use crate::pair::ProtocolName;
@@ -16,8 +11,8 @@ use crate::symbols::Symbols;
 use std::alloc::{AllocError, Global};
 use std::marker::Model;
 use swreq_decl::{AssocDecl, ProtocolDecl, Skeleton};
+use swreq_derive::param::{AssocId, NameId, ProtoId};
 use swreq_names::{Names, member_names, word};
-use swreq_param::{AssocId, NameId, ProtoId};
 use swreq_rank::Ranks;
 
 /// What the symbols of a text's words stand for: its protocols, its names of associated types and of members, its associated types and its
@@ -35,8 +30,7 @@ pub struct Lexicon {
 
 impl Model for Lexicon {
     ghost use Rattle.std.specs.Prelude.{length, ◌≤◌};
-    ghost use Rattle.swreq_lexicon.specs.Symbols.{has_member, symbols_below, AreRows, AreStarts};
-    ghost use Rattle.swreq_lexicon.specs.Views.{LexiconView, inherits_by};
+    ghost use Rattle.swreq_lexicon.specs.{Symbols.{has_member, symbols_below, AreRows, AreStarts}, Views.{LexiconView, inherits_by}};
 
     ghost Value = { LexiconView };
 

@@ -1,10 +1,7 @@
 // Which protocol has which member name.
 ghost use Rattle.std.specs.Prelude.{◌≡◌, ◌<◌, ◌≤◌, ◌||◌, ◌&&◌, ℕ, false, nat_eq, [], length, slice_get, Some, MatchOption, IfOk, OnOk, Contains};
 ghost use Rattle.swreq_closure.specs.Bits.{count_below, has};
-ghost use Rattle.swreq_lexicon.specs.Symbols.{has_member, row_of, AreHeirs, AreRows};
-ghost use Rattle.swreq_lexicon.specs.Heirs.{AreAllHeirs};
-ghost use Rattle.swreq_lexicon.specs.Views.{inherits_by};
-ghost use Rattle.swreq_lexicon.specs.declared.pair.ProtocolName.{ProtocolName};
+ghost use Rattle.swreq_lexicon.specs.{Symbols.{has_member, row_of, AreHeirs, AreRows}, Heirs.{AreAllHeirs}, Views.{inherits_by}, declared.pair.ProtocolName.{ProtocolName}};
 
 use crate::associated::Associated;
 use crate::heirs::Heirs;
@@ -14,7 +11,7 @@ use crate::protocols::Protocols;
 use std::alloc::{AllocError, Global};
 use std::marker::Model;
 use swreq_closure::Bits;
-use swreq_param::{NameId, ProtoId};
+use swreq_derive::param::{NameId, ProtoId};
 
 /// For each name, by rank, the set of the places of the protocols that have it.
 #[derive(Drop)]

@@ -4,7 +4,7 @@ ghost use Rattle.swreq_lexicon.specs.Symbols.{AreOnce, ArePlaces, StandsAt};
 
 use std::alloc::{AllocError, Global};
 use std::marker::Model;
-use swreq_param::ProtoId;
+use swreq_derive::param::ProtoId;
 
 /// Protocols in an order, each once, and the place of each by its rank.
 #[derive(Drop)]
@@ -16,7 +16,7 @@ pub struct Ordered {
 impl Model for Ordered {
     ghost use Rattle.std.specs.Prelude.{List};
     ghost use Rattle.swreq_lexicon.specs.Symbols.{ArePlaces};
-    ghost use Rattle.swreq_param.specs.declared.ids.ProtoId.{ProtoId};
+    ghost use Rattle.swreq_derive.specs.swreq_param.declared.ids.ProtoId.{ProtoId};
 
     ghost Value = { List ProtoId };
 

@@ -1,25 +1,16 @@
 // The protocols of a text by rank.
-ghost use Rattle.std.specs.Prelude.{◌≡◌, ◌<◌, ◌≤◌, ◌+◌, ◌*◌, ◌/◌, ◌%◌, ◌++◌, ◌∷◌, [], ◌↔◌, ℕ, false, List, length, map, cond, slice_get, slice_index, slice_index_or, unwrap_or, Some, MatchOption, IfOk, Contains};
-ghost use Rattle.std.specs.List.{position_from};
-ghost use Rattle.std.specs.Str.{bytes_eq};
-ghost use Rattle.swreq_closure.specs.Bits.{has, room};
-ghost use Rattle.swreq_closure.specs.Chains.{AreWithin, IsClosureOf};
-ghost use Rattle.swreq_closure.specs.Walks.{AreApart};
+ghost use Rattle.std.specs.{Prelude.{◌≡◌, ◌<◌, ◌≤◌, ◌+◌, ◌*◌, ◌/◌, ◌%◌, ◌++◌, ◌∷◌, [], ◌↔◌, ℕ, false, List, length, map, cond, slice_get, slice_index, slice_index_or, unwrap_or, Some, MatchOption, IfOk, Contains}, List.{position_from}, Str.{bytes_eq}};
+ghost use Rattle.swreq_closure.specs.{Bits.{has, room}, Chains.{AreWithin, IsClosureOf}, Walks.{AreApart}};
 ghost use Rattle.swreq_names.specs.Spaces.{word, declarations, place};
-ghost use Rattle.swreq_lexicon.specs.Associated.{depth};
-ghost use Rattle.swreq_lexicon.specs.Lexicons.{proto_by};
-ghost use Rattle.swreq_lexicon.specs.Heirs.{HaveProtocols, LeadToProtocols};
-ghost use Rattle.swreq_lexicon.specs.PlaceSets.{IsSetOf};
+ghost use Rattle.swreq_lexicon.specs.{Associated.{depth}, Lexicons.{proto_by}, Heirs.{HaveProtocols, LeadToProtocols}, PlaceSets.{IsSetOf}, Texts.{protocol_names}, Views.{place_by, inherits_by}};
 ghost use Rattle.swreq_rank.specs.Ranks.{Bytes, IsRanking, bytes_cmp, rank};
-ghost use Rattle.swreq_lexicon.specs.Texts.{protocol_names};
-ghost use Rattle.swreq_lexicon.specs.Views.{place_by, inherits_by};
 
 use std::alloc::{AllocError, Global};
 use std::marker::Model;
 use swreq_closure::Bits;
 use swreq_decl::ProtocolDecl;
+use swreq_derive::param::ProtoId;
 use swreq_names::{Names, word};
-use swreq_param::ProtoId;
 use swreq_rank::Ranks;
 use swreq_text::Seq;
 
@@ -38,9 +29,7 @@ pub struct Protocols {
 impl Model for Protocols {
     ghost use Rattle.std.specs.Prelude.{◌≡◌, ◌≤◌, length};
     ghost use Rattle.swreq_closure.specs.Bits.{room};
-    ghost use Rattle.swreq_lexicon.specs.Heirs.{HaveProtocols};
-    ghost use Rattle.swreq_lexicon.specs.PlaceSets.{IsSetOf};
-    ghost use Rattle.swreq_lexicon.specs.Views.{ProtocolsView};
+    ghost use Rattle.swreq_lexicon.specs.{Heirs.{HaveProtocols}, PlaceSets.{IsSetOf}, Views.{ProtocolsView}};
 
     ghost Value = { ProtocolsView };
 

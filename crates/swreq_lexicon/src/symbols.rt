@@ -1,14 +1,9 @@
 // Member symbols by rank.
 ghost use Rattle.std.specs.Prelude.{◌≡◌, ◌↔◌, ◌<◌, ◌≤◌, ◌+◌, ◌*◌, ℕ, List, length, map, take, sum, slice_get, slice_index, Some, MatchOption, Contains, IfOk};
 ghost use Rattle.swreq_closure.specs.Bits.{count_below, has};
-ghost use Rattle.swreq_param.specs.declared.ids.ProtoId.{ProtoId};
-ghost use Rattle.swreq_lexicon.specs.Associated.{name, order_cmp};
-ghost use Rattle.swreq_lexicon.specs.Keys.{order_keys};
-ghost use Rattle.swreq_lexicon.specs.Lexicons.{pair};
+ghost use Rattle.swreq_derive.specs.swreq_param.declared.ids.ProtoId.{ProtoId};
+ghost use Rattle.swreq_lexicon.specs.{Associated.{name, order_cmp}, Keys.{order_keys}, Lexicons.{pair}, Symbols.{has_member, having, row_of, symbols_below, AreRows, AreStarts}, Views.{inherits_by}, declared.pair.ProtocolName.{ProtocolName}};
 ghost use Rattle.swreq_rank.specs.Ranks.{IsRanking};
-ghost use Rattle.swreq_lexicon.specs.Symbols.{has_member, having, row_of, symbols_below, AreRows, AreStarts};
-ghost use Rattle.swreq_lexicon.specs.Views.{inherits_by};
-ghost use Rattle.swreq_lexicon.specs.declared.pair.ProtocolName.{ProtocolName};
 
 use crate::associated::Associated;
 use crate::members::Members;
@@ -18,7 +13,7 @@ use crate::protocols::Protocols;
 use std::alloc::{AllocError, Global};
 use std::cmp::Reverse;
 use std::marker::Model;
-use swreq_param::{NameId, ProtoId};
+use swreq_derive::param::{NameId, ProtoId};
 use swreq_rank::Ranked;
 
 /// What protocols are ordered by: how many protocols they inherit, more first, and their rank.

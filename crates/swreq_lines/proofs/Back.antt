@@ -1,11 +1,11 @@
 -- What is written of lines is read as those lines.
 use Rattle.std.proofs.Common.{◌≡◌, ◌∙◌, refl, sym, ap, ap₂, subst, ℕ, zero, suc, ◌+◌, ◌-◌, ◌≤◌, ◌^◌, arith, List, [], ◌∷◌, ◌++◌, length, map, Some, slice_get, codes, length-append}
 use Rattle.std.specs.List.{AllByRecursion}
-use Rattle.swreq_derive.specs.declared.lines.Line.{Line}
-use Rattle.swreq_derive.specs.Instances.{TermLine}
-use Rattle.swreq_derive.specs.Lines.{line_of}
-use Rattle.swreq_lexicon.specs.Views.{LexiconView}
-use Rattle.swreq_param.specs.Terms.{Term}
+use Rattle.swreq_print.specs.swreq_derive.declared.lines.Line.{Line}
+use Rattle.swreq_print.specs.swreq_derive.Instances.{TermLine}
+use Rattle.swreq_print.specs.swreq_derive.Lines.{line_of}
+use Rattle.swreq_print.specs.swreq_lexicon.Views.{LexiconView}
+use Rattle.swreq_print.specs.swreq_param.Terms.{Term}
 use Rattle.swreq_text.specs.Lines.{lines}
 use Rattle.swreq_text.proofs.Lined.{lines-line}
 use Rattle.swreq_print.specs.Names.{Text}

@@ -1,16 +1,16 @@
 -- What stays the same in a table that begins with the old one.
 use Rattle.std.proofs.Common.{◌≡◌, ◌∷◌, [], refl, ap, ap₂, List, map, Contains}
-use Rattle.swreq_derive.specs.declared.lines.Line.{Line}
-use Rattle.swreq_derive.specs.declared.requirements.Statement.{Statement}
-use Rattle.swreq_derive.specs.declared.requirements.Statement.TheVariants.{Holds, Valid}
-use Rattle.swreq_derive.specs.Derivation.TermStatement.{IsValid, Requires}
-use Rattle.swreq_derive.specs.Facts.{statement_of}
-use Rattle.swreq_derive.specs.Lines.{line_of}
-use Rattle.swreq_lexicon.specs.Views.{LexiconView}
-use Rattle.swreq_param.specs.Tables.{Extends}
-use Rattle.swreq_param.specs.Terms.{Term}
-use Rattle.swreq_lowering.proofs.Growing.{ids_stay, of_stays, requirement_stays}
-use Rattle.swreq_lemmas.proofs.Members.{first_member, later_member}
+use Rattle.swreq_print.specs.swreq_derive.declared.lines.Line.{Line}
+use Rattle.swreq_print.specs.swreq_derive.declared.requirements.Statement.{Statement}
+use Rattle.swreq_print.specs.swreq_derive.declared.requirements.Statement.TheVariants.{Holds, Valid}
+use Rattle.swreq_print.specs.swreq_derive.Derivation.TermStatement.{IsValid, Requires}
+use Rattle.swreq_print.specs.swreq_derive.Facts.{statement_of}
+use Rattle.swreq_print.specs.swreq_derive.Lines.{line_of}
+use Rattle.swreq_print.specs.swreq_lexicon.Views.{LexiconView}
+use Rattle.swreq_print.specs.swreq_param.Tables.{Extends}
+use Rattle.swreq_print.specs.swreq_param.Terms.{Term}
+use Rattle.swreq_print.proofs.swreq_lowering.Growing.{ids_stay, of_stays, requirement_stays}
+use Rattle.swreq_print.proofs.swreq_lemmas.Members.{first_member, later_member}
 use Rattle.swreq_lines.specs.LineTexts.{HasLineIds, HasStatementIds}
 
 module _ (old new : List Term) (grown : Extends old new) where

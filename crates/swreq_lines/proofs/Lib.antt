@@ -1,3 +1,5 @@
+pub use Rattle.swreq_print.proofs.swreq_closure as swreq_closure
+pub use Rattle.swreq_print.proofs.swreq_rank as swreq_rank
 pub mod Back
 pub mod Cuts
 pub mod Digits

@@ -1,13 +1,13 @@
 -- The names of a text have no line feed.
 use Rattle.std.proofs.Common.{[], Contains, refl}
 use Rattle.std.proofs.lemmas.List.Elements.{Contains-get_or}
-use Rattle.swreq_decl.specs.declared.skeleton.Skeleton.{Skeleton}
-use Rattle.swreq_lex.specs.declared.token.TokenKind.TheVariants as kinds
-use Rattle.swreq_lex.specs.Slices.{IsSpelled, IsSpelledWord}
-use Rattle.swreq_lexicon.specs.Texts.{IsLexiconOf, protocol_names}
-use Rattle.swreq_lexicon.specs.Views.{LexiconView}
-use Rattle.swreq_names.specs.Mentioned.{mentioned}
-use Rattle.swreq_names.specs.WordBytes.{HasWordBytes, in_word}
+use Rattle.swreq_print.specs.swreq_decl.declared.skeleton.Skeleton.{Skeleton}
+use Rattle.swreq_print.specs.swreq_lex.declared.token.TokenKind.TheVariants as kinds
+use Rattle.swreq_print.specs.swreq_lex.Slices.{IsSpelled, IsSpelledWord}
+use Rattle.swreq_print.specs.swreq_lexicon.Texts.{IsLexiconOf, protocol_names}
+use Rattle.swreq_print.specs.swreq_lexicon.Views.{LexiconView}
+use Rattle.swreq_print.specs.swreq_names.Mentioned.{mentioned}
+use Rattle.swreq_print.specs.swreq_names.WordBytes.{HasWordBytes, in_word}
 use Rattle.swreq_print.specs.Names.{Text, name_text, protocol_name}
 use Rattle.swreq_lines.specs.Pieces.{IsWithout}
 use Rattle.swreq_lines.specs.Writing.{AreNamesOfOneLine}

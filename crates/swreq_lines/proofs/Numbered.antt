@@ -1,10 +1,10 @@
 -- The texts of lines, one after the other.
 use Rattle.std.proofs.Common.{◌≡◌, ◌∙◌, sym, ap, ℕ, suc, ◌+◌, ◌<◌, ◌≤◌, arith, List, ◌∷◌, ◌++◌, length, map, drop, get_or, append_assoc, codes}
 use Rattle.std.proofs.lemmas.List.{append-nil, drop_all, drop_more}
-use Rattle.swreq_derive.specs.declared.lines.Line.{Line}
-use Rattle.swreq_derive.specs.Lines.{line_of}
-use Rattle.swreq_lexicon.specs.Views.{LexiconView}
-use Rattle.swreq_param.specs.Terms.{Term}
+use Rattle.swreq_print.specs.swreq_derive.declared.lines.Line.{Line}
+use Rattle.swreq_print.specs.swreq_derive.Lines.{line_of}
+use Rattle.swreq_print.specs.swreq_lexicon.Views.{LexiconView}
+use Rattle.swreq_print.specs.swreq_param.Terms.{Term}
 use Rattle.swreq_print.specs.Names.{Text}
 use Rattle.swreq_lines.specs.LineTexts.{line_text, lines_from}
 

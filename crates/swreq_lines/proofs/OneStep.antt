@@ -1,10 +1,10 @@
 -- Type parameters with one step more.
 use Rattle.std.proofs.Common.{◌≡◌, ◌∙◌, sym, ap, ap₂, subst, ℕ, ◌+◌, ◌<◌, List, length, take, get_or}
 use Rattle.std.proofs.lemmas.List.{take_more}
-use Rattle.swreq_param.specs.ComparisonLaws.{with_more}
-use Rattle.swreq_param.specs.declared.ids.Step.{Step}
-use Rattle.swreq_param.specs.Terms.{Term, with_steps}
-use Rattle.swreq_param.specs.Terms.Term.{Member}
+use Rattle.swreq_print.specs.swreq_param.ComparisonLaws.{with_more}
+use Rattle.swreq_print.specs.swreq_param.declared.ids.Step.{Step}
+use Rattle.swreq_print.specs.swreq_param.Terms.{Term, with_steps}
+use Rattle.swreq_print.specs.swreq_param.Terms.Term.{Member}
 
 -- What stands for the first k steps stands with the next one for one more.
 pub with_one : (t u v : Term) (steps items : List Step) (k : ℕ) (d : Step) → items ≡ steps → k < length items

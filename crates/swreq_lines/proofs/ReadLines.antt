@@ -5,14 +5,14 @@ use Rattle.std.specs.Fmt.{decimal}
 use Rattle.std.specs.List.{AllByRecursion, list_all}
 use Rattle.std.specs.Option.{is_some, unwrap_or}
 use Rattle.std.proofs.lemmas.List.{append_cancel_left}
-use Rattle.swreq_derive.specs.declared.lines.DerivRule.{DerivRule}
-use Rattle.swreq_derive.specs.declared.lines.DerivRule.TheVariants as Rule
-use Rattle.swreq_derive.specs.Derivation.{TermRequirement, TermStatement}
-use Rattle.swreq_derive.specs.Derivation.TermRequirement.{Conforms, Equals, IsAnyObject}
-use Rattle.swreq_derive.specs.Derivation.TermStatement.{IsValid, Requires}
-use Rattle.swreq_derive.specs.Instances.{TermLine}
-use Rattle.swreq_lexicon.specs.Views.{IsName, IsProtocol, LexiconView}
-use Rattle.swreq_param.specs.Terms.{Term}
+use Rattle.swreq_print.specs.swreq_derive.declared.lines.DerivRule.{DerivRule}
+use Rattle.swreq_print.specs.swreq_derive.declared.lines.DerivRule.TheVariants as Rule
+use Rattle.swreq_print.specs.swreq_derive.Derivation.{TermRequirement, TermStatement}
+use Rattle.swreq_print.specs.swreq_derive.Derivation.TermRequirement.{Conforms, Equals, IsAnyObject}
+use Rattle.swreq_print.specs.swreq_derive.Derivation.TermStatement.{IsValid, Requires}
+use Rattle.swreq_print.specs.swreq_derive.Instances.{TermLine}
+use Rattle.swreq_print.specs.swreq_lexicon.Views.{IsName, IsProtocol, LexiconView}
+use Rattle.swreq_print.specs.swreq_param.Terms.{Term}
 use Rattle.swreq_print.specs.Names.{Text, name_text, protocol_name}
 use Rattle.swreq_print.specs.Reading.{IsReadableRequirement, IsReadableType, TellsApart, in_name}
 use Rattle.swreq_print.specs.Signatures.{requirement_text}

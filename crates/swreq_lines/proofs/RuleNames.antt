@@ -3,8 +3,8 @@ use Rattle.std.proofs.Common.{◌≡◌, ◌∙◌, sym, ap, ℕ, ◌+◌, ◌<�
 use Rattle.std.specs.Bool.{if◌then◌else◌}
 use Rattle.std.specs.Str.{bytes_eq}
 use Rattle.std.proofs.lemmas.List.{drop_all, drop_more}
-use Rattle.swreq_derive.specs.declared.lines.DerivRule.{DerivRule}
-use Rattle.swreq_derive.specs.declared.lines.DerivRule.TheVariants.{Generic}
+use Rattle.swreq_print.specs.swreq_derive.declared.lines.DerivRule.{DerivRule}
+use Rattle.swreq_print.specs.swreq_derive.declared.lines.DerivRule.TheVariants.{Generic}
 use Rattle.swreq_print.specs.Names.{Text}
 use Rattle.swreq_lines.specs.LineTexts.{rule_name}
 use Rattle.swreq_lines.specs.Written.{rule_named}

@@ -2,11 +2,11 @@
 use Rattle.std.proofs.Common.{◌≡◌, ◌∙◌, ◌++◌, ◌∷◌, [], refl, ap, ap₂, ℕ, codes, append_assoc}
 use Rattle.std.specs.Fmt.{decimal}
 use Rattle.std.proofs.lemmas.List.{append-nil}
-use Rattle.swreq_derive.specs.declared.lines.DerivRule.{DerivRule}
-use Rattle.swreq_derive.specs.declared.lines.DerivRule.TheVariants as Rule
-use Rattle.swreq_lexicon.specs.Views.{IsName, IsProtocol, LexiconView}
-use Rattle.swreq_param.specs.declared.ids.NameId.{NameId}
-use Rattle.swreq_param.specs.declared.ids.ProtoId.{ProtoId}
+use Rattle.swreq_print.specs.swreq_derive.declared.lines.DerivRule.{DerivRule}
+use Rattle.swreq_print.specs.swreq_derive.declared.lines.DerivRule.TheVariants as Rule
+use Rattle.swreq_print.specs.swreq_lexicon.Views.{IsName, IsProtocol, LexiconView}
+use Rattle.swreq_print.specs.swreq_param.declared.ids.NameId.{NameId}
+use Rattle.swreq_print.specs.swreq_param.declared.ids.ProtoId.{ProtoId}
 use Rattle.swreq_print.specs.Names.{Text, name_text, protocol_name}
 use Rattle.swreq_print.specs.Reading.{TellsApart}
 use Rattle.swreq_lines.specs.GoodLines.{HasReadableFields, IsShort}

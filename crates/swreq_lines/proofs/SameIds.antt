@@ -1,18 +1,18 @@
 -- Lines over one table that stand for the same are the same.
 use Rattle.std.proofs.Common.{◌≡◌, ◌∷◌, [], refl, ap, ap₂, List, map, Contains}
-use Rattle.swreq_derive.specs.declared.lines.Line.{Line}
-use Rattle.swreq_derive.specs.declared.requirements.Requirement.{Requirement}
-use Rattle.swreq_derive.specs.declared.requirements.Requirement.TheVariants.{Conf, Layout, Same}
-use Rattle.swreq_derive.specs.declared.requirements.Statement.{Statement}
-use Rattle.swreq_derive.specs.declared.requirements.Statement.TheVariants.{Holds, Valid}
-use Rattle.swreq_derive.specs.Facts.{requirement_of, statement_of}
-use Rattle.swreq_derive.specs.Instances.{TermLine}
-use Rattle.swreq_derive.specs.Lines.{line_of}
-use Rattle.swreq_lexicon.specs.Views.{LexiconView}
-use Rattle.swreq_lowering.specs.ByTable.{HasIdsOf}
-use Rattle.swreq_lemmas.proofs.Members.{first_member, later_member}
-use Rattle.swreq_param.specs.Tables.{AreDistinct, term_at}
-use Rattle.swreq_param.specs.Terms.{Term}
+use Rattle.swreq_print.specs.swreq_derive.declared.lines.Line.{Line}
+use Rattle.swreq_print.specs.swreq_derive.declared.requirements.Requirement.{Requirement}
+use Rattle.swreq_print.specs.swreq_derive.declared.requirements.Requirement.TheVariants.{Conf, Layout, Same}
+use Rattle.swreq_print.specs.swreq_derive.declared.requirements.Statement.{Statement}
+use Rattle.swreq_print.specs.swreq_derive.declared.requirements.Statement.TheVariants.{Holds, Valid}
+use Rattle.swreq_print.specs.swreq_derive.Facts.{requirement_of, statement_of}
+use Rattle.swreq_print.specs.swreq_derive.Instances.{TermLine}
+use Rattle.swreq_print.specs.swreq_derive.Lines.{line_of}
+use Rattle.swreq_print.specs.swreq_lexicon.Views.{LexiconView}
+use Rattle.swreq_print.specs.swreq_lowering.ByTable.{HasIdsOf}
+use Rattle.swreq_print.proofs.swreq_lemmas.Members.{first_member, later_member}
+use Rattle.swreq_print.specs.swreq_param.Tables.{AreDistinct, term_at}
+use Rattle.swreq_print.specs.swreq_param.Terms.{Term}
 use Rattle.swreq_lines.specs.LineTexts.{HasLineIds, HasStatementIds}
 
 module _ (terms : List Term) (distinct : AreDistinct terms) where

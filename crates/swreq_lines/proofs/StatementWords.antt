@@ -1,12 +1,12 @@
 -- Statements as they are read: a type parameter, a mark, and what follows the mark.
 use Rattle.std.proofs.Common.{◌≡◌, ◌∙◌, ◌++◌, ◌∷◌, refl, sym, arith, codes, append_assoc, Option, Some, None}
 use Rattle.std.specs.Prelude.{IfSome}
-use Rattle.swreq_derive.specs.Derivation.{TermStatement}
-use Rattle.swreq_derive.specs.Derivation.TermRequirement.{Conforms, Equals, IsAnyObject}
-use Rattle.swreq_derive.specs.Derivation.TermStatement.{IsValid, Requires}
-use Rattle.swreq_lexicon.specs.Views.{IsProtocol, LexiconView}
-use Rattle.swreq_param.specs.declared.ids.ProtoId.{ProtoId}
-use Rattle.swreq_param.specs.Terms.{Term}
+use Rattle.swreq_print.specs.swreq_derive.Derivation.{TermStatement}
+use Rattle.swreq_print.specs.swreq_derive.Derivation.TermRequirement.{Conforms, Equals, IsAnyObject}
+use Rattle.swreq_print.specs.swreq_derive.Derivation.TermStatement.{IsValid, Requires}
+use Rattle.swreq_print.specs.swreq_lexicon.Views.{IsProtocol, LexiconView}
+use Rattle.swreq_print.specs.swreq_param.declared.ids.ProtoId.{ProtoId}
+use Rattle.swreq_print.specs.swreq_param.Terms.{Term}
 use Rattle.swreq_print.specs.Names.{Text, protocol_name}
 use Rattle.swreq_print.specs.Reading.{IsReadableType, TellsApart}
 use Rattle.swreq_print.specs.Types.{type_text}

@@ -5,21 +5,21 @@ use Rattle.std.specs.Fmt.{decimal}
 use Rattle.std.specs.List.{AllByRecursion, list_all}
 use Rattle.std.proofs.lemmas.Bool.{and_parts}
 use Rattle.std.proofs.lemmas.List.{append-nil}
-use Rattle.swreq_lexicon.specs.Lexicons.{pair}
-use Rattle.swreq_lexicon.specs.Views.{IsName, IsProtocol, LexiconView}
-use Rattle.swreq_lowering.specs.OfText.{IsStepOf, IsTermOf}
-use Rattle.swreq_param.specs.ComparisonLaws.{steps_of}
-use Rattle.swreq_param.specs.declared.ids.AssocId.{AssocId}
-use Rattle.swreq_param.specs.declared.ids.NameId.{NameId}
-use Rattle.swreq_param.specs.declared.ids.ParamId.{ParamId}
-use Rattle.swreq_param.specs.declared.ids.ProtoId.{ProtoId}
-use Rattle.swreq_param.specs.declared.ids.Step.{Step}
-use Rattle.swreq_param.specs.declared.ids.Step.TheVariants.{Bound, Name}
-use Rattle.swreq_param.specs.declared.owned.TypeParam.{TypeParam}
-use Rattle.swreq_param.specs.Owned.{as_term}
-use Rattle.swreq_param.specs.OwnedLaws.{heads_same}
-use Rattle.swreq_param.specs.Terms.{Term, head, with_steps}
-use Rattle.swreq_param.specs.Terms.Term.{Generic, Member}
+use Rattle.swreq_print.specs.swreq_lexicon.Lexicons.{pair}
+use Rattle.swreq_print.specs.swreq_lexicon.Views.{IsName, IsProtocol, LexiconView}
+use Rattle.swreq_print.specs.swreq_lowering.OfText.{IsStepOf, IsTermOf}
+use Rattle.swreq_print.specs.swreq_param.ComparisonLaws.{steps_of}
+use Rattle.swreq_print.specs.swreq_param.declared.ids.AssocId.{AssocId}
+use Rattle.swreq_print.specs.swreq_param.declared.ids.NameId.{NameId}
+use Rattle.swreq_print.specs.swreq_param.declared.ids.ParamId.{ParamId}
+use Rattle.swreq_print.specs.swreq_param.declared.ids.ProtoId.{ProtoId}
+use Rattle.swreq_print.specs.swreq_param.declared.ids.Step.{Step}
+use Rattle.swreq_print.specs.swreq_param.declared.ids.Step.TheVariants.{Bound, Name}
+use Rattle.swreq_print.specs.swreq_param.declared.owned.TypeParam.{TypeParam}
+use Rattle.swreq_print.specs.swreq_param.Owned.{as_term}
+use Rattle.swreq_print.specs.swreq_param.OwnedLaws.{heads_same}
+use Rattle.swreq_print.specs.swreq_param.Terms.{Term, head, with_steps}
+use Rattle.swreq_print.specs.swreq_param.Terms.Term.{Generic, Member}
 use Rattle.swreq_print.specs.Names.{Text, name_text, pair_at, protocol_name}
 use Rattle.swreq_print.specs.Reading.{HasNumbers, IsAssociated, IsReadableType, TellsApart, in_name}
 use Rattle.swreq_print.specs.Types.{bound_text, param_text, step_text, steps_text, type_text}

@@ -1,13 +1,13 @@
 -- Which lines of a text are good, and what is read of them.
 use Rattle.std.specs.Prelude.{◌≡◌, ◌<◌, ◌+◌, ◌^◌, ℕ, suc, List, [], ◌∷◌, Some, map, slice_get, IfSome}
 use Rattle.std.specs.List.{AllByRecursion}
-use Rattle.swreq_param.specs.Terms.{Term}
-use Rattle.swreq_derive.specs.declared.lines.Line.{Line}
-use Rattle.swreq_derive.specs.Derivation.{TermStatement}
-use Rattle.swreq_derive.specs.Derivation.TermStatement.{IsValid, Requires}
-use Rattle.swreq_derive.specs.Instances.{HasNumber, TermLine}
-use Rattle.swreq_derive.specs.Lines.{line_of}
-use Rattle.swreq_lexicon.specs.Views.{LexiconView}
+use Rattle.swreq_print.specs.swreq_param.Terms.{Term}
+use Rattle.swreq_print.specs.swreq_derive.declared.lines.Line.{Line}
+use Rattle.swreq_print.specs.swreq_derive.Derivation.{TermStatement}
+use Rattle.swreq_print.specs.swreq_derive.Derivation.TermStatement.{IsValid, Requires}
+use Rattle.swreq_print.specs.swreq_derive.Instances.{HasNumber, TermLine}
+use Rattle.swreq_print.specs.swreq_derive.Lines.{line_of}
+use Rattle.swreq_print.specs.swreq_lexicon.Views.{LexiconView}
 use Rattle.swreq_text.specs.Lines.{lines}
 use Rattle.swreq_print.specs.Names.{Text}
 use Rattle.swreq_print.specs.Reading.{IsReadableRequirement, IsReadableType}

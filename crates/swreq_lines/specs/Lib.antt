@@ -1,3 +1,4 @@
+pub use Rattle.swreq_print.specs as swreq_print
 pub mod Pieces
 pub mod LineTexts
 pub mod GoodLines

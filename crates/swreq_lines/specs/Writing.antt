@@ -1,8 +1,8 @@
 -- What names and lines have to be for what is written of lines to be read as the same lines.
 use Rattle.std.specs.Prelude.{ℕ}
-use Rattle.swreq_lexicon.specs.Views.{IsName, IsProtocol, LexiconView}
-use Rattle.swreq_param.specs.declared.ids.NameId.{NameId}
-use Rattle.swreq_param.specs.declared.ids.ProtoId.{ProtoId}
+use Rattle.swreq_print.specs.swreq_lexicon.Views.{IsName, IsProtocol, LexiconView}
+use Rattle.swreq_print.specs.swreq_param.declared.ids.NameId.{NameId}
+use Rattle.swreq_print.specs.swreq_param.declared.ids.ProtoId.{ProtoId}
 use Rattle.swreq_print.specs.Names.{name_text, protocol_name}
 use Rattle.swreq_lines.specs.Pieces.{IsWithout}
 

@@ -1,18 +1,15 @@
 //! What is read, over the ids of a table.
 
 ghost use Rattle.std.specs.Prelude.{◌≡◌, IfOk};
-ghost use Rattle.swreq_derive.specs.Derivation.TermRequirement.{Equals};
-ghost use Rattle.swreq_derive.specs.Facts.{requirement_of, statement_of};
-ghost use Rattle.swreq_lowering.specs.ByTable.{HasIdsOf};
-ghost use Rattle.swreq_param.specs.Owned.{as_term};
-ghost use Rattle.swreq_param.specs.Tables.{Extends, IsOf, term_at};
-ghost use Rattle.swreq_lines.specs.LineTexts.{HasStatementIds};
-ghost use Rattle.swreq_lines.specs.Written.{statement_meant};
+ghost use Rattle.swreq_print.specs.swreq_derive.{Derivation.TermRequirement.{Equals}, Facts.{requirement_of, statement_of}};
+ghost use Rattle.swreq_print.specs.swreq_lowering.ByTable.{HasIdsOf};
+ghost use Rattle.swreq_print.specs.swreq_param.{Owned.{as_term}, Tables.{Extends, IsOf, term_at}};
+ghost use Rattle.swreq_lines.specs.{LineTexts.{HasStatementIds}, Written.{statement_meant}};
 
 use crate::statements::WrittenStatement;
 use std::alloc::AllocError;
-use swreq_derive::{Requirement, Statement};
-use swreq_param::{ParamTable, TermId, TypeParam};
+use swreq_print::derive::{Requirement, Statement};
+use swreq_print::param::{ParamTable, TermId, TypeParam};
 
 /// The id of a type parameter.
 fn intern(table: &mut ParamTable, t: &TypeParam) -> Result<TermId, AllocError>

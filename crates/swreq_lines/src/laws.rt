@@ -1,22 +1,14 @@
 //! What is written of lines is read as the same lines.
 
-ghost use Rattle.std.specs.Prelude.{◌≡◌, ◌≤◌, ℕ, List, Contains, length, map};
-ghost use Rattle.std.specs.List.{AllByRecursion};
-ghost use Rattle.swreq_decl.specs.declared.skeleton.Skeleton.{Skeleton};
-ghost use Rattle.swreq_decl.specs.Skeletons.{StandsFor};
-ghost use Rattle.swreq_derive.specs.declared.lines.Line.{Line};
-ghost use Rattle.swreq_derive.specs.Instances.{TermLine};
-ghost use Rattle.swreq_derive.specs.Lines.{line_of};
-ghost use Rattle.swreq_lexicon.specs.Texts.{IsLexiconOf};
-ghost use Rattle.swreq_lexicon.specs.Views.{LexiconView};
-ghost use Rattle.swreq_param.specs.Tables.{AreDistinct, Extends};
-ghost use Rattle.swreq_param.specs.Terms.{Term};
+ghost use Rattle.std.specs.{Prelude.{◌≡◌, ◌≤◌, ℕ, List, Contains, length, map}, List.{AllByRecursion}};
+ghost use Rattle.swreq_print.specs.swreq_decl.{declared.skeleton.Skeleton.{Skeleton}, Skeletons.{StandsFor}};
+ghost use Rattle.swreq_print.specs.swreq_derive.{declared.lines.Line.{Line}, Instances.{TermLine}, Lines.{line_of}};
+ghost use Rattle.swreq_print.specs.swreq_lexicon.{Texts.{IsLexiconOf}, Views.{LexiconView}};
+ghost use Rattle.swreq_print.specs.swreq_param.{Tables.{AreDistinct, Extends}, Terms.{Term}};
 ghost use Rattle.swreq_print.specs.Reading.{TellsApart};
-ghost use Rattle.swreq_lines.specs.GoodLines.{AreLinesOf, IsFirstNotGood, IsReadableLine};
-ghost use Rattle.swreq_lines.specs.LineTexts.{HasLineIds, line_text, lines_text};
-ghost use Rattle.swreq_lines.specs.Writing.{AreNamesOfOneLine};
+ghost use Rattle.swreq_lines.specs.{GoodLines.{AreLinesOf, IsFirstNotGood, IsReadableLine}, LineTexts.{HasLineIds, line_text, lines_text}, Writing.{AreNamesOfOneLine}};
 
-use swreq_names::laws::{names_are_words, words_have_word_bytes};
+use swreq_print::names::{names_are_words, words_have_word_bytes};
 
 /// No name of a text has a line feed.
 pub fn names_are_of_one_line(text: &[u8])

@@ -1,20 +1,16 @@
 //! Reading the lines of a derivation.
 
 ghost use Rattle.std.specs.Prelude.{◌≡◌, ◌≤◌, Contains, IfErr, IfOk, length};
-ghost use Rattle.swreq_derive.specs.declared.lines.Line.{Line};
-ghost use Rattle.swreq_derive.specs.Lines.{line_of};
-ghost use Rattle.swreq_param.specs.Tables.{Extends};
+ghost use Rattle.swreq_print.specs.swreq_derive.{declared.lines.Line.{Line}, Lines.{line_of}};
+ghost use Rattle.swreq_print.specs.swreq_param.Tables.{Extends};
 ghost use Rattle.swreq_print.specs.Reading.{TellsApart};
-ghost use Rattle.swreq_lines.specs.GoodLines.{AreLinesOf, IsRefused, IsTextOf};
-ghost use Rattle.swreq_lines.specs.LineTexts.{HasLineIds};
-ghost use Rattle.swreq_lines.specs.Written.{IsRefusedAt};
-ghost use Rattle.swreq_lines.specs.declared.lines.LinesErr.TheVariants.{Memory};
+ghost use Rattle.swreq_lines.specs.{GoodLines.{AreLinesOf, IsRefused, IsTextOf}, LineTexts.{HasLineIds}, Written.{IsRefusedAt}, declared.lines.LinesErr.TheVariants.{Memory}};
 
 use crate::reading::read_line;
 use std::alloc::{AllocError, AllocFailed, Global};
-use swreq_derive::Line;
-use swreq_lexicon::Lexicon;
-use swreq_param::ParamTable;
+use swreq_print::derive::Line;
+use swreq_print::lexicon::Lexicon;
+use swreq_print::param::ParamTable;
 use swreq_text::first_line;
 
 /// Why lines are refused.

@@ -1,16 +1,12 @@
 //! The ids that names stand for. Where a name stands for none, the answer is an id that is not of the text.
 
 ghost use Rattle.std.specs.Prelude.{◌≡◌};
-ghost use Rattle.swreq_lexicon.specs.Lexicons.{pair};
-ghost use Rattle.swreq_lexicon.specs.Views.{IsName, IsProtocol};
-ghost use Rattle.swreq_param.specs.declared.ids.AssocId.{AssocId};
-ghost use Rattle.swreq_param.specs.declared.ids.NameId.{NameId};
-ghost use Rattle.swreq_param.specs.declared.ids.ProtoId.{ProtoId};
-ghost use Rattle.swreq_print.specs.Names.{name_text, pair_at, protocol_name};
-ghost use Rattle.swreq_print.specs.Reading.{IsAssociated, TellsApart};
+ghost use Rattle.swreq_print.specs.swreq_lexicon.{Lexicons.{pair}, Views.{IsName, IsProtocol}};
+ghost use Rattle.swreq_print.specs.swreq_param.{declared.ids.AssocId.{AssocId}, declared.ids.NameId.{NameId}, declared.ids.ProtoId.{ProtoId}};
+ghost use Rattle.swreq_print.specs.{Names.{name_text, pair_at, protocol_name}, Reading.{IsAssociated, TellsApart}};
 
-use swreq_lexicon::Lexicon;
-use swreq_param::{AssocId, NameId, ProtoId};
+use swreq_print::lexicon::Lexicon;
+use swreq_print::param::{AssocId, NameId, ProtoId};
 
 /// The protocol with this name.
 pub(crate) fn protocol_named(names: &Lexicon, name: &[u8]) -> ProtoId

@@ -1,18 +1,16 @@
 //! Whether what is read of a line is of the text.
 
-ghost use Rattle.std.specs.Prelude.{◌↔◌, IsTrue};
-ghost use Rattle.std.specs.List.{AllByRecursion};
-ghost use Rattle.swreq_lowering.specs.OfText.{IsStepOf};
-ghost use Rattle.swreq_param.specs.Owned.{as_term};
+ghost use Rattle.std.specs.{Prelude.{◌↔◌, IsTrue}, List.{AllByRecursion}};
+ghost use Rattle.swreq_print.specs.swreq_lowering.OfText.{IsStepOf};
+ghost use Rattle.swreq_print.specs.swreq_param.Owned.{as_term};
 ghost use Rattle.swreq_print.specs.Reading.{HasNumbers, IsReadableType};
-ghost use Rattle.swreq_lines.specs.GoodLines.{HasReadableFields, IsReadableLine, IsReadableStatement, IsShort};
-ghost use Rattle.swreq_lines.specs.Written.{line_meant, statement_meant};
+ghost use Rattle.swreq_lines.specs.{GoodLines.{HasReadableFields, IsReadableLine, IsReadableStatement, IsShort}, Written.{line_meant, statement_meant}};
 
 use crate::reading::WrittenLine;
 use crate::rules::{Fields, fields_of};
 use crate::statements::WrittenStatement;
-use swreq_lexicon::Lexicon;
-use swreq_param::{ParamId, Step, TypeParam};
+use swreq_print::lexicon::Lexicon;
+use swreq_print::param::{ParamId, Step, TypeParam};
 
 /// Whether the name or the associated type is of the text.
 fn has_step(names: &Lexicon, step: Step) -> bool

@@ -1,10 +1,7 @@
 //! Reading the numbers of premises.
 
-ghost use Rattle.std.specs.Prelude.{◌≡◌, ℕ, List, IfOk};
-ghost use Rattle.std.specs.List.{AllByRecursion};
-ghost use Rattle.swreq_lines.specs.GoodLines.{IsShort};
-ghost use Rattle.swreq_lines.specs.LineTexts.{premises_text};
-ghost use Rattle.swreq_lines.specs.Pieces.{behind};
+ghost use Rattle.std.specs.{Prelude.{◌≡◌, ℕ, List, IfOk}, List.{AllByRecursion}};
+ghost use Rattle.swreq_lines.specs.{GoodLines.{IsShort}, LineTexts.{premises_text}, Pieces.{behind}};
 
 use crate::numbers::read_number;
 use crate::pieces::{next_piece, next_word};

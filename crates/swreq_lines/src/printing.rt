@@ -1,18 +1,16 @@
 //! The texts of lines.
 
 ghost use Rattle.std.specs.Prelude.{◌≡◌, ◌++◌, ⊤, Contains, IfSome, OnErr, OnOk, codes, decimal, map};
-ghost use Rattle.swreq_derive.specs.declared.lines.Line.{Line};
-ghost use Rattle.swreq_derive.specs.Facts.{statement_of};
-ghost use Rattle.swreq_derive.specs.Lines.{line_of};
-ghost use Rattle.swreq_lexicon.specs.Views.{IsName, IsProtocol};
+ghost use Rattle.swreq_print.specs.swreq_derive.{declared.lines.Line.{Line}, Facts.{statement_of}, Lines.{line_of}};
+ghost use Rattle.swreq_print.specs.swreq_lexicon.Views.{IsName, IsProtocol};
 ghost use Rattle.swreq_print.specs.Names.{name_text, protocol_name};
 ghost use Rattle.swreq_lines.specs.LineTexts.{HasLineIds, HasRuleIds, HasStatementIds, field_text, fields_of, line_text, lines_text, premises_text, rule_text, statement_text};
 
 use crate::rules::{fields_of, rule_name};
 use std::alloc::{AllocError, Global};
-use swreq_derive::{DerivRule, Line, Statement};
-use swreq_lexicon::Lexicon;
-use swreq_param::{NameId, ParamTable, ProtoId};
+use swreq_print::derive::{DerivRule, Line, Statement};
+use swreq_print::lexicon::Lexicon;
+use swreq_print::param::{NameId, ParamTable, ProtoId};
 use swreq_print::{requirement_text, type_text};
 use swreq_text::{Print, append_bytes, append_number, put_joined};
 

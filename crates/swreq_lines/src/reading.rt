@@ -1,13 +1,10 @@
 //! Reading one line.
 
 ghost use Rattle.std.specs.Prelude.{◌≡◌, ◌↔◌, ℕ, IfOk, IfSome, IsTrue, MatchOption};
-ghost use Rattle.swreq_derive.specs.Instances.{TermLine};
-ghost use Rattle.swreq_derive.specs.Lines.{line_of};
-ghost use Rattle.swreq_param.specs.Tables.{Extends};
+ghost use Rattle.swreq_print.specs.swreq_derive.{Instances.{TermLine}, Lines.{line_of}};
+ghost use Rattle.swreq_print.specs.swreq_param.Tables.{Extends};
 ghost use Rattle.swreq_print.specs.Reading.{TellsApart};
-ghost use Rattle.swreq_lines.specs.GoodLines.{IsGood, IsReadableLine, IsShort, IsTextOf};
-ghost use Rattle.swreq_lines.specs.LineTexts.{HasLineIds, HasStatementIds, line_text};
-ghost use Rattle.swreq_lines.specs.Written.{line_meant};
+ghost use Rattle.swreq_lines.specs.{GoodLines.{IsGood, IsReadableLine, IsShort, IsTextOf}, LineTexts.{HasLineIds, HasStatementIds, line_text}, Written.{line_meant}};
 
 use crate::interning::intern_statement;
 use crate::of_text::has_line;
@@ -17,9 +14,9 @@ use crate::printing::put_line;
 use crate::rules::read_rule;
 use crate::statements::{WrittenStatement, read_statement};
 use std::alloc::{AllocError, Global};
-use swreq_derive::{DerivRule, Line};
-use swreq_lexicon::Lexicon;
-use swreq_param::ParamTable;
+use swreq_print::derive::{DerivRule, Line};
+use swreq_print::lexicon::Lexicon;
+use swreq_print::param::ParamTable;
 use swreq_text::Seq;
 
 /// A line over type parameters by themselves.

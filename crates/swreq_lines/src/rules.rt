@@ -1,20 +1,16 @@
 //! Rules: their names and fields, and reading them.
 
 ghost use Rattle.std.specs.Prelude.{◌≡◌, ◌++◌};
-ghost use Rattle.swreq_derive.specs.declared.lines.DerivRule.{DerivRule};
-ghost use Rattle.swreq_print.specs.Names.{Text};
-ghost use Rattle.swreq_print.specs.Reading.{TellsApart};
-ghost use Rattle.swreq_lines.specs.GoodLines.{HasReadableFields};
-ghost use Rattle.swreq_lines.specs.LineTexts.{fields_of, rule_name, rule_text};
-ghost use Rattle.swreq_lines.specs.Pieces.{Ends, behind};
-ghost use Rattle.swreq_lines.specs.Written.{behind_fields, rule_named, rules_with};
+ghost use Rattle.swreq_print.specs.swreq_derive.declared.lines.DerivRule.{DerivRule};
+ghost use Rattle.swreq_print.specs.{Names.{Text}, Reading.{TellsApart}};
+ghost use Rattle.swreq_lines.specs.{GoodLines.{HasReadableFields}, LineTexts.{fields_of, rule_name, rule_text}, Pieces.{Ends, behind}, Written.{behind_fields, rule_named, rules_with}};
 
 use crate::named::{name_named, protocol_named};
 use crate::numbers::read_number;
 use crate::pieces::next_word;
-use swreq_derive::DerivRule;
-use swreq_lexicon::Lexicon;
-use swreq_param::{NameId, ProtoId};
+use swreq_print::derive::DerivRule;
+use swreq_print::lexicon::Lexicon;
+use swreq_print::param::{NameId, ProtoId};
 
 /// The protocol, the name and the number of a rule, where it has them.
 #[derive(Clone, Copy)]

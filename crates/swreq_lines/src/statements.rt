@@ -1,26 +1,18 @@
 //! Reading statements.
 
 ghost use Rattle.std.specs.Prelude.{◌≡◌, ◌++◌, Option, codes, IfOk, IfSome};
-ghost use Rattle.swreq_derive.specs.Derivation.{TermStatement};
-ghost use Rattle.swreq_derive.specs.Derivation.TermRequirement.{Equals};
-ghost use Rattle.swreq_derive.specs.Derivation.TermStatement.{Requires};
-ghost use Rattle.swreq_lexicon.specs.Views.{IsProtocol};
-ghost use Rattle.swreq_param.specs.declared.ids.ProtoId.{ProtoId};
-ghost use Rattle.swreq_param.specs.Owned.{as_term};
-ghost use Rattle.swreq_param.specs.Terms.{Term};
-ghost use Rattle.swreq_print.specs.Names.{Text};
-ghost use Rattle.swreq_print.specs.Reading.{IsReadableType, TellsApart};
-ghost use Rattle.swreq_print.specs.Types.{type_text};
-ghost use Rattle.swreq_lines.specs.GoodLines.{IsReadableStatement};
-ghost use Rattle.swreq_lines.specs.LineTexts.{statement_text};
-ghost use Rattle.swreq_lines.specs.Written.{property_of, property_text, statement_meant};
+ghost use Rattle.swreq_print.specs.swreq_derive.{Derivation.{TermStatement}, Derivation.TermRequirement.{Equals}, Derivation.TermStatement.{Requires}};
+ghost use Rattle.swreq_print.specs.swreq_lexicon.Views.{IsProtocol};
+ghost use Rattle.swreq_print.specs.swreq_param.{declared.ids.ProtoId.{ProtoId}, Owned.{as_term}, Terms.{Term}};
+ghost use Rattle.swreq_print.specs.{Names.{Text}, Reading.{IsReadableType, TellsApart}, Types.{type_text}};
+ghost use Rattle.swreq_lines.specs.{GoodLines.{IsReadableStatement}, LineTexts.{statement_text}, Written.{property_of, property_text, statement_meant}};
 
 use crate::named::protocol_named;
 use crate::pieces::next_word;
 use crate::types::read_type;
 use std::alloc::{AllocError, Global};
-use swreq_lexicon::Lexicon;
-use swreq_param::{ProtoId, TypeParam};
+use swreq_print::lexicon::Lexicon;
+use swreq_print::param::{ProtoId, TypeParam};
 
 /// A statement over type parameters by themselves.
 #[derive(Drop)]

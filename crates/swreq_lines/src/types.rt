@@ -1,22 +1,17 @@
 //! Reading type parameters.
 
-ghost use Rattle.std.specs.Prelude.{◌≡◌, IfOk, List};
-ghost use Rattle.std.specs.List.{AllByRecursion};
-ghost use Rattle.swreq_lowering.specs.OfText.{IsStepOf};
-ghost use Rattle.swreq_param.specs.declared.ids.ParamId.{ParamId};
-ghost use Rattle.swreq_param.specs.declared.ids.Step.{Step};
-ghost use Rattle.swreq_param.specs.Owned.{as_term};
-ghost use Rattle.swreq_param.specs.Terms.{Term};
-ghost use Rattle.swreq_print.specs.Reading.{HasNumbers, IsReadableType, TellsApart};
-ghost use Rattle.swreq_print.specs.Types.{param_text, step_text, steps_text, type_text};
+ghost use Rattle.std.specs.{Prelude.{◌≡◌, IfOk, List}, List.{AllByRecursion}};
+ghost use Rattle.swreq_print.specs.swreq_lowering.OfText.{IsStepOf};
+ghost use Rattle.swreq_print.specs.swreq_param.{declared.ids.ParamId.{ParamId}, declared.ids.Step.{Step}, Owned.{as_term}, Terms.{Term}};
+ghost use Rattle.swreq_print.specs.{Reading.{HasNumbers, IsReadableType, TellsApart}, Types.{param_text, step_text, steps_text, type_text}};
 ghost use Rattle.swreq_lines.specs.Pieces.{behind};
 
 use crate::named::{associated, name_named, protocol_named};
 use crate::numbers::read_number;
 use crate::pieces::next_piece;
 use std::alloc::{AllocError, Global};
-use swreq_lexicon::Lexicon;
-use swreq_param::{ParamId, Step, TypeParam};
+use swreq_print::lexicon::Lexicon;
+use swreq_print::param::{ParamId, Step, TypeParam};
 use swreq_text::Seq;
 
 /// The generic parameter that is written as `τ_d_i`.

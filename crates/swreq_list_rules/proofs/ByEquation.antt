@@ -1,20 +1,20 @@
 -- Whether a requirement is derivable, as the rules of a list tell it.
 use Rattle.std.proofs.Common.{◌≡◌, ◌↔◌, sym, subst, subst₂, Bool, List, [], ◌∷◌}
 use Rattle.std.specs.Bool.{Decides}
-use Rattle.swreq_derive.specs.Derivation.{Derivable, TermRequirement}
-use Rattle.swreq_derive.specs.Derivation.Source.{Written}
-use Rattle.swreq_derive.specs.Derivation.TermRequirement.{Conforms, IsAnyObject, Equals}
-use Rattle.swreq_derive.specs.Derivation.TermStatement.{Requires}
-use Rattle.swreq_derive.specs.declared.known.Params.{Params}
-use Rattle.swreq_derive.specs.Facts.{generic_params}
-use Rattle.swreq_derive.specs.WellFormed.{HasValidSides}
-use Rattle.swreq_derive.proofs.Substitution.{valid_sides}
-use Rattle.swreq_rule.specs.declared.rules.Rule.{Rule}
-use Rattle.swreq_correspondence.specs.Symbols.{IsInText, left_side, right_side}
-use Rattle.swreq_rounds.specs.Presents.{AreListRules}
-use Rattle.swreq_symbols.specs.Vanishing.{Links}
+use Rattle.swreq_machine.specs.swreq_derive.Derivation.{Derivable, TermRequirement}
+use Rattle.swreq_machine.specs.swreq_derive.Derivation.Source.{Written}
+use Rattle.swreq_machine.specs.swreq_derive.Derivation.TermRequirement.{Conforms, IsAnyObject, Equals}
+use Rattle.swreq_machine.specs.swreq_derive.Derivation.TermStatement.{Requires}
+use Rattle.swreq_machine.specs.swreq_derive.declared.known.Params.{Params}
+use Rattle.swreq_machine.specs.swreq_derive.Facts.{generic_params}
+use Rattle.swreq_machine.specs.swreq_derive.WellFormed.{HasValidSides}
+use Rattle.swreq_machine.proofs.swreq_derive.Substitution.{valid_sides}
+use Rattle.swreq_machine.specs.swreq_rule.declared.rules.Rule.{Rule}
+use Rattle.swreq_machine.specs.swreq_correspondence.Symbols.{IsInText, left_side, right_side}
+use Rattle.swreq_machine.specs.swreq_rounds.Presents.{AreListRules}
+use Rattle.swreq_machine.specs.swreq_symbols.Vanishing.{Links}
 use Rattle.swreq_machine.specs.Machines.{IsMachineOf, MachineView}
-use Rattle.swreq_valid.specs.Rounds.{ended_round, last_rules}
+use Rattle.swreq_machine.specs.swreq_valid.Rounds.{ended_round, last_rules}
 use Rattle.swreq_machine.proofs.Answering.{by_sides, derivable_shown, shown_derivable}
 use Rattle.swreq_list_rules.specs.declared.setting.Setting.{Setting}
 use Rattle.swreq_list_rules.specs.ListRules.{AreRulesOfList, AreShownBy}

@@ -1,20 +1,20 @@
 -- The rules of a list, completed by the equation of one requirement more.
 use Rattle.std.proofs.Common.{◌≡◌, ◌⊎◌, ◌∙◌, inl, inr, refl, sym, ap, subst, subst₂, List, [], ◌∷◌, ◌++◌, length, Contains}
 use Rattle.std.proofs.lemmas.List.Elements.{Contains-append_left, Contains-append_right, Contains-push_cases}
-use Rattle.swreq_lemmas.proofs.Members.{first_member, only_member}
-use Rattle.swreq_param.specs.declared.ids.ParamId.{ParamId}
-use Rattle.swreq_derive.specs.Derivation.{Derivable, TermFacts, TermRequirement, TermStatement}
-use Rattle.swreq_derive.specs.Derivation.Source.{Written}
-use Rattle.swreq_derive.specs.Derivation.TermRequirement.{Conforms, Equals, IsAnyObject}
-use Rattle.swreq_derive.specs.WellFormed.{HasValidSides, IsListWellFormed}
-use Rattle.swreq_derive.proofs.Monotone.{grows}
-use Rattle.swreq_rule.specs.declared.rules.Rule.{Rule}
-use Rattle.swreq_complete.specs.Reached.{BeginsWith, IsEnded}
-use Rattle.swreq_correspondence.specs.Symbols.{Symbols, Word, left_side, right_side}
-use Rattle.swreq_correspondence.specs.Equations.{UsableEquation}
-use Rattle.swreq_correspondence.specs.Equations.Equation.{member, of_protocol, of_source, twice}
-use Rattle.swreq_rounds.specs.Presents.{AreListRules}
-use Rattle.swreq_rounds.proofs.Presented.{ended_presents}
+use Rattle.swreq_machine.proofs.swreq_lemmas.Members.{first_member, only_member}
+use Rattle.swreq_machine.specs.swreq_param.declared.ids.ParamId.{ParamId}
+use Rattle.swreq_machine.specs.swreq_derive.Derivation.{Derivable, TermFacts, TermRequirement, TermStatement}
+use Rattle.swreq_machine.specs.swreq_derive.Derivation.Source.{Written}
+use Rattle.swreq_machine.specs.swreq_derive.Derivation.TermRequirement.{Conforms, Equals, IsAnyObject}
+use Rattle.swreq_machine.specs.swreq_derive.WellFormed.{HasValidSides, IsListWellFormed}
+use Rattle.swreq_machine.proofs.swreq_derive.Monotone.{grows}
+use Rattle.swreq_machine.specs.swreq_rule.declared.rules.Rule.{Rule}
+use Rattle.swreq_machine.specs.swreq_complete.Reached.{BeginsWith, IsEnded}
+use Rattle.swreq_machine.specs.swreq_correspondence.Symbols.{Symbols, Word, left_side, right_side}
+use Rattle.swreq_machine.specs.swreq_correspondence.Equations.{UsableEquation}
+use Rattle.swreq_machine.specs.swreq_correspondence.Equations.Equation.{member, of_protocol, of_source, twice}
+use Rattle.swreq_machine.specs.swreq_rounds.Presents.{AreListRules}
+use Rattle.swreq_machine.proofs.swreq_rounds.Presented.{ended_presents}
 
 module _ (m : Symbols) (f : TermFacts) (gs : List ParamId) (rs : List TermRequirement) (r : TermRequirement) where
   abbrev more : List TermRequirement

@@ -3,24 +3,24 @@ use Rattle.std.proofs.Common.{◌≡◌, ◌⊎◌, inl, inr, refl, sym, subst, 
 use Rattle.std.specs.Prelude.{remove}
 use Rattle.std.proofs.lemmas.List.{map-append}
 use Rattle.std.proofs.lemmas.List.Elements.{Contains-append_cases, Contains-append_left, Contains-append_right, Contains-get_or, Contains-push_cases}
-use Rattle.swreq_lemmas.proofs.Members.{contains_map, contains_of_map, first_member, no_member}
-use Rattle.swreq_derive.specs.declared.requirements.Requirement.{Requirement}
-use Rattle.swreq_derive.specs.Derivation.{TermRequirement}
-use Rattle.swreq_derive.specs.Derivation.Source.{Written}
-use Rattle.swreq_derive.specs.Derivation.TermRequirement.{Conforms, Equals, IsAnyObject}
-use Rattle.swreq_derive.specs.Facts.{requirement_of}
-use Rattle.swreq_derive.specs.WellFormed.{HasValidSides, IsUsable}
-use Rattle.swreq_derive.proofs.Monotone.{grows}
-use Rattle.swreq_rule.specs.declared.rules.Rule.{Rule}
-use Rattle.swreq_complete.specs.declared.limit.Failed.{Failed}
-use Rattle.swreq_complete.specs.Answers.{IsAnswer}
-use Rattle.swreq_complete.specs.Reached.{IsEnded}
-use Rattle.swreq_correspondence.specs.Symbols.{Word, left_side, right_side}
-use Rattle.swreq_correspondence.specs.Equations.Equation.{member, of_protocol, of_source, twice}
-use Rattle.swreq_correspondence.specs.Equations.{UsableEquation}
-use Rattle.swreq_rounds.specs.Presents.{ProtocolEquation}
-use Rattle.swreq_rounds.proofs.Presented.{presents_to}
-use Rattle.swreq_valid.specs.Rounds.{last_rules}
+use Rattle.swreq_machine.proofs.swreq_lemmas.Members.{contains_map, contains_of_map, first_member, no_member}
+use Rattle.swreq_machine.specs.swreq_derive.declared.requirements.Requirement.{Requirement}
+use Rattle.swreq_machine.specs.swreq_derive.Derivation.{TermRequirement}
+use Rattle.swreq_machine.specs.swreq_derive.Derivation.Source.{Written}
+use Rattle.swreq_machine.specs.swreq_derive.Derivation.TermRequirement.{Conforms, Equals, IsAnyObject}
+use Rattle.swreq_machine.specs.swreq_derive.Facts.{requirement_of}
+use Rattle.swreq_machine.specs.swreq_derive.WellFormed.{HasValidSides, IsUsable}
+use Rattle.swreq_machine.proofs.swreq_derive.Monotone.{grows}
+use Rattle.swreq_machine.specs.swreq_rule.declared.rules.Rule.{Rule}
+use Rattle.swreq_machine.specs.swreq_complete.declared.limit.Failed.{Failed}
+use Rattle.swreq_machine.specs.swreq_complete.Answers.{IsAnswer}
+use Rattle.swreq_machine.specs.swreq_complete.Reached.{IsEnded}
+use Rattle.swreq_machine.specs.swreq_correspondence.Symbols.{Word, left_side, right_side}
+use Rattle.swreq_machine.specs.swreq_correspondence.Equations.Equation.{member, of_protocol, of_source, twice}
+use Rattle.swreq_machine.specs.swreq_correspondence.Equations.{UsableEquation}
+use Rattle.swreq_machine.specs.swreq_rounds.Presents.{ProtocolEquation}
+use Rattle.swreq_machine.proofs.swreq_rounds.Presented.{presents_to}
+use Rattle.swreq_machine.specs.swreq_valid.Rounds.{last_rules}
 use Rattle.swreq_machine.proofs.Listing.{list_in_text}
 use Rattle.swreq_list_rules.specs.declared.setting.Setting.{Setting}
 use Rattle.swreq_list_rules.specs.ListRules.{AreCompletedBy, AreOfList, AreRulesOfList, AreShownBy, AreUnderway, ListRulesView}

@@ -4,7 +4,7 @@ use Rattle.std.specs.Prelude.{remove}
 use Rattle.std.proofs.lemmas.List.{take-append-drop}
 use Rattle.std.proofs.lemmas.List.Edits.{remove-append_right}
 use Rattle.std.proofs.lemmas.List.Elements.{Contains-append_cases, Contains-append_left, Contains-append_right}
-use Rattle.swreq_lemmas.proofs.Members.{contains_map, contains_of_map, first_member, later_member, member_cases, no_member}
+use Rattle.swreq_machine.proofs.swreq_lemmas.Members.{contains_map, contains_of_map, first_member, later_member, member_cases, no_member}
 
 -- some members of a list, all of them of one kind, and all others of another
 pub record AreParted {X : Type 0} (A B : X → Type 0) (list some : List X) : Type 0 where

@@ -1,18 +1,18 @@
 -- Of a list and of its usable members alone the same is derivable, and their equations are the same.
 use Rattle.std.proofs.Common.{◌≡◌, refl, sym, subst₂, List, Contains}
-use Rattle.swreq_param.specs.declared.ids.ParamId.{ParamId}
-use Rattle.swreq_derive.specs.Derivation.{Derivable, HasParam, HasRequirement, Source, TermFacts, TermRequirement, TermStatement}
-use Rattle.swreq_derive.specs.Derivation.Source.{Written}
-use Rattle.swreq_derive.specs.Derivation.TermRequirement.{Conforms, Equals, IsAnyObject}
-use Rattle.swreq_derive.specs.Derivation.Derives.{generic, conf, same, layout, assoc_name, assoc_decl, assoc_bind, assoc_conf, assoc_same, assoc_layout, reflex, symm, trans, same_conf, same_layout, same_name, same_decl}
-use Rattle.swreq_derive.specs.WellFormed.{HasValidSides}
-use Rattle.swreq_derive.proofs.Monotone.{grows}
-use Rattle.swreq_rule.specs.declared.rules.Rule.{Rule}
-use Rattle.swreq_correspondence.specs.Symbols.{Symbols, Word, left_side, right_side}
-use Rattle.swreq_correspondence.specs.Equations.{UsableEquation}
-use Rattle.swreq_correspondence.specs.Equations.Equation.{member, of_protocol, of_source, twice}
-use Rattle.swreq_rounds.specs.Presents.{AreListRules}
-use Rattle.swreq_rounds.proofs.Presented.{presents_to}
+use Rattle.swreq_machine.specs.swreq_param.declared.ids.ParamId.{ParamId}
+use Rattle.swreq_machine.specs.swreq_derive.Derivation.{Derivable, HasParam, HasRequirement, Source, TermFacts, TermRequirement, TermStatement}
+use Rattle.swreq_machine.specs.swreq_derive.Derivation.Source.{Written}
+use Rattle.swreq_machine.specs.swreq_derive.Derivation.TermRequirement.{Conforms, Equals, IsAnyObject}
+use Rattle.swreq_machine.specs.swreq_derive.Derivation.Derives.{generic, conf, same, layout, assoc_name, assoc_decl, assoc_bind, assoc_conf, assoc_same, assoc_layout, reflex, symm, trans, same_conf, same_layout, same_name, same_decl}
+use Rattle.swreq_machine.specs.swreq_derive.WellFormed.{HasValidSides}
+use Rattle.swreq_machine.proofs.swreq_derive.Monotone.{grows}
+use Rattle.swreq_machine.specs.swreq_rule.declared.rules.Rule.{Rule}
+use Rattle.swreq_machine.specs.swreq_correspondence.Symbols.{Symbols, Word, left_side, right_side}
+use Rattle.swreq_machine.specs.swreq_correspondence.Equations.{UsableEquation}
+use Rattle.swreq_machine.specs.swreq_correspondence.Equations.Equation.{member, of_protocol, of_source, twice}
+use Rattle.swreq_machine.specs.swreq_rounds.Presents.{AreListRules}
+use Rattle.swreq_machine.proofs.swreq_rounds.Presented.{presents_to}
 
 -- A source derives what another does where it has those of its requirements that are valid by it.
 pub derives_usable : {f : TermFacts} {a : Source} {st : TermStatement} → Derivable f a st → (s : Source)

@@ -1,17 +1,17 @@
 -- The rules of a list, which grow with it.
 use Rattle.std.specs.Prelude.{◌⊎◌, List, [], ◌∷◌, Contains, Ok}
-use Rattle.swreq_derive.specs.declared.requirements.Requirement.{Requirement}
-use Rattle.swreq_derive.specs.Derivation.{TermRequirement}
-use Rattle.swreq_derive.specs.Derivation.Source.{Written}
-use Rattle.swreq_derive.specs.WellFormed.{IsListWellFormed, IsUsable}
-use Rattle.swreq_rule.specs.declared.rules.Rule.{Rule}
-use Rattle.swreq_complete.specs.Answers.{IsAnswer}
-use Rattle.swreq_correspondence.specs.Shown.{ShowsUsable}
-use Rattle.swreq_correspondence.specs.Symbols.{IsInText, left_side, right_side}
-use Rattle.swreq_rounds.specs.Presents.{AreListRules}
-use Rattle.swreq_symbols.specs.declared.over.Over.TheVariants.{Signature}
-use Rattle.swreq_symbols.specs.Overs.{source_over}
-use Rattle.swreq_symbols.specs.Vanishing.{Links}
+use Rattle.swreq_machine.specs.swreq_derive.declared.requirements.Requirement.{Requirement}
+use Rattle.swreq_machine.specs.swreq_derive.Derivation.{TermRequirement}
+use Rattle.swreq_machine.specs.swreq_derive.Derivation.Source.{Written}
+use Rattle.swreq_machine.specs.swreq_derive.WellFormed.{IsListWellFormed, IsUsable}
+use Rattle.swreq_machine.specs.swreq_rule.declared.rules.Rule.{Rule}
+use Rattle.swreq_machine.specs.swreq_complete.Answers.{IsAnswer}
+use Rattle.swreq_machine.specs.swreq_correspondence.Shown.{ShowsUsable}
+use Rattle.swreq_machine.specs.swreq_correspondence.Symbols.{IsInText, left_side, right_side}
+use Rattle.swreq_machine.specs.swreq_rounds.Presents.{AreListRules}
+use Rattle.swreq_machine.specs.swreq_symbols.declared.over.Over.TheVariants.{Signature}
+use Rattle.swreq_machine.specs.swreq_symbols.Overs.{source_over}
+use Rattle.swreq_machine.specs.swreq_symbols.Vanishing.{Links}
 use Rattle.swreq_list_rules.specs.declared.setting.Setting.{Setting}
 use Rattle.swreq_list_rules.specs.Settings.{AreKnownIn, facts_in, params_in, said_in, source_in, symbols_in}
 

@@ -1,21 +1,21 @@
 -- What lists are asked over.
 use Rattle.std.specs.Prelude.{List}
-use Rattle.swreq_param.specs.declared.ids.ParamId.{ParamId}
-use Rattle.swreq_derive.specs.declared.requirements.Requirement.{Requirement}
-use Rattle.swreq_derive.specs.Derivation.{Source, TermFacts, TermRequirement}
-use Rattle.swreq_derive.specs.Derivation.Source.{Written}
-use Rattle.swreq_derive.specs.Facts.{generic_params}
-use Rattle.swreq_complete.specs.Limits.{AreInRange}
-use Rattle.swreq_correspondence.specs.Symbols.{Symbols}
-use Rattle.swreq_rounds.specs.Plan.{Plan}
-use Rattle.swreq_symbols.specs.Known.{IsTextOver}
-use Rattle.swreq_symbols.specs.Meaning.{facts_of, symbols_of}
-use Rattle.swreq_world.specs.ByTable.{world_by}
-use Rattle.swreq_world.specs.Worlds.{TextWorld}
-use Rattle.swreq_valid.specs.Protocols.{AreRulesOf}
+use Rattle.swreq_machine.specs.swreq_param.declared.ids.ParamId.{ParamId}
+use Rattle.swreq_machine.specs.swreq_derive.declared.requirements.Requirement.{Requirement}
+use Rattle.swreq_machine.specs.swreq_derive.Derivation.{Source, TermFacts, TermRequirement}
+use Rattle.swreq_machine.specs.swreq_derive.Derivation.Source.{Written}
+use Rattle.swreq_machine.specs.swreq_derive.Facts.{generic_params}
+use Rattle.swreq_machine.specs.swreq_complete.Limits.{AreInRange}
+use Rattle.swreq_machine.specs.swreq_correspondence.Symbols.{Symbols}
+use Rattle.swreq_machine.specs.swreq_rounds.Plan.{Plan}
+use Rattle.swreq_machine.specs.swreq_symbols.Known.{IsTextOver}
+use Rattle.swreq_machine.specs.swreq_symbols.Meaning.{facts_of, symbols_of}
+use Rattle.swreq_machine.specs.swreq_world.ByTable.{world_by}
+use Rattle.swreq_machine.specs.swreq_world.Worlds.{TextWorld}
+use Rattle.swreq_machine.specs.swreq_valid.Protocols.{AreRulesOf}
 use Rattle.swreq_machine.specs.Machines.{list_of}
-use Rattle.swreq_valid.specs.Plans.{AreKnown, listed}
-use Rattle.swreq_valid.specs.Rounds.{last_rules}
+use Rattle.swreq_machine.specs.swreq_valid.Plans.{AreKnown, listed}
+use Rattle.swreq_machine.specs.swreq_valid.Rounds.{last_rules}
 use Rattle.swreq_list_rules.specs.declared.setting.Setting.{Setting}
 
 -- the world of the text

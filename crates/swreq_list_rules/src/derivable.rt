@@ -1,18 +1,15 @@
 //! Whether a requirement is derivable from a list, by the rules of the list.
 ghost use Rattle.std.specs.Prelude.{◌≡◌, ◌↔◌, IfOk, IsTrue, List};
-ghost use Rattle.swreq_derive.specs.Derivation.{Derivable, TermRequirement};
-ghost use Rattle.swreq_derive.specs.Derivation.TermStatement.{Requires};
-ghost use Rattle.swreq_derive.specs.Facts.{requirement_of};
-ghost use Rattle.swreq_symbols.specs.Known.{IsRequirementIn};
-ghost use Rattle.swreq_list_rules.specs.ListRules.{AreRulesOfList, AreShownBy};
-ghost use Rattle.swreq_list_rules.specs.Settings.{IsSetting, facts_in, source_in};
+ghost use Rattle.swreq_machine.specs.swreq_derive.{Derivation.{Derivable, TermRequirement}, Derivation.TermStatement.{Requires}, Facts.{requirement_of}};
+ghost use Rattle.swreq_machine.specs.swreq_symbols.Known.{IsRequirementIn};
+ghost use Rattle.swreq_list_rules.specs.{ListRules.{AreRulesOfList, AreShownBy}, Settings.{IsSetting, facts_in, source_in}};
 
 use crate::setting::Setting;
 use std::alloc::{AllocError, Global};
-use swreq_complete::CompleteRules;
-use swreq_derive::Requirement;
-use swreq_symbols::{Over, equation};
-use swreq_valid::{are_linked, is_usable};
+use swreq_machine::complete::CompleteRules;
+use swreq_machine::derive::Requirement;
+use swreq_machine::symbols::{Over, equation};
+use swreq_machine::valid::{are_linked, is_usable};
 
 /// Whether the rules show that the type parameters of a requirement are valid.
 pub(crate) fn has_valid_sides(

@@ -1,19 +1,16 @@
 //! The rules of a list.
 ghost use Rattle.std.specs.Prelude.{◌≡◌, ◌↔◌, ◌++◌, [], IfOk, IsTrue, List, Contains};
-ghost use Rattle.swreq_derive.specs.Derivation.{Derivable, TermRequirement};
-ghost use Rattle.swreq_derive.specs.Derivation.TermStatement.{Requires};
-ghost use Rattle.swreq_derive.specs.Facts.{requirement_of};
-ghost use Rattle.swreq_symbols.specs.Known.{IsRequirementIn};
-ghost use Rattle.swreq_list_rules.specs.ListRules.{AreOfList};
-ghost use Rattle.swreq_list_rules.specs.Settings.{AreKnownIn, IsSetting, facts_in, said_in, source_in};
+ghost use Rattle.swreq_machine.specs.swreq_derive.{Derivation.{Derivable, TermRequirement}, Derivation.TermStatement.{Requires}, Facts.{requirement_of}};
+ghost use Rattle.swreq_machine.specs.swreq_symbols.Known.{IsRequirementIn};
+ghost use Rattle.swreq_list_rules.specs.{ListRules.{AreOfList}, Settings.{AreKnownIn, IsSetting, facts_in, said_in, source_in}};
 
 use crate::derivable::is_derivable_by;
 use crate::setting::Setting;
 use crate::settling::settle;
 use std::alloc::{AllocError, Global};
 use std::marker::Model;
-use swreq_complete::{CompleteRules, Failed};
-use swreq_derive::Requirement;
+use swreq_machine::complete::{CompleteRules, Failed};
+use swreq_machine::derive::Requirement;
 
 /// The rules of the usable members of a list, over those of the protocols, which are borrowed, and the members that are not usable. They
 /// wait: a list that grows may make them usable.

@@ -1,9 +1,9 @@
 //! What lists are asked over.
-use swreq_complete::Limits;
-use swreq_derive::Params;
-use swreq_param::ParamTable;
-use swreq_valid::Protocols;
-use swreq_world::World;
+use swreq_machine::complete::Limits;
+use swreq_machine::derive::Params;
+use swreq_machine::param::ParamTable;
+use swreq_machine::valid::Protocols;
+use swreq_machine::world::World;
 
 /// A text with the rules of its protocols, the generic parameters of its lists, and the limits of their completions.
 #[derive(Clone, Copy)]

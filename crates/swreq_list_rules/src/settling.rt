@@ -1,20 +1,17 @@
 //! Members of a list that become usable join its rules.
 ghost use Rattle.std.specs.Prelude.{◌≡◌, ◌<◌, IfOk, List, Contains, MatchOption, get_or, length};
-ghost use Rattle.swreq_derive.specs.declared.requirements.Requirement.{Requirement};
-ghost use Rattle.swreq_derive.specs.Derivation.{TermRequirement};
-ghost use Rattle.swreq_derive.specs.Facts.{requirement_of};
-ghost use Rattle.swreq_symbols.specs.Known.{IsRequirementIn};
-ghost use Rattle.swreq_list_rules.specs.ListRules.{AreCompletedBy, AreOfList, AreShownBy, AreUnderway};
-ghost use Rattle.swreq_list_rules.specs.Settings.{AreKnownIn, IsSetting};
+ghost use Rattle.swreq_machine.specs.swreq_derive.{declared.requirements.Requirement.{Requirement}, Derivation.{TermRequirement}, Facts.{requirement_of}};
+ghost use Rattle.swreq_machine.specs.swreq_symbols.Known.{IsRequirementIn};
+ghost use Rattle.swreq_list_rules.specs.{ListRules.{AreCompletedBy, AreOfList, AreShownBy, AreUnderway}, Settings.{AreKnownIn, IsSetting}};
 
 use crate::derivable::has_valid_sides;
 use crate::list_rules::ListRules;
 use crate::setting::Setting;
 use std::alloc::{AllocError, Global};
-use swreq_complete::{CompleteRules, Failed, extend};
-use swreq_derive::Requirement;
-use swreq_symbols::equation;
-use swreq_watch::Quiet;
+use swreq_machine::complete::{CompleteRules, Failed, extend};
+use swreq_machine::derive::Requirement;
+use swreq_machine::symbols::equation;
+use swreq_machine::watch::Quiet;
 
 /// The place of the first requirement whose type parameters the rules show valid, or None where there is none.
 fn first_usable(

@@ -5,26 +5,26 @@ use Rattle.std.proofs.lemmas.List.Folds.{flat_map-map}
 use Rattle.std.specs.List.{flat_map}
 use Rattle.swreq_lex.specs.declared.token.Token as lexed
 use Rattle.swreq_lex.specs.Slices.{AreSlices, next}
-use Rattle.swreq_grammar.specs.declared.token.Token.{Token}
-use Rattle.swreq_grammar.specs.Grammar.{Limit, Matches, Parts, mapped, sequence, alternative, repetition}
-use Rattle.swreq_decl.specs.declared.terminal.Terminal.{Terminal}
-use Rattle.swreq_decl.specs.declared.kind.Kind.{Kind}
-use Rattle.swreq_decl.specs.declared.skeleton.Entity.{Entity}
-use Rattle.swreq_decl.specs.declared.skeleton.TypeDecl.{TypeDecl}
-use Rattle.swreq_decl.specs.declared.skeleton.ReqDecl.{ReqDecl}
-use Rattle.swreq_decl.specs.declared.skeleton.AssocDecl.{AssocDecl}
-use Rattle.swreq_decl.specs.declared.skeleton.ProtocolDecl.{ProtocolDecl}
-use Rattle.swreq_decl.specs.declared.skeleton.ParamDecl.{ParamDecl}
-use Rattle.swreq_decl.specs.declared.skeleton.FunctionDecl.{FunctionDecl}
-use Rattle.swreq_decl.specs.declared.skeleton.StructDecl.{StructDecl}
-use Rattle.swreq_decl.specs.declared.skeleton.Item.{Item}
-use Rattle.swreq_decl.specs.declared.skeleton.Item.TheVariants as items
-use Rattle.swreq_decl.specs.Terminals.{number, with_terminals}
-use Rattle.swreq_decl.specs.Source as lines
-use Rattle.swreq_decl.specs.Source.{Line, after, before, or_else, separated, in_angles, continued}
-use Rattle.swreq_names.specs.Parts as parts
-use Rattle.swreq_names.specs.Parts.{Constraint, numbered}
-use Rattle.swreq_names.specs.Parts.Constraint.{bound, same}
+use Rattle.swreq_lexicon.specs.swreq_grammar.declared.token.Token.{Token}
+use Rattle.swreq_lexicon.specs.swreq_grammar.Grammar.{Limit, Matches, Parts, mapped, sequence, alternative, repetition}
+use Rattle.swreq_lexicon.specs.swreq_decl.declared.terminal.Terminal.{Terminal}
+use Rattle.swreq_lexicon.specs.swreq_decl.declared.kind.Kind.{Kind}
+use Rattle.swreq_lexicon.specs.swreq_decl.declared.skeleton.Entity.{Entity}
+use Rattle.swreq_lexicon.specs.swreq_decl.declared.skeleton.TypeDecl.{TypeDecl}
+use Rattle.swreq_lexicon.specs.swreq_decl.declared.skeleton.ReqDecl.{ReqDecl}
+use Rattle.swreq_lexicon.specs.swreq_decl.declared.skeleton.AssocDecl.{AssocDecl}
+use Rattle.swreq_lexicon.specs.swreq_decl.declared.skeleton.ProtocolDecl.{ProtocolDecl}
+use Rattle.swreq_lexicon.specs.swreq_decl.declared.skeleton.ParamDecl.{ParamDecl}
+use Rattle.swreq_lexicon.specs.swreq_decl.declared.skeleton.FunctionDecl.{FunctionDecl}
+use Rattle.swreq_lexicon.specs.swreq_decl.declared.skeleton.StructDecl.{StructDecl}
+use Rattle.swreq_lexicon.specs.swreq_decl.declared.skeleton.Item.{Item}
+use Rattle.swreq_lexicon.specs.swreq_decl.declared.skeleton.Item.TheVariants as items
+use Rattle.swreq_lexicon.specs.swreq_decl.Terminals.{number, with_terminals}
+use Rattle.swreq_lexicon.specs.swreq_decl.Source as lines
+use Rattle.swreq_lexicon.specs.swreq_decl.Source.{Line, after, before, or_else, separated, in_angles, continued}
+use Rattle.swreq_lexicon.specs.swreq_names.Parts as parts
+use Rattle.swreq_lexicon.specs.swreq_names.Parts.{Constraint, numbered}
+use Rattle.swreq_lexicon.specs.swreq_names.Parts.Constraint.{bound, same}
 use Rattle.swreq_lowering.specs.Standing.{first_word}
 
 -- ---- places

@@ -7,22 +7,22 @@ use Rattle.swreq_lex.specs.declared.token.Token as lexed
 use Rattle.swreq_lex.specs.Slices.{AreSlices}
 use Rattle.swreq_lex.specs.Tokens.{HasTokens, first_offset}
 use Rattle.swreq_param.specs.Terms.{Term}
-use Rattle.swreq_decl.specs.declared.skeleton.Span.{Span}
-use Rattle.swreq_decl.specs.declared.skeleton.Entity.{Entity}
-use Rattle.swreq_decl.specs.declared.skeleton.TypeDecl.{TypeDecl}
-use Rattle.swreq_decl.specs.declared.skeleton.ReqDecl.{ReqDecl}
-use Rattle.swreq_decl.specs.declared.skeleton.ReqDecl.TheVariants as requirements
-use Rattle.swreq_decl.specs.declared.skeleton.AssocDecl.{AssocDecl}
-use Rattle.swreq_decl.specs.declared.skeleton.ProtocolDecl.{ProtocolDecl}
-use Rattle.swreq_decl.specs.declared.skeleton.ParamDecl.{ParamDecl}
-use Rattle.swreq_decl.specs.declared.skeleton.FunctionDecl.{FunctionDecl}
-use Rattle.swreq_decl.specs.declared.skeleton.StructDecl.{StructDecl}
-use Rattle.swreq_decl.specs.Skeletons.{StandsFor}
-use Rattle.swreq_names.specs.declared.signature.Signature.{Signature}
-use Rattle.swreq_names.specs.declared.signature.Signature.TheVariants.{Struct, Function, Nested}
-use Rattle.swreq_names.specs.Parts as parts
-use Rattle.swreq_names.specs.Parts.{Constraint}
-use Rattle.swreq_names.specs.Parts.Constraint.{bound, same}
+use Rattle.swreq_lexicon.specs.swreq_decl.declared.skeleton.Span.{Span}
+use Rattle.swreq_lexicon.specs.swreq_decl.declared.skeleton.Entity.{Entity}
+use Rattle.swreq_lexicon.specs.swreq_decl.declared.skeleton.TypeDecl.{TypeDecl}
+use Rattle.swreq_lexicon.specs.swreq_decl.declared.skeleton.ReqDecl.{ReqDecl}
+use Rattle.swreq_lexicon.specs.swreq_decl.declared.skeleton.ReqDecl.TheVariants as requirements
+use Rattle.swreq_lexicon.specs.swreq_decl.declared.skeleton.AssocDecl.{AssocDecl}
+use Rattle.swreq_lexicon.specs.swreq_decl.declared.skeleton.ProtocolDecl.{ProtocolDecl}
+use Rattle.swreq_lexicon.specs.swreq_decl.declared.skeleton.ParamDecl.{ParamDecl}
+use Rattle.swreq_lexicon.specs.swreq_decl.declared.skeleton.FunctionDecl.{FunctionDecl}
+use Rattle.swreq_lexicon.specs.swreq_decl.declared.skeleton.StructDecl.{StructDecl}
+use Rattle.swreq_lexicon.specs.swreq_decl.Skeletons.{StandsFor}
+use Rattle.swreq_lexicon.specs.swreq_names.declared.signature.Signature.{Signature}
+use Rattle.swreq_lexicon.specs.swreq_names.declared.signature.Signature.TheVariants.{Struct, Function, Nested}
+use Rattle.swreq_lexicon.specs.swreq_names.Parts as parts
+use Rattle.swreq_lexicon.specs.swreq_names.Parts.{Constraint}
+use Rattle.swreq_lexicon.specs.swreq_names.Parts.Constraint.{bound, same}
 use Rattle.swreq_lowering.specs.declared.context.Context.{Context}
 use Rattle.swreq_lowering.specs.declared.context.Context.TheVariants as contexts
 use Rattle.swreq_lowering.specs.Requirements.{arguments, in_bound, of_constraint, subject_of, subject_at, in_protocol, in_signature, in_struct}

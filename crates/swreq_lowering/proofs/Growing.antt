@@ -8,9 +8,9 @@ use Rattle.swreq_param.specs.declared.ids.TermId.{TermId}
 use Rattle.swreq_param.specs.Terms.{Term, self}
 use Rattle.swreq_param.specs.Tables.{Extends, Interned, IsOf}
 use Rattle.swreq_param.proofs.Growing.{onward, unchanged}
-use Rattle.swreq_derive.specs.declared.requirements.Requirement.{Requirement}
-use Rattle.swreq_derive.specs.declared.requirements.Requirement.TheVariants.{Conf, Layout, Same}
-use Rattle.swreq_derive.specs.Facts.{requirement_of}
+use Rattle.swreq_lexicon.specs.swreq_derive.declared.requirements.Requirement.{Requirement}
+use Rattle.swreq_lexicon.specs.swreq_derive.declared.requirements.Requirement.TheVariants.{Conf, Layout, Same}
+use Rattle.swreq_lexicon.specs.swreq_derive.Facts.{requirement_of}
 use Rattle.swreq_lowering.specs.declared.ids.Written.{Written}
 use Rattle.swreq_lowering.specs.Requirements.{PlacedRequirement}
 use Rattle.swreq_lowering.specs.ByTable.{placed_by, placed, AreOf, HasIdsOf}

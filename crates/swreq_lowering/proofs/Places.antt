@@ -2,10 +2,10 @@
 use Rattle.std.proofs.Common.{◌≡◌, ℕ, zero, suc, ◌+◌, ◌<◌, ◌≤◌, ◌⊎◌, inl, inr, List, [], ◌∷◌, ◌++◌, length, get_or, take, refl, sym, ap, ◌∙◌, arith, append_assoc, append-nil}
 use Rattle.std.proofs.lemmas.List.{length-take-le, take_more}
 use Rattle.swreq_param.specs.Terms.{Term}
-use Rattle.swreq_decl.specs.declared.skeleton.ParamDecl.{ParamDecl}
-use Rattle.swreq_decl.specs.declared.skeleton.Span.{Span}
-use Rattle.swreq_decl.specs.declared.skeleton.TypeDecl.{TypeDecl}
-use Rattle.swreq_names.specs.declared.signature.Signature.{Signature}
+use Rattle.swreq_lexicon.specs.swreq_decl.declared.skeleton.ParamDecl.{ParamDecl}
+use Rattle.swreq_lexicon.specs.swreq_decl.declared.skeleton.Span.{Span}
+use Rattle.swreq_lexicon.specs.swreq_decl.declared.skeleton.TypeDecl.{TypeDecl}
+use Rattle.swreq_lexicon.specs.swreq_names.declared.signature.Signature.{Signature}
 use Rattle.swreq_lowering.specs.declared.context.Context.{Context}
 use Rattle.swreq_lowering.specs.Requirements.{argument, arguments}
 use Rattle.swreq_lowering.specs.Walk.{in_param, in_params}

@@ -8,34 +8,34 @@ use Rattle.std.specs.Str.{chars}
 use Rattle.swreq_lex.specs.declared.token.Token as lexed
 use Rattle.swreq_lex.specs.Slices.{AreSlices, last, next}
 use Rattle.swreq_lex.specs.Tokens.{HasTokens, first_offset}
-use Rattle.swreq_decl.specs.declared.skeleton.Entity.{Entity}
-use Rattle.swreq_decl.specs.declared.skeleton.TypeDecl.{TypeDecl}
-use Rattle.swreq_decl.specs.declared.skeleton.ReqDecl.{ReqDecl}
-use Rattle.swreq_decl.specs.declared.skeleton.ReqDecl.TheVariants as requirements
-use Rattle.swreq_decl.specs.declared.skeleton.AssocDecl.{AssocDecl}
-use Rattle.swreq_decl.specs.declared.skeleton.ProtocolDecl.{ProtocolDecl}
-use Rattle.swreq_decl.specs.declared.skeleton.ParamDecl.{ParamDecl}
-use Rattle.swreq_decl.specs.declared.skeleton.FunctionDecl.{FunctionDecl}
-use Rattle.swreq_decl.specs.declared.skeleton.StructDecl.{StructDecl}
-use Rattle.swreq_decl.specs.declared.skeleton.Ask.{Ask}
-use Rattle.swreq_decl.specs.declared.skeleton.Ask.TheVariants as asks
-use Rattle.swreq_decl.specs.declared.skeleton.QueryDecl.{QueryDecl}
-use Rattle.swreq_decl.specs.declared.skeleton.Skeleton.{Skeleton}
-use Rattle.swreq_decl.specs.declared.skeleton.Item.{Item}
-use Rattle.swreq_decl.specs.declared.skeleton.Item.TheVariants as items
-use Rattle.swreq_decl.specs.Terminals.{with_terminals}
-use Rattle.swreq_decl.specs.Signatures.{stands_before}
-use Rattle.swreq_decl.specs.Skeletons.{StandsFor, skeleton_of, protocol_of, struct_of, function_of, query_of}
-use Rattle.swreq_names.specs.declared.directory.Declaration.{Declaration}
-use Rattle.swreq_names.specs.declared.signature.Signature.{Signature}
-use Rattle.swreq_names.specs.declared.signature.Signature.TheVariants.{Struct, Function, Nested}
-use Rattle.swreq_names.specs.Walk as names
-use Rattle.swreq_names.proofs.Walked.{same_names}
-use Rattle.swreq_names.specs.Spaces.{spaces, declaration, declarations, of_params, outer_params as declared_outer, own_params as declared_own}
-use Rattle.swreq_rank.specs.Ranks.{bytes_cmp}
+use Rattle.swreq_lexicon.specs.swreq_decl.declared.skeleton.Entity.{Entity}
+use Rattle.swreq_lexicon.specs.swreq_decl.declared.skeleton.TypeDecl.{TypeDecl}
+use Rattle.swreq_lexicon.specs.swreq_decl.declared.skeleton.ReqDecl.{ReqDecl}
+use Rattle.swreq_lexicon.specs.swreq_decl.declared.skeleton.ReqDecl.TheVariants as requirements
+use Rattle.swreq_lexicon.specs.swreq_decl.declared.skeleton.AssocDecl.{AssocDecl}
+use Rattle.swreq_lexicon.specs.swreq_decl.declared.skeleton.ProtocolDecl.{ProtocolDecl}
+use Rattle.swreq_lexicon.specs.swreq_decl.declared.skeleton.ParamDecl.{ParamDecl}
+use Rattle.swreq_lexicon.specs.swreq_decl.declared.skeleton.FunctionDecl.{FunctionDecl}
+use Rattle.swreq_lexicon.specs.swreq_decl.declared.skeleton.StructDecl.{StructDecl}
+use Rattle.swreq_lexicon.specs.swreq_decl.declared.skeleton.Ask.{Ask}
+use Rattle.swreq_lexicon.specs.swreq_decl.declared.skeleton.Ask.TheVariants as asks
+use Rattle.swreq_lexicon.specs.swreq_decl.declared.skeleton.QueryDecl.{QueryDecl}
+use Rattle.swreq_lexicon.specs.swreq_decl.declared.skeleton.Skeleton.{Skeleton}
+use Rattle.swreq_lexicon.specs.swreq_decl.declared.skeleton.Item.{Item}
+use Rattle.swreq_lexicon.specs.swreq_decl.declared.skeleton.Item.TheVariants as items
+use Rattle.swreq_lexicon.specs.swreq_decl.Terminals.{with_terminals}
+use Rattle.swreq_lexicon.specs.swreq_decl.Signatures.{stands_before}
+use Rattle.swreq_lexicon.specs.swreq_decl.Skeletons.{StandsFor, skeleton_of, protocol_of, struct_of, function_of, query_of}
+use Rattle.swreq_lexicon.specs.swreq_names.declared.directory.Declaration.{Declaration}
+use Rattle.swreq_lexicon.specs.swreq_names.declared.signature.Signature.{Signature}
+use Rattle.swreq_lexicon.specs.swreq_names.declared.signature.Signature.TheVariants.{Struct, Function, Nested}
+use Rattle.swreq_lexicon.specs.swreq_names.Walk as names
+use Rattle.swreq_lexicon.proofs.swreq_names.Walked.{same_names}
+use Rattle.swreq_lexicon.specs.swreq_names.Spaces.{spaces, declaration, declarations, of_params, outer_params as declared_outer, own_params as declared_own}
+use Rattle.swreq_lexicon.specs.swreq_rank.Ranks.{bytes_cmp}
 use Rattle.swreq_lexicon.specs.Texts.{IsSmall}
-use Rattle.swreq_rank.proofs.Names.{few_names}
-use Rattle.swreq_rank.proofs.Rising.{rising_from_sorted}
+use Rattle.swreq_lexicon.proofs.swreq_rank.Names.{few_names}
+use Rattle.swreq_lexicon.proofs.swreq_rank.Rising.{rising_from_sorted}
 use Rattle.swreq_lowering.specs.Short.{HasShortLists}
 use Rattle.swreq_lowering.specs.Signatures.{params_of_struct, params_of_function, functions_of, outer_param_decls, own_param_decls, nested_from, functions_from, with_nested, merged_from, in_order}
 use Rattle.swreq_lowering.proofs.Sizes.{type_size, entity_size, bounds_size, requirement_size, clause_size, member_size, protocol_size, param_size, function_size, struct_size, ask_size, query_size, item_size, parts_bound}

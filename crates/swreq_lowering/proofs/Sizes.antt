@@ -1,28 +1,28 @@
 -- The parts of a text that are counted are no more than its tokens.
 use Rattle.std.proofs.Common.{◌≡◌, ℕ, ◌+◌, ◌≤◌, ⊎_elim, List, [], ◌∷◌, ◌++◌, length, sum_by, refl, ap, subst, ◌∙◌, arith, length-append}
 use Rattle.std.proofs.lemmas.List.Sums.{sum_by-cons}
-use Rattle.swreq_grammar.specs.declared.token.Token.{Token}
-use Rattle.swreq_grammar.specs.Grammar.{Limit, Matches, Parts, terminal, empty, mapped, sequence, alternative, repetition}
-use Rattle.swreq_decl.specs.declared.terminal.Terminal.{Terminal}
-use Rattle.swreq_decl.specs.declared.kind.Kind.{Kind}
-use Rattle.swreq_decl.specs.declared.skeleton.Entity.{Entity}
-use Rattle.swreq_decl.specs.declared.skeleton.StepDecl.{StepDecl}
-use Rattle.swreq_decl.specs.declared.skeleton.TypeDecl.{TypeDecl}
-use Rattle.swreq_decl.specs.declared.skeleton.ReqDecl.{ReqDecl}
-use Rattle.swreq_decl.specs.declared.skeleton.ReqDecl.TheVariants as requirements
-use Rattle.swreq_decl.specs.declared.skeleton.AssocDecl.{AssocDecl}
-use Rattle.swreq_decl.specs.declared.skeleton.ProtocolDecl.{ProtocolDecl}
-use Rattle.swreq_decl.specs.declared.skeleton.ParamDecl.{ParamDecl}
-use Rattle.swreq_decl.specs.declared.skeleton.FunctionDecl.{FunctionDecl}
-use Rattle.swreq_decl.specs.declared.skeleton.StructDecl.{StructDecl}
-use Rattle.swreq_decl.specs.declared.skeleton.Ask.{Ask}
-use Rattle.swreq_decl.specs.declared.skeleton.Ask.TheVariants as asks
-use Rattle.swreq_decl.specs.declared.skeleton.QueryDecl.{QueryDecl}
-use Rattle.swreq_decl.specs.declared.skeleton.Item.{Item}
-use Rattle.swreq_decl.specs.declared.skeleton.Item.TheVariants as items
-use Rattle.swreq_decl.specs.Terminals.{number}
-use Rattle.swreq_decl.specs.Source as lines
-use Rattle.swreq_decl.specs.Source.{Line, mark, after, before, or_else, skipped, separated, in_angles, continued, plain_step}
+use Rattle.swreq_lexicon.specs.swreq_grammar.declared.token.Token.{Token}
+use Rattle.swreq_lexicon.specs.swreq_grammar.Grammar.{Limit, Matches, Parts, terminal, empty, mapped, sequence, alternative, repetition}
+use Rattle.swreq_lexicon.specs.swreq_decl.declared.terminal.Terminal.{Terminal}
+use Rattle.swreq_lexicon.specs.swreq_decl.declared.kind.Kind.{Kind}
+use Rattle.swreq_lexicon.specs.swreq_decl.declared.skeleton.Entity.{Entity}
+use Rattle.swreq_lexicon.specs.swreq_decl.declared.skeleton.StepDecl.{StepDecl}
+use Rattle.swreq_lexicon.specs.swreq_decl.declared.skeleton.TypeDecl.{TypeDecl}
+use Rattle.swreq_lexicon.specs.swreq_decl.declared.skeleton.ReqDecl.{ReqDecl}
+use Rattle.swreq_lexicon.specs.swreq_decl.declared.skeleton.ReqDecl.TheVariants as requirements
+use Rattle.swreq_lexicon.specs.swreq_decl.declared.skeleton.AssocDecl.{AssocDecl}
+use Rattle.swreq_lexicon.specs.swreq_decl.declared.skeleton.ProtocolDecl.{ProtocolDecl}
+use Rattle.swreq_lexicon.specs.swreq_decl.declared.skeleton.ParamDecl.{ParamDecl}
+use Rattle.swreq_lexicon.specs.swreq_decl.declared.skeleton.FunctionDecl.{FunctionDecl}
+use Rattle.swreq_lexicon.specs.swreq_decl.declared.skeleton.StructDecl.{StructDecl}
+use Rattle.swreq_lexicon.specs.swreq_decl.declared.skeleton.Ask.{Ask}
+use Rattle.swreq_lexicon.specs.swreq_decl.declared.skeleton.Ask.TheVariants as asks
+use Rattle.swreq_lexicon.specs.swreq_decl.declared.skeleton.QueryDecl.{QueryDecl}
+use Rattle.swreq_lexicon.specs.swreq_decl.declared.skeleton.Item.{Item}
+use Rattle.swreq_lexicon.specs.swreq_decl.declared.skeleton.Item.TheVariants as items
+use Rattle.swreq_lexicon.specs.swreq_decl.Terminals.{number}
+use Rattle.swreq_lexicon.specs.swreq_decl.Source as lines
+use Rattle.swreq_lexicon.specs.swreq_decl.Source.{Line, mark, after, before, or_else, skipped, separated, in_angles, continued, plain_step}
 
 -- ---- how much is counted
 

@@ -4,10 +4,10 @@ use Rattle.swreq_param.specs.declared.ids.TermId.{TermId}
 use Rattle.swreq_param.specs.Terms.{Term}
 use Rattle.swreq_param.specs.Tables.{Extends, IsOf, term_at}
 use Rattle.swreq_lowering.specs.declared.ids.Written.{Written}
-use Rattle.swreq_lowering.specs.declared.ids.Query.{Query}
+use Rattle.swreq_lowering.specs.declared.ids.Asks.{Asks}
 use Rattle.swreq_lowering.specs.Requirements.{PlacedRequirement}
-use Rattle.swreq_lowering.specs.Queries.{TermQuery}
-use Rattle.swreq_lowering.specs.ByTable.{placed, AreOf, query_by, HasQueryIdsOf}
+use Rattle.swreq_lowering.specs.Queries.{TermAsks}
+use Rattle.swreq_lowering.specs.ByTable.{placed, AreOf, asks_by, HasAskedIdsOf}
 
 -- The new table begins with the old one, and there the id stands for t.
 pub record Spells (old new : List Term) (t : Term) (id : TermId) : Type 0 where
@@ -27,8 +27,8 @@ pub record Lists (old new : List Term) (requirements : List PlacedRequirement) (
   pub are_of : AreOf new written
   pub placed : placed new written ≡ requirements
 
--- The new table begins with the old one, and this is the query.
-pub record Asks (old new : List Term) (asked : TermQuery) (query : Query) : Type 0 where
+-- The new table begins with the old one, and this is asked.
+pub record AddsAsked (old new : List Term) (asked : TermAsks) (asks : Asks) : Type 0 where
   pub extends : Extends old new
-  pub are_of : HasQueryIdsOf new query
-  pub means : query_by new query ≡ asked
+  pub are_of : HasAskedIdsOf new asks
+  pub means : asks_by new asks ≡ asked

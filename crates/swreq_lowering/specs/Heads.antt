@@ -2,8 +2,8 @@
 use Rattle.std.specs.Prelude.{◌≡◌}
 use Rattle.swreq_param.specs.declared.ids.ParamId.{ParamId}
 use Rattle.swreq_param.specs.Terms.{self_param, head}
-use Rattle.swreq_derive.specs.Derivation.{TermRequirement}
-use Rattle.swreq_derive.specs.Derivation.TermRequirement.{Conforms, IsAnyObject, Equals}
+use Rattle.swreq_lexicon.specs.swreq_derive.Derivation.{TermRequirement}
+use Rattle.swreq_lexicon.specs.swreq_derive.Derivation.TermRequirement.{Conforms, IsAnyObject, Equals}
 
 -- The type parameters of the requirement begin with generic parameters of which this holds.
 abbrev pub IsOver : (ParamId → Type 0) → TermRequirement → Type 0

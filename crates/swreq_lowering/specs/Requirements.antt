@@ -15,23 +15,23 @@ use Rattle.std.specs.Prelude.{ℕ, cond, List, [], ◌∷◌, ◌++◌}
 use Rattle.std.specs.List.{flat_map}
 use Rattle.swreq_param.specs.Terms.{Term, self}
 use Rattle.swreq_param.specs.Terms.Term.{Generic}
-use Rattle.swreq_derive.specs.Derivation.{TermRequirement}
-use Rattle.swreq_derive.specs.Derivation.TermRequirement.{Conforms, IsAnyObject, Equals}
-use Rattle.swreq_decl.specs.declared.skeleton.Span.{Span}
-use Rattle.swreq_decl.specs.declared.skeleton.Entity.{Entity}
-use Rattle.swreq_decl.specs.declared.skeleton.TypeDecl.{TypeDecl}
-use Rattle.swreq_decl.specs.declared.skeleton.ReqDecl.{ReqDecl}
-use Rattle.swreq_decl.specs.declared.skeleton.ParamDecl.{ParamDecl}
-use Rattle.swreq_decl.specs.declared.skeleton.ProtocolDecl.{ProtocolDecl}
-use Rattle.swreq_decl.specs.declared.skeleton.FunctionDecl.{FunctionDecl}
-use Rattle.swreq_decl.specs.declared.skeleton.StructDecl.{StructDecl}
-use Rattle.swreq_names.specs.declared.signature.Signature.{Signature}
-use Rattle.swreq_names.specs.declared.signature.Signature.TheVariants.{Struct, Function, Nested}
-use Rattle.swreq_names.specs.declared.signature.Param.TheVariants.{Own}
-use Rattle.swreq_names.specs.Parts as parts
-use Rattle.swreq_names.specs.Parts.{Subject, Constraint}
-use Rattle.swreq_names.specs.Parts.Subject.{self_of, associated, parameter, written}
-use Rattle.swreq_names.specs.Parts.Constraint.{bound, same}
+use Rattle.swreq_lexicon.specs.swreq_derive.Derivation.{TermRequirement}
+use Rattle.swreq_lexicon.specs.swreq_derive.Derivation.TermRequirement.{Conforms, IsAnyObject, Equals}
+use Rattle.swreq_lexicon.specs.swreq_decl.declared.skeleton.Span.{Span}
+use Rattle.swreq_lexicon.specs.swreq_decl.declared.skeleton.Entity.{Entity}
+use Rattle.swreq_lexicon.specs.swreq_decl.declared.skeleton.TypeDecl.{TypeDecl}
+use Rattle.swreq_lexicon.specs.swreq_decl.declared.skeleton.ReqDecl.{ReqDecl}
+use Rattle.swreq_lexicon.specs.swreq_decl.declared.skeleton.ParamDecl.{ParamDecl}
+use Rattle.swreq_lexicon.specs.swreq_decl.declared.skeleton.ProtocolDecl.{ProtocolDecl}
+use Rattle.swreq_lexicon.specs.swreq_decl.declared.skeleton.FunctionDecl.{FunctionDecl}
+use Rattle.swreq_lexicon.specs.swreq_decl.declared.skeleton.StructDecl.{StructDecl}
+use Rattle.swreq_lexicon.specs.swreq_names.declared.signature.Signature.{Signature}
+use Rattle.swreq_lexicon.specs.swreq_names.declared.signature.Signature.TheVariants.{Struct, Function, Nested}
+use Rattle.swreq_lexicon.specs.swreq_names.declared.signature.Param.TheVariants.{Own}
+use Rattle.swreq_lexicon.specs.swreq_names.Parts as parts
+use Rattle.swreq_lexicon.specs.swreq_names.Parts.{Subject, Constraint}
+use Rattle.swreq_lexicon.specs.swreq_names.Parts.Subject.{self_of, associated, parameter, written}
+use Rattle.swreq_lexicon.specs.swreq_names.Parts.Constraint.{bound, same}
 use Rattle.swreq_lowering.specs.declared.context.Context.{Context}
 use Rattle.swreq_lowering.specs.declared.context.Context.TheVariants as contexts
 use Rattle.swreq_lowering.specs.Signatures.{own_depth}

@@ -1,8 +1,8 @@
 -- The lists of a skeleton are no longer than its text.
 use Rattle.std.specs.Prelude.{ℕ, ◌≤◌, List, [], All, length, slice_index_or}
-use Rattle.swreq_decl.specs.declared.skeleton.Skeleton.{Skeleton}
-use Rattle.swreq_names.specs.declared.signature.Signature.{Signature}
-use Rattle.swreq_names.specs.Spaces.{spaces}
+use Rattle.swreq_lexicon.specs.swreq_decl.declared.skeleton.Skeleton.{Skeleton}
+use Rattle.swreq_lexicon.specs.swreq_names.declared.signature.Signature.{Signature}
+use Rattle.swreq_lexicon.specs.swreq_names.Spaces.{spaces}
 use Rattle.swreq_lexicon.specs.Texts.{IsSmall}
 use Rattle.swreq_lowering.specs.Requirements.{in_protocol, in_struct, in_function, in_nested}
 use Rattle.swreq_lowering.specs.Words.{WordsView}

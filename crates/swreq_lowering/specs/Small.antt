@@ -1,7 +1,7 @@
 -- Numbers that fit 32 bits.
 use Rattle.std.specs.Prelude.{◌<◌, ◌^◌, length}
-use Rattle.swreq_names.specs.declared.signature.Signature.{Signature}
-use Rattle.swreq_names.specs.Spaces.{Spaces, outer_params, own_params}
+use Rattle.swreq_lexicon.specs.swreq_names.declared.signature.Signature.{Signature}
+use Rattle.swreq_lexicon.specs.swreq_names.Spaces.{Spaces, outer_params, own_params}
 
 -- The generic parameters of each signature are fewer than 2^32.
 pub record HasFewParams (d : Spaces) : Type 0 where

@@ -7,14 +7,14 @@ use Rattle.swreq_param.specs.declared.ids.Step.{Step}
 use Rattle.swreq_param.specs.declared.ids.Step.TheVariants as steps
 use Rattle.swreq_param.specs.Terms.{Term, self_param, self, with_steps}
 use Rattle.swreq_param.specs.Terms.Term.{Generic, Member}
-use Rattle.swreq_decl.specs.declared.skeleton.Span.{Span}
-use Rattle.swreq_decl.specs.declared.skeleton.StepDecl.{StepDecl}
-use Rattle.swreq_decl.specs.declared.skeleton.StepDecl.TheVariants as decls
-use Rattle.swreq_decl.specs.declared.skeleton.TypeDecl.{TypeDecl}
-use Rattle.swreq_names.specs.declared.signature.Signature.{Signature}
-use Rattle.swreq_names.specs.declared.signature.Param.{Param}
-use Rattle.swreq_names.specs.declared.signature.Param.TheVariants.{Outer, Own}
-use Rattle.swreq_names.specs.Spaces.{word, param_of, self_bytes}
+use Rattle.swreq_lexicon.specs.swreq_decl.declared.skeleton.Span.{Span}
+use Rattle.swreq_lexicon.specs.swreq_decl.declared.skeleton.StepDecl.{StepDecl}
+use Rattle.swreq_lexicon.specs.swreq_decl.declared.skeleton.StepDecl.TheVariants as decls
+use Rattle.swreq_lexicon.specs.swreq_decl.declared.skeleton.TypeDecl.{TypeDecl}
+use Rattle.swreq_lexicon.specs.swreq_names.declared.signature.Signature.{Signature}
+use Rattle.swreq_lexicon.specs.swreq_names.declared.signature.Param.{Param}
+use Rattle.swreq_lexicon.specs.swreq_names.declared.signature.Param.TheVariants.{Outer, Own}
+use Rattle.swreq_lexicon.specs.swreq_names.Spaces.{word, param_of, self_bytes}
 use Rattle.swreq_lexicon.specs.Lexicons.{assoc_by}
 use Rattle.swreq_lowering.specs.declared.context.Context.{Context}
 use Rattle.swreq_lowering.specs.declared.context.Context.TheVariants as contexts

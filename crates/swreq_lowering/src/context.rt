@@ -1,5 +1,5 @@
 // Where types are written.
-use swreq_names::Signature;
+use swreq_lexicon::names::Signature;
 
 /// Where a type is written, which tells what its first word stands for.
 #[derive(Clone, Copy, Debug, PartialEq, Eq)]

@@ -1,6 +1,6 @@
 // What a text requires and asks, over the ids of a table of type parameters.
-use swreq_derive::Requirement;
-use swreq_param::{ProtoId, TermId};
+use swreq_lexicon::derive::Requirement;
+use swreq_param::TermId;
 
 /// A signature, that is a struct or a function, by its place among those of the text in written order, from 0. A struct
 /// stands before its functions.
@@ -18,13 +18,17 @@ pub struct Written {
     pub right_at: u32,
 }
 
-/// A query on a signature: its minimised signature, the reduced type of `t`, whether `t` conforms to `p` or has the layout,
-/// or whether two types are equal.
+/// What is asked of a signature: its minimised signature, the reduced type of a type parameter, or whether a requirement is derivable.
 #[derive(Clone, Copy, Debug, PartialEq, Eq)]
-pub enum Query {
-    Signature { f: FuncId },
-    Reduced { f: FuncId, t: TermId },
-    Conf { f: FuncId, t: TermId, p: ProtoId },
-    Layout { f: FuncId, t: TermId },
-    Same { f: FuncId, a: TermId, b: TermId },
+pub enum Asks {
+    Signature,
+    Reduced(TermId),
+    Requirement(Requirement),
+}
+
+/// A query on the signature `f`.
+#[derive(Clone, Copy, Debug, PartialEq, Eq)]
+pub struct Query {
+    pub f: FuncId,
+    pub asks: Asks,
 }

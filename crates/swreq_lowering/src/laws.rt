@@ -1,15 +1,7 @@
 //! What holds of the written requirements of each text.
 ghost use Rattle.std.specs.Prelude.{ℕ, ◌≤◌, All, AllPairs, Contains, length};
-ghost use Rattle.swreq_decl.specs.declared.skeleton.FunctionDecl.{FunctionDecl};
-ghost use Rattle.swreq_decl.specs.declared.skeleton.ProtocolDecl.{ProtocolDecl};
-ghost use Rattle.swreq_decl.specs.declared.skeleton.Skeleton.{Skeleton};
-ghost use Rattle.swreq_decl.specs.declared.skeleton.StructDecl.{StructDecl};
-ghost use Rattle.swreq_decl.specs.Skeletons.{StandsFor};
-ghost use Rattle.swreq_lowering.specs.Heads.{IsOverSelf};
-ghost use Rattle.swreq_lowering.specs.Requirements.{in_function, in_nested, in_protocol, in_struct};
-ghost use Rattle.swreq_lowering.specs.Short.{HasFewRequirements, HasShortLists};
-ghost use Rattle.swreq_lowering.specs.Standing.{InOrder, StandsInOne, of_function, of_nested, of_protocol, of_struct};
-ghost use Rattle.swreq_lowering.specs.Words.{WordsView};
+ghost use Rattle.swreq_lexicon.specs.swreq_decl.{declared.skeleton.FunctionDecl.{FunctionDecl}, declared.skeleton.ProtocolDecl.{ProtocolDecl}, declared.skeleton.Skeleton.{Skeleton}, declared.skeleton.StructDecl.{StructDecl}, Skeletons.{StandsFor}};
+ghost use Rattle.swreq_lowering.specs.{Heads.{IsOverSelf}, Requirements.{in_function, in_nested, in_protocol, in_struct}, Short.{HasFewRequirements, HasShortLists}, Standing.{InOrder, StandsInOne, of_function, of_nested, of_protocol, of_struct}, Words.{WordsView}};
 
 use swreq_lex::laws::tokens_are_slices;
 

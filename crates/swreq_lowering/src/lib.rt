@@ -15,11 +15,11 @@ mod spelling;
 mod words;
 
 pub use context::Context;
-pub use ids::{FuncId, Query, Written};
+pub use ids::{Asks, FuncId, Query, Written};
 pub use lookups::words_of;
 pub use params::{own_depth, params_of};
 pub use protocols::of_protocol;
-pub use queries::{asked_signature, query};
+pub use queries::{asked_of, asked_signature};
 pub use signatures::{of_function, of_nested, of_struct};
 pub use spelling::spell;
 pub use words::Words;

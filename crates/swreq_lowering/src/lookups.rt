@@ -1,16 +1,15 @@
 // What a name in a text stands for.
 ghost use Rattle.std.specs.Prelude.{◌≡◌, ◌≤◌, length, slice_get};
-ghost use Rattle.swreq_decl.specs.Skeletons.{StandsFor};
-ghost use Rattle.swreq_names.specs.Names.{HasDeclared};
-ghost use Rattle.swreq_lowering.specs.Types.{param_id, param_named, step_of};
-ghost use Rattle.swreq_lowering.specs.Words.{words_by, proto_of, name_of, primaries_named, primaries_of};
+ghost use Rattle.swreq_lexicon.specs.swreq_decl.Skeletons.{StandsFor};
+ghost use Rattle.swreq_lexicon.specs.swreq_names.Names.{HasDeclared};
+ghost use Rattle.swreq_lowering.specs.{Types.{param_id, param_named, step_of}, Words.{words_by, proto_of, name_of, primaries_named, primaries_of}};
 
 use crate::laws::lists_are_short;
 use crate::params::own_depth;
 use crate::words::Words;
-use swreq_decl::{ProtocolDecl, Skeleton, Span, StepDecl};
 use swreq_lexicon::Lexicon;
-use swreq_names::{Param, Signature, word};
+use swreq_lexicon::decl::{ProtocolDecl, Skeleton, Span, StepDecl};
+use swreq_lexicon::names::{Param, Signature, word};
 use swreq_param::{NameId, ParamId, ProtoId, Step};
 
 /// The protocol of this name.

@@ -2,9 +2,9 @@
 ghost use Rattle.std.specs.Prelude.{◌≡◌, ◌<◌, ◌^◌, length, slice_get};
 ghost use Rattle.swreq_lowering.specs.Signatures.{counts, depth_within, functions_of, outer_param_decls, own_depth, own_param_decls, params_of, params_of_function, params_of_struct};
 
-use swreq_decl::{FunctionDecl, ParamDecl, Skeleton, StructDecl};
-use swreq_derive::Params;
-use swreq_names::Signature;
+use swreq_lexicon::decl::{FunctionDecl, ParamDecl, Skeleton, StructDecl};
+use swreq_lexicon::derive::Params;
+use swreq_lexicon::names::Signature;
 
 /// The generic parameters of the struct at this place.
 fn params_of_struct(structs: &[StructDecl], place: usize) -> &[ParamDecl]

@@ -1,10 +1,7 @@
 // The requirements of protocols.
 ghost use Rattle.std.specs.Prelude.{OnOk, IfOk};
 ghost use Rattle.swreq_param.specs.Tables.{Extends};
-ghost use Rattle.swreq_lowering.specs.Adding.{Adds, Lists};
-ghost use Rattle.swreq_lowering.specs.Requirements.{in_protocol};
-ghost use Rattle.swreq_lowering.specs.Walk.{in_member, in_members};
-ghost use Rattle.swreq_lowering.specs.Words.{words_by};
+ghost use Rattle.swreq_lowering.specs.{Adding.{Adds, Lists}, Requirements.{in_protocol}, Walk.{in_member, in_members}, Words.{words_by}};
 
 use crate::context::Context;
 use crate::ids::Written;
@@ -13,7 +10,7 @@ use crate::requirements::{Subject, add_bounds, add_clause};
 use crate::spelling::SELF;
 use crate::words::Words;
 use std::alloc::{AllocError, Global};
-use swreq_decl::{AssocDecl, ProtocolDecl};
+use swreq_lexicon::decl::{AssocDecl, ProtocolDecl};
 use swreq_param::{ParamTable, Step};
 
 /// Adds the requirements that an associated type states.

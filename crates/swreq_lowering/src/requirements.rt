@@ -1,14 +1,8 @@
 // The requirements that bounds and where clauses write.
 ghost use Rattle.std.specs.Prelude.{◌≡◌, [], ◌∷◌, List, OnOk};
-ghost use Rattle.swreq_param.specs.Terms.{Term};
-ghost use Rattle.swreq_param.specs.Tables.{Extends, IsOf, term_at};
-ghost use Rattle.swreq_derive.specs.Facts.{requirement_of};
-ghost use Rattle.swreq_lowering.specs.Adding.{Adds};
-ghost use Rattle.swreq_lowering.specs.ByTable.{HasIdsOf};
-ghost use Rattle.swreq_lowering.specs.Requirements.{argument, arguments, bound_of, in_bound, in_bounds, equality};
-ghost use Rattle.swreq_lowering.specs.Walk.{in_clause, in_requirement};
-ghost use Rattle.swreq_lowering.specs.Types.{type_in};
-ghost use Rattle.swreq_lowering.specs.Words.{primaries_named, words_by};
+ghost use Rattle.swreq_param.specs.{Terms.{Term}, Tables.{Extends, IsOf, term_at}};
+ghost use Rattle.swreq_lexicon.specs.swreq_derive.Facts.{requirement_of};
+ghost use Rattle.swreq_lowering.specs.{Adding.{Adds}, ByTable.{HasIdsOf}, Requirements.{argument, arguments, bound_of, in_bound, in_bounds, equality}, Walk.{in_clause, in_requirement}, Types.{type_in}, Words.{primaries_named, words_by}};
 
 use crate::context::Context;
 use crate::ids::Written;
@@ -16,8 +10,8 @@ use crate::lookups::{name_of, primaries_named, proto_of};
 use crate::spelling::spell;
 use crate::words::Words;
 use std::alloc::AllocError;
-use swreq_decl::{Entity, ReqDecl, Span, TypeDecl};
-use swreq_derive::Requirement;
+use swreq_lexicon::decl::{Entity, ReqDecl, Span, TypeDecl};
+use swreq_lexicon::derive::Requirement;
 use swreq_param::{ParamTable, Step, TermId};
 
 /// A type parameter on which bounds are written, and the offset at which it is written.
@@ -36,7 +30,7 @@ struct Argument<'a> {
 }
 
 /// What a bound requires of a type parameter, but for its arguments.
-fn bound_of(words: &Words<'_>, subject: TermId, entity: &Entity) -> Requirement
+pub(crate) fn bound_of(words: &Words<'_>, subject: TermId, entity: &Entity) -> Requirement
     ensures means { (terms : List Term) → requirement_of terms result
         ≡ bound_of (words_by words.now) (term_at terms subject) entity.now }
     ensures of { (terms : List Term) → IsOf terms subject → HasIdsOf terms result }

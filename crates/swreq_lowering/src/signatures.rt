@@ -1,11 +1,7 @@
 // The lists of signatures.
 ghost use Rattle.std.specs.Prelude.{◌<◌, ◌^◌, length, OnOk, IfOk};
-ghost use Rattle.swreq_param.specs.Terms.{Term};
-ghost use Rattle.swreq_param.specs.Tables.{Extends};
-ghost use Rattle.swreq_lowering.specs.Adding.{Adds, Lists};
-ghost use Rattle.swreq_lowering.specs.Requirements.{in_function, in_inner, in_signature, in_struct};
-ghost use Rattle.swreq_lowering.specs.Walk.{in_param, in_params};
-ghost use Rattle.swreq_lowering.specs.Words.{words_by};
+ghost use Rattle.swreq_param.specs.{Terms.{Term}, Tables.{Extends}};
+ghost use Rattle.swreq_lowering.specs.{Adding.{Adds, Lists}, Requirements.{in_function, in_inner, in_signature, in_struct}, Walk.{in_param, in_params}, Words.{words_by}};
 
 use crate::context::Context;
 use crate::ids::Written;
@@ -13,8 +9,8 @@ use crate::params::own_depth;
 use crate::requirements::{Subject, add_bounds, add_clause};
 use crate::words::Words;
 use std::alloc::{AllocError, Global};
-use swreq_decl::{FunctionDecl, ParamDecl, ReqDecl, StructDecl};
-use swreq_names::Signature;
+use swreq_lexicon::decl::{FunctionDecl, ParamDecl, ReqDecl, StructDecl};
+use swreq_lexicon::names::Signature;
 use swreq_param::{ParamId, ParamTable};
 
 /// The bounds of a signature's own generic parameter at an index.

@@ -1,17 +1,14 @@
 // Written types as type parameters of a table.
 ghost use Rattle.std.specs.Prelude.{◌≡◌, IfOk, map};
-ghost use Rattle.swreq_param.specs.Terms.{with_steps};
-ghost use Rattle.swreq_param.specs.Tables.{Extends, IsOf, term_at};
-ghost use Rattle.swreq_lowering.specs.Adding.{Spells};
-ghost use Rattle.swreq_lowering.specs.Types.{head_in, protocol_head, signature_head, step_of, type_in};
-ghost use Rattle.swreq_lowering.specs.Words.{words_by};
+ghost use Rattle.swreq_param.specs.{Terms.{with_steps}, Tables.{Extends, IsOf, term_at}};
+ghost use Rattle.swreq_lowering.specs.{Adding.{Spells}, Types.{head_in, protocol_head, signature_head, step_of, type_in}, Words.{words_by}};
 
 use crate::context::Context;
 use crate::lookups::{name_of, param_named, step_of};
 use crate::words::Words;
 use std::alloc::AllocError;
-use swreq_decl::{Span, StepDecl, TypeDecl};
-use swreq_names::{Signature, word};
+use swreq_lexicon::decl::{Span, StepDecl, TypeDecl};
+use swreq_lexicon::names::{Signature, word};
 use swreq_param::{ParamId, ParamTable, Step, TermId};
 
 /// `τ_0_0`, which is `Self` in the requirements of a protocol.

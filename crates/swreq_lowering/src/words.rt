@@ -1,8 +1,8 @@
 // What the words of a text stand for.
 ghost use Rattle.swreq_lowering.specs.Small.{HasFewParams};
 
-use swreq_decl::Skeleton;
 use swreq_lexicon::Lexicon;
+use swreq_lexicon::decl::Skeleton;
 
 /// The bytes of a text, its parts, and what its words stand for.
 #[derive(Clone, Copy)]

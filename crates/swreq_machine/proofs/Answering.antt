@@ -1,38 +1,38 @@
 -- From what rules show to what is derivable.
 use Rattle.std.proofs.Common.{◌≡◌, ◌↔◌, sym, subst, Bool, true, false, List, [], ◌∷◌}
 use Rattle.std.specs.Bool.{Decides, OnTrue}
-use Rattle.swreq_param.specs.declared.ids.ProtoId.{ProtoId}
-use Rattle.swreq_param.specs.Terms.{Term}
-use Rattle.swreq_word.specs.declared.symbols.Symbol.{Symbol}
-use Rattle.swreq_word.specs.declared.symbols.Symbol.TheVariants.{Proto, Layout}
-use Rattle.swreq_word.proofs.Chains.{linked_back}
-use Rattle.swreq_derive.specs.Derivation.{Source, TermFacts, TermRequirement}
-use Rattle.swreq_derive.specs.Derivation.TermRequirement.{Conforms, IsAnyObject, Equals}
-use Rattle.swreq_derive.specs.Derivation.TermStatement.{IsValid, Requires}
-use Rattle.swreq_derive.specs.Derivation.Source.{Written}
-use Rattle.swreq_derive.specs.Facts.{generic_params}
-use Rattle.swreq_derive.specs.WellFormed.{HasValidSides}
-use Rattle.swreq_derive.proofs.Substitution.{valid_sides}
-use Rattle.swreq_rule.specs.declared.rules.Rule.{Rule}
-use Rattle.swreq_correspondence.specs.Equations.{AreCongruent}
-use Rattle.swreq_correspondence.specs.Shown.{ShowsValid}
-use Rattle.swreq_correspondence.specs.Symbols.{Symbols, Word, left_side, right_side, word_of}
-use Rattle.swreq_correspondence.proofs.Correspondence.{conforming_words, equal_words, layout_words}
-use Rattle.swreq_correspondence.proofs.Shown.{shown_by_params}
-use Rattle.swreq_correspondence.proofs.Spelling.{spell-append}
-use Rattle.swreq_symbols.specs.Meaning.{facts_of, symbols_of}
-use Rattle.swreq_symbols.specs.Overs.{source_over}
-use Rattle.swreq_symbols.specs.declared.over.Over.TheVariants.{Signature}
+use Rattle.swreq_valid.specs.swreq_param.declared.ids.ProtoId.{ProtoId}
+use Rattle.swreq_valid.specs.swreq_param.Terms.{Term}
+use Rattle.swreq_map.specs.swreq_word.declared.symbols.Symbol.{Symbol}
+use Rattle.swreq_map.specs.swreq_word.declared.symbols.Symbol.TheVariants.{Proto, Layout}
+use Rattle.swreq_map.proofs.swreq_word.Chains.{linked_back}
+use Rattle.swreq_valid.specs.swreq_derive.Derivation.{Source, TermFacts, TermRequirement}
+use Rattle.swreq_valid.specs.swreq_derive.Derivation.TermRequirement.{Conforms, IsAnyObject, Equals}
+use Rattle.swreq_valid.specs.swreq_derive.Derivation.TermStatement.{IsValid, Requires}
+use Rattle.swreq_valid.specs.swreq_derive.Derivation.Source.{Written}
+use Rattle.swreq_valid.specs.swreq_derive.Facts.{generic_params}
+use Rattle.swreq_valid.specs.swreq_derive.WellFormed.{HasValidSides}
+use Rattle.swreq_valid.proofs.swreq_derive.Substitution.{valid_sides}
+use Rattle.swreq_map.specs.swreq_rule.declared.rules.Rule.{Rule}
+use Rattle.swreq_valid.specs.swreq_correspondence.Equations.{AreCongruent}
+use Rattle.swreq_valid.specs.swreq_correspondence.Shown.{ShowsValid}
+use Rattle.swreq_valid.specs.swreq_correspondence.Symbols.{Symbols, Word, left_side, right_side, word_of}
+use Rattle.swreq_valid.proofs.swreq_correspondence.Correspondence.{conforming_words, equal_words, layout_words}
+use Rattle.swreq_valid.proofs.swreq_correspondence.Shown.{shown_by_params}
+use Rattle.swreq_valid.proofs.swreq_correspondence.Spelling.{spell-append}
+use Rattle.swreq_valid.specs.swreq_symbols.Meaning.{facts_of, symbols_of}
+use Rattle.swreq_valid.specs.swreq_symbols.Overs.{source_over}
+use Rattle.swreq_valid.specs.swreq_symbols.declared.over.Over.TheVariants.{Signature}
 use Rattle.swreq_map.specs.Properties.{Vanishes}
-use Rattle.swreq_symbols.specs.Vanishing.{IsLeastBy, Links}
-use Rattle.swreq_symbols.proofs.Symbols.{symbols_law, text_law}
-use Rattle.swreq_symbols.proofs.Walking.{vanishes_same}
-use Rattle.swreq_world.specs.Closed.{IsClosed}
-use Rattle.swreq_world.specs.Worlds.{TextWorld}
+use Rattle.swreq_valid.specs.swreq_symbols.Vanishing.{IsLeastBy, Links}
+use Rattle.swreq_valid.proofs.swreq_symbols.Symbols.{symbols_law, text_law}
+use Rattle.swreq_valid.proofs.swreq_symbols.Walking.{vanishes_same}
+use Rattle.swreq_valid.specs.swreq_world.Closed.{IsClosed}
+use Rattle.swreq_valid.specs.swreq_world.Worlds.{TextWorld}
 use Rattle.swreq_machine.specs.Asked.{IsBehind, IsDerivable}
 use Rattle.swreq_machine.specs.Machines.{IsMachineOf, MachineView}
 use Rattle.swreq_valid.specs.Rounds.{last_rules}
-use Rattle.swreq_machine.proofs.Valid.{list_derivable, list_shown}
+use Rattle.swreq_machine.proofs.Shown.{list_derivable, list_shown}
 use Rattle.swreq_valid.proofs.Linking.{linked_by_least}
 
 pub on_true : {P Q : Type 0} (b : Bool) → (P → Q) → OnTrue b P → OnTrue b Q

@@ -1,18 +1,18 @@
 -- Complete rules decide what they link.
 use Rattle.std.proofs.Common.{◌≡◌, ◌⊎◌, inl, inr, sym, subst, ℕ, zero, suc, ◌≤◌, arith, List}
-use Rattle.swreq_word.specs.Order.{WordLess}
-use Rattle.swreq_word.specs.Relations.Chain.{done, more}
-use Rattle.swreq_word.proofs.Chains.{linked_back, linked_on}
-use Rattle.swreq_word.proofs.Comparing.{trichotomy, not_below_itself}
-use Rattle.swreq_rule.specs.declared.rules.Rule.{Rule}
-use Rattle.swreq_rule.specs.Reduction.{Reduces}
-use Rattle.swreq_rule.proofs.Remaining.{remaining, remaining_falls}
-use Rattle.swreq_rule.proofs.Search.{reduction_step}
-use Rattle.swreq_complete.specs.Complete.{IsComplete}
-use Rattle.swreq_complete.proofs.Answering.{reduces_least}
-use Rattle.swreq_correspondence.specs.Symbols.{Word}
-use Rattle.swreq_symbols.specs.Vanishing.{IsLeastBy, Links}
-use Rattle.swreq_symbols.proofs.Walking.{one_least}
+use Rattle.swreq_map.specs.swreq_word.Order.{WordLess}
+use Rattle.swreq_map.specs.swreq_word.Relations.Chain.{done, more}
+use Rattle.swreq_map.proofs.swreq_word.Chains.{linked_back, linked_on}
+use Rattle.swreq_map.proofs.swreq_word.Comparing.{trichotomy, not_below_itself}
+use Rattle.swreq_map.specs.swreq_rule.declared.rules.Rule.{Rule}
+use Rattle.swreq_map.specs.swreq_rule.Reduction.{Reduces}
+use Rattle.swreq_map.proofs.swreq_rule.Remaining.{remaining, remaining_falls}
+use Rattle.swreq_map.proofs.swreq_rule.Search.{reduction_step}
+use Rattle.swreq_map.specs.swreq_complete.Complete.{IsComplete}
+use Rattle.swreq_map.proofs.swreq_complete.Answering.{reduces_least}
+use Rattle.swreq_valid.specs.swreq_correspondence.Symbols.{Word}
+use Rattle.swreq_valid.specs.swreq_symbols.Vanishing.{IsLeastBy, Links}
+use Rattle.swreq_valid.proofs.swreq_symbols.Walking.{one_least}
 
 -- a word reduces to some word, in as many steps as are left
 reduces_within : (rules : List Rule) (n : ℕ) (w : Word) → remaining rules w ≤ n → (u : Word) × Reduces rules w u

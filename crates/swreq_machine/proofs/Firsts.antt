@@ -2,24 +2,24 @@
 use Rattle.std.proofs.Common.{◌≡◌, ◌⊎◌, inl, inr, refl, sym, ap, subst, ◌∙◌, ℕ, zero, suc, ◌<◌, ◌+◌, arith, List, Option, Some, None, slice_get}
 use Rattle.std.proofs.lemmas.Bool.{cases_eq, cases_lt}
 use Rattle.std.proofs.lemmas.Option.{same_Some}
-use Rattle.swreq_param.specs.declared.ids.NameId.{NameId}
-use Rattle.swreq_param.specs.declared.ids.ProtoId.{ProtoId}
-use Rattle.swreq_param.specs.Terms.{Term}
-use Rattle.swreq_derive.specs.Derivation.{Derivable, Declares, Source, TermFacts, TermRequirement}
-use Rattle.swreq_derive.specs.Derivation.Source.{Written}
-use Rattle.swreq_derive.specs.Derivation.TermRequirement.{Conforms}
-use Rattle.swreq_derive.specs.Derivation.TermStatement.{IsValid, Requires}
-use Rattle.swreq_derive.specs.Facts.{generic_params}
-use Rattle.swreq_derive.proofs.Substitution.{valid_sides}
-use Rattle.swreq_complete.specs.Complete.{IsComplete}
-use Rattle.swreq_lexicon.specs.declared.pair.ProtocolName.{ProtocolName}
-use Rattle.swreq_lexicon.specs.Lexicons.{pair}
-use Rattle.swreq_correspondence.specs.Symbols.{left_side, right_side}
-use Rattle.swreq_correspondence.specs.Types.{HasFirsts}
-use Rattle.swreq_symbols.specs.Meaning.{facts_of, symbols_of}
-use Rattle.swreq_symbols.proofs.Declared.{at_rank, from_rank}
-use Rattle.swreq_world.specs.Closed.{IsClosed}
-use Rattle.swreq_world.specs.Worlds.{TextWorld}
+use Rattle.swreq_valid.specs.swreq_param.declared.ids.NameId.{NameId}
+use Rattle.swreq_valid.specs.swreq_param.declared.ids.ProtoId.{ProtoId}
+use Rattle.swreq_valid.specs.swreq_param.Terms.{Term}
+use Rattle.swreq_valid.specs.swreq_derive.Derivation.{Derivable, Declares, Source, TermFacts, TermRequirement}
+use Rattle.swreq_valid.specs.swreq_derive.Derivation.Source.{Written}
+use Rattle.swreq_valid.specs.swreq_derive.Derivation.TermRequirement.{Conforms}
+use Rattle.swreq_valid.specs.swreq_derive.Derivation.TermStatement.{IsValid, Requires}
+use Rattle.swreq_valid.specs.swreq_derive.Facts.{generic_params}
+use Rattle.swreq_valid.proofs.swreq_derive.Substitution.{valid_sides}
+use Rattle.swreq_map.specs.swreq_complete.Complete.{IsComplete}
+use Rattle.swreq_valid.specs.swreq_lexicon.declared.pair.ProtocolName.{ProtocolName}
+use Rattle.swreq_valid.specs.swreq_lexicon.Lexicons.{pair}
+use Rattle.swreq_valid.specs.swreq_correspondence.Symbols.{left_side, right_side}
+use Rattle.swreq_valid.specs.swreq_correspondence.Types.{HasFirsts}
+use Rattle.swreq_valid.specs.swreq_symbols.Meaning.{facts_of, symbols_of}
+use Rattle.swreq_valid.proofs.swreq_symbols.Declared.{at_rank, from_rank}
+use Rattle.swreq_valid.specs.swreq_world.Closed.{IsClosed}
+use Rattle.swreq_valid.specs.swreq_world.Worlds.{TextWorld}
 use Rattle.swreq_machine.specs.Machines.{IsMachineOf, MachineView}
 use Rattle.swreq_valid.specs.Rounds.{last_rules}
 use Rattle.swreq_machine.proofs.Answering.{by_sides}

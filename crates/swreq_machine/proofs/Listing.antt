@@ -1,26 +1,26 @@
 -- The plan of a list, and the requirements that stand in it.
 use Rattle.std.proofs.Common.{◌≡◌, sym, ap, ap₂, subst, ◌∙◌, List, [], map, Contains, Option, Ok}
 use Rattle.std.proofs.lemmas.Simd.{map-map}
-use Rattle.swreq_param.specs.Terms.{Term}
-use Rattle.swreq_derive.specs.declared.known.Params.{Params}
-use Rattle.swreq_derive.specs.declared.requirements.Requirement.{Requirement}
-use Rattle.swreq_derive.specs.Derivation.{TermRequirement}
-use Rattle.swreq_derive.specs.Derivation.Source.{Written}
-use Rattle.swreq_derive.specs.Facts.{generic_params, requirement_of}
-use Rattle.swreq_rule.specs.declared.rules.Rule.{Rule}
-use Rattle.swreq_watch.specs.declared.events.Event.{Event}
-use Rattle.swreq_complete.specs.declared.limit.Limits.{Limits}
-use Rattle.swreq_correspondence.specs.Symbols.{IsInText}
-use Rattle.swreq_rounds.specs.Given.{of_list}
-use Rattle.swreq_rounds.proofs.LastRound.{list_law}
-use Rattle.swreq_lemmas.proofs.Members.{contains_of_map}
-use Rattle.swreq_lexicon.specs.Views.{LexiconView}
-use Rattle.swreq_world.specs.ByTable.{world_by}
-use Rattle.swreq_world.specs.Closed.{AreIds, IsClosed, IsRequirementOf}
-use Rattle.swreq_world.specs.Worlds.{IdWorld, TextWorld}
-use Rattle.swreq_symbols.specs.Known.{IsRequirementIn}
-use Rattle.swreq_symbols.specs.Meaning.{facts_of, symbols_of}
-use Rattle.swreq_symbols.proofs.Symbols as shown
+use Rattle.swreq_valid.specs.swreq_param.Terms.{Term}
+use Rattle.swreq_valid.specs.swreq_derive.declared.known.Params.{Params}
+use Rattle.swreq_valid.specs.swreq_derive.declared.requirements.Requirement.{Requirement}
+use Rattle.swreq_valid.specs.swreq_derive.Derivation.{TermRequirement}
+use Rattle.swreq_valid.specs.swreq_derive.Derivation.Source.{Written}
+use Rattle.swreq_valid.specs.swreq_derive.Facts.{generic_params, requirement_of}
+use Rattle.swreq_map.specs.swreq_rule.declared.rules.Rule.{Rule}
+use Rattle.swreq_map.specs.swreq_watch.declared.events.Event.{Event}
+use Rattle.swreq_map.specs.swreq_complete.declared.limit.Limits.{Limits}
+use Rattle.swreq_valid.specs.swreq_correspondence.Symbols.{IsInText}
+use Rattle.swreq_valid.specs.swreq_rounds.Given.{of_list}
+use Rattle.swreq_valid.proofs.swreq_rounds.LastRound.{list_law}
+use Rattle.swreq_map.proofs.swreq_lemmas.Members.{contains_of_map}
+use Rattle.swreq_valid.specs.swreq_lexicon.Views.{LexiconView}
+use Rattle.swreq_valid.specs.swreq_world.ByTable.{world_by}
+use Rattle.swreq_valid.specs.swreq_world.Closed.{AreIds, IsClosed, IsRequirementOf}
+use Rattle.swreq_valid.specs.swreq_world.Worlds.{IdWorld, TextWorld}
+use Rattle.swreq_valid.specs.swreq_symbols.Known.{IsRequirementIn}
+use Rattle.swreq_valid.specs.swreq_symbols.Meaning.{facts_of, symbols_of}
+use Rattle.swreq_valid.proofs.swreq_symbols.Symbols as shown
 use Rattle.swreq_valid.specs.declared.wanted.RoundStart.{RoundStart}
 use Rattle.swreq_valid.specs.declared.wanted.RoundRequirement.{RoundRequirement}
 use Rattle.swreq_valid.specs.Answers.{Answers}

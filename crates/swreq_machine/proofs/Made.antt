@@ -1,21 +1,21 @@
 -- What building the machine of a written list answers of a text.
 use Rattle.std.proofs.Common.{◌≡◌, sym, subst, List, Contains, Option, Result, Ok, Err}
-use Rattle.swreq_param.specs.Terms.{Term}
-use Rattle.swreq_derive.specs.declared.known.Params.{Params}
-use Rattle.swreq_derive.specs.declared.requirements.Requirement.{Requirement}
-use Rattle.swreq_derive.specs.Derivation.{TermRequirement}
-use Rattle.swreq_derive.specs.Derivation.Source.{Written as WrittenList}
-use Rattle.swreq_derive.specs.Facts.{generic_params}
-use Rattle.swreq_rule.specs.declared.rules.Rule.{Rule}
-use Rattle.swreq_watch.specs.declared.events.Event.{Event}
-use Rattle.swreq_complete.specs.declared.limit.Failed.{Failed}
-use Rattle.swreq_complete.specs.declared.limit.Limits.{Limits}
-use Rattle.swreq_lowering.specs.declared.ids.Written.{Written}
-use Rattle.swreq_lowering.specs.ByTable.{placed}
-use Rattle.swreq_world.specs.ByTable.{world_by}
-use Rattle.swreq_world.specs.Closed.{IsClosed}
-use Rattle.swreq_world.specs.Worlds.{IdWorld, TextWorld}
-use Rattle.swreq_symbols.specs.Meaning.{facts_of, symbols_of}
+use Rattle.swreq_valid.specs.swreq_param.Terms.{Term}
+use Rattle.swreq_valid.specs.swreq_derive.declared.known.Params.{Params}
+use Rattle.swreq_valid.specs.swreq_derive.declared.requirements.Requirement.{Requirement}
+use Rattle.swreq_valid.specs.swreq_derive.Derivation.{TermRequirement}
+use Rattle.swreq_valid.specs.swreq_derive.Derivation.Source.{Written as WrittenList}
+use Rattle.swreq_valid.specs.swreq_derive.Facts.{generic_params}
+use Rattle.swreq_map.specs.swreq_rule.declared.rules.Rule.{Rule}
+use Rattle.swreq_map.specs.swreq_watch.declared.events.Event.{Event}
+use Rattle.swreq_map.specs.swreq_complete.declared.limit.Failed.{Failed}
+use Rattle.swreq_map.specs.swreq_complete.declared.limit.Limits.{Limits}
+use Rattle.swreq_valid.specs.swreq_lowering.declared.ids.Written.{Written}
+use Rattle.swreq_valid.specs.swreq_lowering.ByTable.{placed}
+use Rattle.swreq_valid.specs.swreq_world.ByTable.{world_by}
+use Rattle.swreq_valid.specs.swreq_world.Closed.{IsClosed}
+use Rattle.swreq_valid.specs.swreq_world.Worlds.{IdWorld, TextWorld}
+use Rattle.swreq_valid.specs.swreq_symbols.Meaning.{facts_of, symbols_of}
 use Rattle.swreq_valid.specs.declared.refused.Refused.{Refused}
 use Rattle.swreq_valid.specs.Answers.{Answers}
 use Rattle.swreq_valid.specs.Built.{Builds, Judges, refusal}
@@ -24,7 +24,7 @@ use Rattle.swreq_valid.specs.Plans.{bare, listed}
 use Rattle.swreq_valid.specs.Rounds.{last_rules}
 use Rattle.swreq_valid.specs.Sides.{IsShownSide, sides}
 use Rattle.swreq_valid.proofs.Building.{builds_failed, builds_judged}
-use Rattle.swreq_machine.proofs.Valid.{side_shown, side_valid}
+use Rattle.swreq_machine.proofs.Shown.{side_shown, side_valid}
 
 -- ---- the machine of a written list
 

@@ -1,23 +1,23 @@
 -- The list of a signature, as it is read from a world over ids and as its text means it.
 use Rattle.std.proofs.Common.{◌≡◌, ◌<◌, List, Option, Result, length, sym, subst}
-use Rattle.swreq_complete.specs.declared.limit.Limits.{Limits}
-use Rattle.swreq_derive.specs.Derivation.{TermRequirement}
-use Rattle.swreq_derive.specs.Derivation.Source.{Written as WrittenList}
-use Rattle.swreq_derive.specs.Facts.{generic_params}
-use Rattle.swreq_derive.specs.declared.known.Params.{Params}
-use Rattle.swreq_param.specs.Terms.{Term}
-use Rattle.swreq_rule.specs.declared.rules.Rule.{Rule}
-use Rattle.swreq_watch.specs.declared.events.Event.{Event}
-use Rattle.swreq_lowering.specs.ByTable.{placed}
-use Rattle.swreq_lowering.specs.declared.ids.FuncId.{FuncId}
-use Rattle.swreq_lowering.specs.declared.ids.Written.{Written}
-use Rattle.swreq_lowering.specs.Requirements.{PlacedRequirement}
-use Rattle.swreq_world.specs.ByTable.{world_by}
-use Rattle.swreq_world.specs.FactsAt.{source_of, written_list}
-use Rattle.swreq_world.specs.Worlds.{IdWorld, SignatureOver, signature_at}
-use Rattle.swreq_symbols.proofs.OfText.{requirements_placed, signature_is, signature_written}
-use Rattle.swreq_symbols.specs.Known.{IsTextOver}
-use Rattle.swreq_symbols.specs.Meaning.{facts_of}
+use Rattle.swreq_map.specs.swreq_complete.declared.limit.Limits.{Limits}
+use Rattle.swreq_valid.specs.swreq_derive.Derivation.{TermRequirement}
+use Rattle.swreq_valid.specs.swreq_derive.Derivation.Source.{Written as WrittenList}
+use Rattle.swreq_valid.specs.swreq_derive.Facts.{generic_params}
+use Rattle.swreq_valid.specs.swreq_derive.declared.known.Params.{Params}
+use Rattle.swreq_valid.specs.swreq_param.Terms.{Term}
+use Rattle.swreq_map.specs.swreq_rule.declared.rules.Rule.{Rule}
+use Rattle.swreq_map.specs.swreq_watch.declared.events.Event.{Event}
+use Rattle.swreq_valid.specs.swreq_lowering.ByTable.{placed}
+use Rattle.swreq_valid.specs.swreq_lowering.declared.ids.FuncId.{FuncId}
+use Rattle.swreq_valid.specs.swreq_lowering.declared.ids.Written.{Written}
+use Rattle.swreq_valid.specs.swreq_lowering.Requirements.{PlacedRequirement}
+use Rattle.swreq_valid.specs.swreq_world.ByTable.{world_by}
+use Rattle.swreq_valid.specs.swreq_world.FactsAt.{source_of, written_list}
+use Rattle.swreq_valid.specs.swreq_world.Worlds.{IdWorld, SignatureOver, signature_at}
+use Rattle.swreq_valid.proofs.swreq_symbols.OfText.{requirements_placed, signature_is, signature_written}
+use Rattle.swreq_valid.specs.swreq_symbols.Known.{IsTextOver}
+use Rattle.swreq_valid.specs.swreq_symbols.Meaning.{facts_of}
 use Rattle.swreq_valid.specs.Built.{Builds}
 use Rattle.swreq_machine.specs.Machines.{list_of, machine_plan}
 use Rattle.swreq_machine.specs.OfSignatures.{signature_plan, signature_sides}

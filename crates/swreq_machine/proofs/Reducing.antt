@@ -1,34 +1,34 @@
 -- The reduced type is read off the least word.
 use Rattle.std.proofs.Common.{◌≡◌, ◌↔◌, sym, subst, List, [], ◌∷◌, ◌++◌}
 use Rattle.std.proofs.lemmas.List.{append-nil}
-use Rattle.swreq_param.specs.declared.ids.AssocId.{AssocId}
-use Rattle.swreq_param.specs.declared.ids.NameId.{NameId}
-use Rattle.swreq_param.specs.declared.ids.ProtoId.{ProtoId}
-use Rattle.swreq_param.specs.declared.ids.Step.TheVariants.{Bound, Name}
-use Rattle.swreq_param.specs.Terms.{Term}
-use Rattle.swreq_param.specs.Terms.Term.{Generic, Member}
-use Rattle.swreq_derive.specs.Derivation.{Derivable, Source, TermFacts, TermRequirement}
-use Rattle.swreq_derive.specs.Derivation.Source.{Written}
-use Rattle.swreq_derive.specs.Derivation.TermRequirement.{Conforms}
-use Rattle.swreq_derive.specs.Derivation.TermStatement.{IsValid, Requires}
-use Rattle.swreq_derive.specs.Facts.{generic_params}
-use Rattle.swreq_derive.proofs.Substitution.{valid_sides}
-use Rattle.swreq_word.specs.declared.symbols.Symbol.TheVariants.{Proto, Member as MemberSymbol}
-use Rattle.swreq_word.proofs.Chains.{joined}
-use Rattle.swreq_rule.specs.declared.rules.Rule.{Rule}
-use Rattle.swreq_complete.specs.Complete.{IsComplete}
-use Rattle.swreq_correspondence.specs.Equations.{AreCongruent}
-use Rattle.swreq_correspondence.specs.Symbols.{Symbols, Word, name_of, spell, word_of}
-use Rattle.swreq_correspondence.specs.Types.{BeginsAs, IsFirstFor, IsTypeOf}
-use Rattle.swreq_correspondence.proofs.Chained.{turn_all}
-use Rattle.swreq_correspondence.proofs.Correspondence.{conforming_words}
-use Rattle.swreq_correspondence.proofs.Orders.{Stands, front, some_type, type_is_reduced}
-use Rattle.swreq_symbols.specs.Meaning.{facts_of, symbols_of}
+use Rattle.swreq_valid.specs.swreq_param.declared.ids.AssocId.{AssocId}
+use Rattle.swreq_valid.specs.swreq_param.declared.ids.NameId.{NameId}
+use Rattle.swreq_valid.specs.swreq_param.declared.ids.ProtoId.{ProtoId}
+use Rattle.swreq_valid.specs.swreq_param.declared.ids.Step.TheVariants.{Bound, Name}
+use Rattle.swreq_valid.specs.swreq_param.Terms.{Term}
+use Rattle.swreq_valid.specs.swreq_param.Terms.Term.{Generic, Member}
+use Rattle.swreq_valid.specs.swreq_derive.Derivation.{Derivable, Source, TermFacts, TermRequirement}
+use Rattle.swreq_valid.specs.swreq_derive.Derivation.Source.{Written}
+use Rattle.swreq_valid.specs.swreq_derive.Derivation.TermRequirement.{Conforms}
+use Rattle.swreq_valid.specs.swreq_derive.Derivation.TermStatement.{IsValid, Requires}
+use Rattle.swreq_valid.specs.swreq_derive.Facts.{generic_params}
+use Rattle.swreq_valid.proofs.swreq_derive.Substitution.{valid_sides}
+use Rattle.swreq_map.specs.swreq_word.declared.symbols.Symbol.TheVariants.{Proto, Member as MemberSymbol}
+use Rattle.swreq_map.proofs.swreq_word.Chains.{joined}
+use Rattle.swreq_map.specs.swreq_rule.declared.rules.Rule.{Rule}
+use Rattle.swreq_map.specs.swreq_complete.Complete.{IsComplete}
+use Rattle.swreq_valid.specs.swreq_correspondence.Equations.{AreCongruent}
+use Rattle.swreq_valid.specs.swreq_correspondence.Symbols.{Symbols, Word, name_of, spell, word_of}
+use Rattle.swreq_valid.specs.swreq_correspondence.Types.{BeginsAs, IsFirstFor, IsTypeOf}
+use Rattle.swreq_valid.proofs.swreq_correspondence.Chained.{turn_all}
+use Rattle.swreq_valid.proofs.swreq_correspondence.Correspondence.{conforming_words}
+use Rattle.swreq_valid.proofs.swreq_correspondence.Orders.{Stands, front, some_type, type_is_reduced}
+use Rattle.swreq_valid.specs.swreq_symbols.Meaning.{facts_of, symbols_of}
 use Rattle.swreq_map.specs.Properties.{Vanishes}
-use Rattle.swreq_symbols.specs.Vanishing.{IsLeastBy, Links, IsFirstBehind}
-use Rattle.swreq_symbols.proofs.Symbols.{ranks_law, symbols_law, text_law}
-use Rattle.swreq_world.specs.Closed.{IsClosed}
-use Rattle.swreq_world.specs.Worlds.{TextWorld}
+use Rattle.swreq_valid.specs.swreq_symbols.Vanishing.{IsLeastBy, Links, IsFirstBehind}
+use Rattle.swreq_valid.proofs.swreq_symbols.Symbols.{ranks_law, symbols_law, text_law}
+use Rattle.swreq_valid.specs.swreq_world.Closed.{IsClosed}
+use Rattle.swreq_valid.specs.swreq_world.Worlds.{TextWorld}
 use Rattle.swreq_machine.specs.Asked.{IsLeastOf, IsReducedIn}
 use Rattle.swreq_machine.specs.LeastTypes.{BeginsBy}
 use Rattle.swreq_machine.specs.Machines.{IsMachineOf, MachineView}

@@ -1,17 +1,17 @@
 -- From what is shown of the words of type parameters to what is answered of them.
 use Rattle.std.proofs.Common.{◌≡◌, ◌↔◌, inl, inr, subst, ℕ, Bool, IsTrue, List, Option, Some, None, MatchOption}
-use Rattle.swreq_param.specs.Terms.{Term}
-use Rattle.swreq_derive.specs.Derivation.{TermRequirement}
-use Rattle.swreq_derive.specs.Derivation.Source.{Written}
-use Rattle.swreq_derive.specs.Derivation.TermRequirement.{Equals}
-use Rattle.swreq_derive.specs.Derivation.TermStatement.{Requires}
-use Rattle.swreq_derive.specs.Facts.{generic_params}
-use Rattle.swreq_symbols.specs.Meaning.{facts_of}
-use Rattle.swreq_derive.proofs.Substitution.{valid_sides}
+use Rattle.swreq_valid.specs.swreq_param.Terms.{Term}
+use Rattle.swreq_valid.specs.swreq_derive.Derivation.{TermRequirement}
+use Rattle.swreq_valid.specs.swreq_derive.Derivation.Source.{Written}
+use Rattle.swreq_valid.specs.swreq_derive.Derivation.TermRequirement.{Equals}
+use Rattle.swreq_valid.specs.swreq_derive.Derivation.TermStatement.{Requires}
+use Rattle.swreq_valid.specs.swreq_derive.Facts.{generic_params}
+use Rattle.swreq_valid.specs.swreq_symbols.Meaning.{facts_of}
+use Rattle.swreq_valid.proofs.swreq_derive.Substitution.{valid_sides}
 use Rattle.swreq_map.specs.Properties.{IsProperty}
-use Rattle.swreq_word.specs.declared.symbols.Symbol.{Symbol}
-use Rattle.swreq_world.specs.Closed.{IsClosed}
-use Rattle.swreq_world.specs.Worlds.{TextWorld}
+use Rattle.swreq_map.specs.swreq_word.declared.symbols.Symbol.{Symbol}
+use Rattle.swreq_valid.specs.swreq_world.Closed.{IsClosed}
+use Rattle.swreq_valid.specs.swreq_world.Worlds.{TextWorld}
 use Rattle.swreq_machine.specs.declared.having.Property.{Property}
 use Rattle.swreq_machine.specs.declared.having.Property.TheVariants.{Protocol, Layout}
 use Rattle.swreq_machine.specs.Asked.{IsBehind, IsDerivable, IsShownBy}

@@ -2,26 +2,25 @@
 use Rattle.std.proofs.Common.{◌≡◌, ◌∙◌, inl, inr, refl, sym, ap, subst, subst₂, ℕ, suc, ◌<◌, ◌≤◌, ◌+◌, arith, List, [], ◌∷◌, ◌++◌, length, take, drop, slice_get, Some, length-append, take-append-drop}
 use Rattle.std.proofs.Math.Seq.{take-append_seam}
 use Rattle.std.proofs.lemmas.Bool.{cases_eq}
-use Rattle.swreq_lemmas.proofs.Elements.{same_heads}
-use Rattle.swreq_param.specs.declared.ids.AssocId.{AssocId}
-use Rattle.swreq_param.specs.declared.ids.Step.{Step}
-use Rattle.swreq_param.specs.declared.ids.Step.TheVariants.{Bound, Name}
-use Rattle.swreq_param.specs.Terms.{Term, head, with_steps}
-use Rattle.swreq_param.specs.Terms.Term.{Generic, Member}
-use Rattle.swreq_param.specs.ComparisonLaws.{with_more}
-use Rattle.swreq_word.specs.declared.symbols.Symbol.{Symbol}
-use Rattle.swreq_word.specs.declared.symbols.Symbol.TheVariants.{Member as MemberSymbol, Param}
-use Rattle.swreq_word.proofs.Cuts.{same_cut}
-use Rattle.swreq_word.proofs.SameSymbols.{same_members}
-use Rattle.swreq_rule.specs.declared.rules.Rule.{Rule}
-use Rattle.swreq_lexicon.specs.Views.{LexiconView}
-use Rattle.swreq_correspondence.specs.Symbols.{IsRank, Symbols, Word, name_of}
-use Rattle.swreq_correspondence.proofs.OneType.{one_param}
-use Rattle.swreq_symbols.specs.Meaning.{symbols_of}
-use Rattle.swreq_symbols.specs.Vanishing.{IsFirstBehind}
-use Rattle.swreq_symbols.proofs.LeastWords.{one_first}
+use Rattle.swreq_map.proofs.swreq_lemmas.Elements.{drop_from, same_heads}
+use Rattle.swreq_valid.specs.swreq_param.declared.ids.AssocId.{AssocId}
+use Rattle.swreq_valid.specs.swreq_param.declared.ids.Step.{Step}
+use Rattle.swreq_valid.specs.swreq_param.declared.ids.Step.TheVariants.{Bound, Name}
+use Rattle.swreq_valid.specs.swreq_param.Terms.{Term, head, with_steps}
+use Rattle.swreq_valid.specs.swreq_param.Terms.Term.{Generic, Member}
+use Rattle.swreq_valid.specs.swreq_param.ComparisonLaws.{with_more}
+use Rattle.swreq_map.specs.swreq_word.declared.symbols.Symbol.{Symbol}
+use Rattle.swreq_map.specs.swreq_word.declared.symbols.Symbol.TheVariants.{Member as MemberSymbol, Param}
+use Rattle.swreq_map.proofs.swreq_word.Cuts.{same_cut}
+use Rattle.swreq_map.proofs.swreq_word.SameSymbols.{same_members}
+use Rattle.swreq_map.specs.swreq_rule.declared.rules.Rule.{Rule}
+use Rattle.swreq_valid.specs.swreq_lexicon.Views.{LexiconView}
+use Rattle.swreq_valid.specs.swreq_correspondence.Symbols.{IsRank, Symbols, Word, name_of}
+use Rattle.swreq_valid.proofs.swreq_correspondence.OneType.{one_param}
+use Rattle.swreq_valid.specs.swreq_symbols.Meaning.{symbols_of}
+use Rattle.swreq_valid.specs.swreq_symbols.Vanishing.{IsFirstBehind}
+use Rattle.swreq_valid.proofs.swreq_symbols.LeastWords.{one_first}
 use Rattle.swreq_machine.specs.LeastTypes.{BeginsBy}
-use Rattle.swreq_valid.proofs.OfProtocols.{drop_at}
 
 -- ---- lists
 
@@ -104,7 +103,7 @@ module _ (x : LexiconView) (rules : List Rule) where
       → Made u (k + 1) new
   one_made u k old new a b made adds r h =
       let (j, d, at, is, first) = at_place r [] u h k a (omega (arith, b)) in
-      let cut : drop k u ≡ MemberSymbol j ∷ drop (k + 1) u = drop_at u k (MemberSymbol j) at in
+      let cut : drop k u ≡ MemberSymbol j ∷ drop (k + 1) u = drop_from u k (MemberSymbol j) at in
       let whole : u ≡ take k u ++ (MemberSymbol j ∷ drop (k + 1) u) = sym (take-append-drop k u) ∙ ap (λ z. take k u ++ z) cut in
       let type : new ≡ old ++ Bound d ∷ [] = adds (MemberSymbol j) j d at refl is first in
       subst (λ z. BeginsBy x rules z (drop (k + 1) u) u)

@@ -1,23 +1,23 @@
 -- What is asked of a machine.
 use Rattle.std.specs.Prelude.{ℕ, List}
-use Rattle.swreq_param.specs.declared.ids.ParamId.{ParamId}
-use Rattle.swreq_param.specs.declared.ids.Step.{Step}
-use Rattle.swreq_param.specs.Terms.{Term}
-use Rattle.swreq_derive.specs.Derivation.{Derivable, TermRequirement, TermStatement}
-use Rattle.swreq_derive.specs.Derivation.Source.{Written}
-use Rattle.swreq_derive.specs.Facts.{generic_params}
-use Rattle.swreq_word.specs.declared.symbols.Symbol.{Symbol}
-use Rattle.swreq_word.specs.Least.{IsLeast}
-use Rattle.swreq_derive.specs.Reduced.{IsReducedTypeOf}
-use Rattle.swreq_correspondence.specs.Equations.{AreCongruent}
-use Rattle.swreq_correspondence.specs.Shown.{ShowsValid}
-use Rattle.swreq_correspondence.specs.Symbols.{Word, word_of}
-use Rattle.swreq_symbols.specs.Meaning.{facts_of, symbols_of}
-use Rattle.swreq_symbols.specs.Overs.{source_over}
-use Rattle.swreq_symbols.specs.declared.over.Over.TheVariants.{Signature}
+use Rattle.swreq_valid.specs.swreq_param.declared.ids.ParamId.{ParamId}
+use Rattle.swreq_valid.specs.swreq_param.declared.ids.Step.{Step}
+use Rattle.swreq_valid.specs.swreq_param.Terms.{Term}
+use Rattle.swreq_valid.specs.swreq_derive.Derivation.{Derivable, TermRequirement, TermStatement}
+use Rattle.swreq_valid.specs.swreq_derive.Derivation.Source.{Written}
+use Rattle.swreq_valid.specs.swreq_derive.Facts.{generic_params}
+use Rattle.swreq_map.specs.swreq_word.declared.symbols.Symbol.{Symbol}
+use Rattle.swreq_map.specs.swreq_word.Least.{IsLeast}
+use Rattle.swreq_valid.specs.swreq_derive.Reduced.{IsReducedTypeOf}
+use Rattle.swreq_valid.specs.swreq_correspondence.Equations.{AreCongruent}
+use Rattle.swreq_valid.specs.swreq_correspondence.Shown.{ShowsValid}
+use Rattle.swreq_valid.specs.swreq_correspondence.Symbols.{Word, word_of}
+use Rattle.swreq_valid.specs.swreq_symbols.Meaning.{facts_of, symbols_of}
+use Rattle.swreq_valid.specs.swreq_symbols.Overs.{source_over}
+use Rattle.swreq_valid.specs.swreq_symbols.declared.over.Over.TheVariants.{Signature}
 use Rattle.swreq_map.specs.Properties.{Vanishes}
-use Rattle.swreq_symbols.specs.Vanishing.{IsLeastBy, Links}
-use Rattle.swreq_world.specs.Worlds.{TextWorld}
+use Rattle.swreq_valid.specs.swreq_symbols.Vanishing.{IsLeastBy, Links}
+use Rattle.swreq_valid.specs.swreq_world.Worlds.{TextWorld}
 use Rattle.swreq_machine.specs.Machines.{MachineView}
 use Rattle.swreq_valid.specs.Rounds.{last_rules}
 

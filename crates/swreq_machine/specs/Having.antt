@@ -1,11 +1,11 @@
 -- What is answered of type parameters together with whether they are valid.
 use Rattle.std.specs.Prelude.{◌↔◌, ◌⊎◌, ◌<◌, ℕ, Bool, IsTrue, Option, Some, None}
-use Rattle.swreq_param.specs.Terms.{Term}
-use Rattle.swreq_derive.specs.Derivation.{TermRequirement, TermStatement}
-use Rattle.swreq_derive.specs.Derivation.TermRequirement.{Conforms, Equals, IsAnyObject}
-use Rattle.swreq_derive.specs.Derivation.TermStatement.{IsValid, Requires}
-use Rattle.swreq_word.specs.declared.symbols.Symbol.{Symbol}
-use Rattle.swreq_word.specs.declared.symbols.Symbol.TheVariants as symbols
+use Rattle.swreq_valid.specs.swreq_param.Terms.{Term}
+use Rattle.swreq_valid.specs.swreq_derive.Derivation.{TermRequirement, TermStatement}
+use Rattle.swreq_valid.specs.swreq_derive.Derivation.TermRequirement.{Conforms, Equals, IsAnyObject}
+use Rattle.swreq_valid.specs.swreq_derive.Derivation.TermStatement.{IsValid, Requires}
+use Rattle.swreq_map.specs.swreq_word.declared.symbols.Symbol.{Symbol}
+use Rattle.swreq_map.specs.swreq_word.declared.symbols.Symbol.TheVariants as symbols
 use Rattle.swreq_machine.specs.declared.having.Property.{Property}
 use Rattle.swreq_machine.specs.declared.having.Property.TheVariants.{Protocol, Layout}
 

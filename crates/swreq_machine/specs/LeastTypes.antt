@@ -1,14 +1,14 @@
 -- The type of a word, as rules tell it.
 use Rattle.std.specs.Prelude.{◌≡◌, ℕ, List, ◌∷◌, ◌++◌}
-use Rattle.swreq_param.specs.declared.ids.Step.TheVariants.{Bound, Name}
-use Rattle.swreq_param.specs.Terms.{Term}
-use Rattle.swreq_param.specs.Terms.Term.{Generic, Member}
-use Rattle.swreq_word.specs.declared.symbols.Symbol.TheVariants.{Member as MemberSymbol, Param}
-use Rattle.swreq_rule.specs.declared.rules.Rule.{Rule}
-use Rattle.swreq_lexicon.specs.Views.{LexiconView}
-use Rattle.swreq_correspondence.specs.Symbols.{IsRank, Word, name_of}
-use Rattle.swreq_symbols.specs.Meaning.{symbols_of}
-use Rattle.swreq_symbols.specs.Vanishing.{IsFirstBehind}
+use Rattle.swreq_valid.specs.swreq_param.declared.ids.Step.TheVariants.{Bound, Name}
+use Rattle.swreq_valid.specs.swreq_param.Terms.{Term}
+use Rattle.swreq_valid.specs.swreq_param.Terms.Term.{Generic, Member}
+use Rattle.swreq_map.specs.swreq_word.declared.symbols.Symbol.TheVariants.{Member as MemberSymbol, Param}
+use Rattle.swreq_map.specs.swreq_rule.declared.rules.Rule.{Rule}
+use Rattle.swreq_valid.specs.swreq_lexicon.Views.{LexiconView}
+use Rattle.swreq_valid.specs.swreq_correspondence.Symbols.{IsRank, Word, name_of}
+use Rattle.swreq_valid.specs.swreq_symbols.Meaning.{symbols_of}
+use Rattle.swreq_valid.specs.swreq_symbols.Vanishing.{IsFirstBehind}
 
 -- The word is a word of type T and then `rest`. The word of type T is a generic parameter, and a member symbol for each member, which is
 -- the bound member with the first associated type of that name whose protocol vanishes after the word before it.

@@ -1,21 +1,21 @@
 -- What is said of machines.
 use Rattle.std.specs.Prelude.{Err, List, Ok, Result}
-use Rattle.swreq_derive.specs.declared.known.Params.{Params}
-use Rattle.swreq_derive.specs.Derivation.{TermRequirement}
-use Rattle.swreq_derive.specs.Derivation.Source.{Written}
-use Rattle.swreq_derive.specs.Facts.{generic_params}
-use Rattle.swreq_rule.specs.declared.rules.Rule.{Rule}
-use Rattle.swreq_complete.specs.declared.limit.Failed.{Failed}
-use Rattle.swreq_correspondence.specs.Symbols.{IsInText}
-use Rattle.swreq_rounds.specs.Given.{list_plan}
-use Rattle.swreq_rounds.specs.Plan.{Plan}
-use Rattle.swreq_rounds.specs.Presents.{AreListRules}
-use Rattle.swreq_symbols.specs.Meaning.{facts_of, symbols_of}
-use Rattle.swreq_world.specs.Worlds.{IdWorld, TextWorld}
+use Rattle.swreq_valid.specs.swreq_derive.declared.known.Params.{Params}
+use Rattle.swreq_valid.specs.swreq_derive.Derivation.{TermRequirement}
+use Rattle.swreq_valid.specs.swreq_derive.Derivation.Source.{Written}
+use Rattle.swreq_valid.specs.swreq_derive.Facts.{generic_params}
+use Rattle.swreq_map.specs.swreq_rule.declared.rules.Rule.{Rule}
+use Rattle.swreq_map.specs.swreq_complete.declared.limit.Failed.{Failed}
+use Rattle.swreq_valid.specs.swreq_correspondence.Symbols.{IsInText}
+use Rattle.swreq_valid.specs.swreq_rounds.Given.{list_plan}
+use Rattle.swreq_valid.specs.swreq_rounds.Plan.{Plan}
+use Rattle.swreq_valid.specs.swreq_rounds.Presents.{AreListRules}
+use Rattle.swreq_valid.specs.swreq_symbols.Meaning.{facts_of, symbols_of}
+use Rattle.swreq_valid.specs.swreq_world.Worlds.{IdWorld, TextWorld}
 use Rattle.swreq_valid.specs.Rounds.{RoundView, last_rules}
-use Rattle.swreq_param.specs.Terms.{Term}
-use Rattle.swreq_derive.specs.declared.requirements.Requirement.{Requirement}
-use Rattle.swreq_world.specs.ByTable.{world_by}
+use Rattle.swreq_valid.specs.swreq_param.Terms.{Term}
+use Rattle.swreq_valid.specs.swreq_derive.declared.requirements.Requirement.{Requirement}
+use Rattle.swreq_valid.specs.swreq_world.ByTable.{world_by}
 use Rattle.swreq_valid.specs.Plans.{listed}
 use Rattle.swreq_valid.specs.declared.refused.Refused.{Refused}
 

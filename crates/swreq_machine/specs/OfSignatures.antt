@@ -1,10 +1,10 @@
 -- The machine of a signature: its list, over the rules of the protocols.
 use Rattle.std.specs.Prelude.{List}
-use Rattle.swreq_rule.specs.declared.rules.Rule.{Rule}
-use Rattle.swreq_rounds.specs.Plan.{Plan}
-use Rattle.swreq_lowering.specs.Requirements.{PlacedRequirement}
-use Rattle.swreq_world.specs.FactsAt.{source_of, written_list}
-use Rattle.swreq_world.specs.Worlds.{SignatureOver, TextWorld}
+use Rattle.swreq_map.specs.swreq_rule.declared.rules.Rule.{Rule}
+use Rattle.swreq_valid.specs.swreq_rounds.Plan.{Plan}
+use Rattle.swreq_valid.specs.swreq_lowering.Requirements.{PlacedRequirement}
+use Rattle.swreq_valid.specs.swreq_world.FactsAt.{source_of, written_list}
+use Rattle.swreq_valid.specs.swreq_world.Worlds.{SignatureOver, TextWorld}
 use Rattle.swreq_machine.specs.Machines.{list_of}
 use Rattle.swreq_valid.specs.Sides.{Side, sides}
 

@@ -1,15 +1,13 @@
 //! The events of the rounds of a machine, told once more.
 ghost use Rattle.std.specs.Prelude.{◌≡◌};
-ghost use Rattle.swreq_rounds.specs.Plan.{Plan};
-ghost use Rattle.swreq_complete.specs.declared.limit.Limits.{Limits};
-ghost use Rattle.swreq_valid.specs.Again.{rules_again};
-ghost use Rattle.swreq_valid.specs.Answers.{Answers};
-ghost use Rattle.swreq_valid.specs.Rounds.{AreRounds, last_rules};
+ghost use Rattle.swreq_valid.specs.swreq_rounds.Plan.{Plan};
+ghost use Rattle.swreq_map.specs.swreq_complete.declared.limit.Limits.{Limits};
+ghost use Rattle.swreq_valid.specs.{Again.{rules_again}, Answers.{Answers}, Rounds.{AreRounds, last_rules}};
 
 use crate::machine::Machine;
 use std::alloc::AllocError;
 use swreq_valid::Protocols;
-use swreq_watch::Watch;
+use swreq_valid::watch::Watch;
 
 impl<'b> Machine<'b> {
     /// Tells the watcher the events of its rounds once more, where they are rounds over the rules of these protocols: exactly what it was

@@ -1,28 +1,20 @@
 //! The answers of a machine, which take no memory but for the room of a scratch.
-ghost use Rattle.std.specs.Prelude.{◌≡◌, ◌↔◌, ◌+◌, ◌*◌, ◌≤◌, IfOk, IsTrue, List, vec_capacity, vec_len};
-ghost use Rattle.std.specs.Bool.{OnTrue};
-ghost use Rattle.swreq_param.specs.Tables.{term_at};
-ghost use Rattle.swreq_param.specs.Terms.{member_count};
-ghost use Rattle.swreq_derive.specs.Derivation.{TermRequirement};
-ghost use Rattle.swreq_derive.specs.Derivation.TermRequirement.{Conforms, Equals, IsAnyObject};
-ghost use Rattle.swreq_derive.specs.Derivation.TermStatement.{IsValid, Requires};
-ghost use Rattle.swreq_derive.specs.Facts.{requirement_of};
-ghost use Rattle.swreq_symbols.specs.Known.{IsRequirementIn, IsTextOver, IsTypeIn};
-ghost use Rattle.swreq_symbols.specs.Texts.{BelongTogether, world_of};
-ghost use Rattle.swreq_world.specs.ByTable.{world_by};
-ghost use Rattle.swreq_machine.specs.Asked.{IsBehind, IsDerivable, IsLeastWord, IsShownBy};
-ghost use Rattle.swreq_machine.specs.Having.{TellsIfEqual};
-ghost use Rattle.swreq_machine.specs.Machines.{IsMachineOf};
+ghost use Rattle.std.specs.{Prelude.{◌≡◌, ◌↔◌, ◌+◌, ◌*◌, ◌≤◌, IfOk, IsTrue, List, vec_capacity, vec_len}, Bool.{OnTrue}};
+ghost use Rattle.swreq_valid.specs.swreq_param.{Tables.{term_at}, Terms.{member_count}};
+ghost use Rattle.swreq_valid.specs.swreq_derive.{Derivation.{TermRequirement}, Derivation.TermRequirement.{Conforms, Equals, IsAnyObject}, Derivation.TermStatement.{IsValid, Requires}, Facts.{requirement_of}};
+ghost use Rattle.swreq_valid.specs.swreq_symbols.{Known.{IsRequirementIn, IsTextOver, IsTypeIn}, Texts.{BelongTogether, world_of}};
+ghost use Rattle.swreq_valid.specs.swreq_world.ByTable.{world_by};
+ghost use Rattle.swreq_machine.specs.{Asked.{IsBehind, IsDerivable, IsLeastWord, IsShownBy}, Having.{TellsIfEqual}, Machines.{IsMachineOf}};
 
 use crate::machine::Machine;
 use crate::scratch::Scratch;
 use std::alloc::{AllocError, Global};
-use swreq_derive::Requirement;
 use swreq_map::vanishes;
-use swreq_param::{ParamTable, ProtoId, TermId};
-use swreq_symbols::{Over, Reading, Text, least_word};
-use swreq_word::Symbol;
-use swreq_world::World;
+use swreq_valid::derive::Requirement;
+use swreq_valid::param::{ParamTable, ProtoId, TermId};
+use swreq_valid::symbols::{Over, Reading, Text, least_word};
+use swreq_valid::word::Symbol;
+use swreq_valid::world::World;
 
 impl Machine<'_> {
     /// Whether the rules show that a type is valid. Where they do, `word` becomes its least word. Both lists of symbols keep their room.

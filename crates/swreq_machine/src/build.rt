@@ -1,29 +1,23 @@
 //! The machine of a written list, where all that is written is a type parameter.
 ghost use Rattle.std.specs.Prelude.{◌≡◌, IfOk, List};
-ghost use Rattle.swreq_derive.specs.Derivation.{TermRequirement};
-ghost use Rattle.swreq_derive.specs.Derivation.Source.{Written as WrittenList};
-ghost use Rattle.swreq_derive.specs.Facts.{generic_params};
-ghost use Rattle.swreq_complete.specs.Limits.{AreInRange};
-ghost use Rattle.swreq_symbols.specs.Known.{IsTextOver};
-ghost use Rattle.swreq_symbols.specs.Meaning.{facts_of};
-ghost use Rattle.swreq_world.specs.ByTable.{world_by};
-ghost use Rattle.swreq_lowering.specs.ByTable.{placed};
-ghost use Rattle.swreq_valid.specs.Built.{Builds, IsOnlyBuilt, Judges};
+ghost use Rattle.swreq_valid.specs.swreq_derive.{Derivation.{TermRequirement}, Derivation.Source.{Written as WrittenList}, Facts.{generic_params}};
+ghost use Rattle.swreq_map.specs.swreq_complete.Limits.{AreInRange};
+ghost use Rattle.swreq_valid.specs.swreq_symbols.{Known.{IsTextOver}, Meaning.{facts_of}};
+ghost use Rattle.swreq_valid.specs.swreq_world.ByTable.{world_by};
+ghost use Rattle.swreq_valid.specs.swreq_lowering.ByTable.{placed};
+ghost use Rattle.swreq_valid.specs.{Built.{Builds, IsOnlyBuilt, Judges}, Protocols.{AreRulesOf}, Plans.{AreWritten, bare, listed}, Rounds.{AreRounds, last_rules}, Sides.{IsShownIn, list_sides, sides}};
 ghost use Rattle.swreq_machine.specs.Machines.{IsMachineOf, built_rules, machine_plan};
-ghost use Rattle.swreq_valid.specs.Protocols.{AreRulesOf};
-ghost use Rattle.swreq_valid.specs.Plans.{AreWritten, bare, listed};
-ghost use Rattle.swreq_valid.specs.Rounds.{AreRounds, last_rules};
-ghost use Rattle.swreq_valid.specs.Sides.{IsShownIn, list_sides, sides};
 
 use crate::machine::{Machine, core};
 use std::alloc::{AllocError, Global};
-use swreq_complete::Limits;
-use swreq_derive::{Params, Requirement};
-use swreq_param::ParamTable;
-use swreq_symbols::Over;
+use swreq_valid::complete::Limits;
+use swreq_valid::derive::{Params, Requirement};
+use swreq_valid::lowering::Written;
+use swreq_valid::param::ParamTable;
+use swreq_valid::symbols::Over;
+use swreq_valid::watch::Watch;
+use swreq_valid::world::World;
 use swreq_valid::{Protocols, Refused, first_invalid};
-use swreq_watch::Watch;
-use swreq_world::{World, Written};
 
 /// The requirements without the places of their sides.
 fn bare(alloc: Global, written: &[Written]) -> Result<Vec<Requirement>, AllocError>

@@ -1,23 +1,19 @@
 //! What the property map of the rules of a machine answers of a type parameter, without memory.
 ghost use Rattle.std.specs.Prelude.{◌≡◌, ◌↔◌, ◌+◌, ◌*◌, ◌≤◌, IsTrue, List, MatchOption};
-ghost use Rattle.swreq_param.specs.Tables.{term_at};
-ghost use Rattle.swreq_param.specs.Terms.{member_count};
-ghost use Rattle.swreq_derive.specs.Derivation.{TermRequirement};
-ghost use Rattle.swreq_map.specs.Follows.{IsMapOf};
-ghost use Rattle.swreq_map.specs.Properties.{IsProperty};
-ghost use Rattle.swreq_symbols.specs.Known.{IsTextOver, IsTypeIn};
-ghost use Rattle.swreq_world.specs.ByTable.{world_by};
-ghost use Rattle.swreq_machine.specs.Asked.{IsBehind, IsDerivable, IsShownBy};
-ghost use Rattle.swreq_machine.specs.Having.{IsBelow, TellsIfHas, symbol_of};
-ghost use Rattle.swreq_machine.specs.Machines.{IsMachineOf};
+ghost use Rattle.swreq_valid.specs.swreq_param.{Tables.{term_at}, Terms.{member_count}};
+ghost use Rattle.swreq_valid.specs.swreq_derive.Derivation.{TermRequirement};
+ghost use Rattle.swreq_map.specs.{Follows.{IsMapOf}, Properties.{IsProperty}};
+ghost use Rattle.swreq_valid.specs.swreq_symbols.Known.{IsTextOver, IsTypeIn};
+ghost use Rattle.swreq_valid.specs.swreq_world.ByTable.{world_by};
+ghost use Rattle.swreq_machine.specs.{Asked.{IsBehind, IsDerivable, IsShownBy}, Having.{IsBelow, TellsIfHas, symbol_of}, Machines.{IsMachineOf}};
 ghost use Rattle.swreq_valid.specs.Rounds.{last_rules};
 
 use crate::machine::Machine;
 use crate::scratch::Scratch;
 use swreq_map::PropertyMap;
-use swreq_param::{ProtoId, TermId};
-use swreq_symbols::Text;
-use swreq_word::Symbol;
+use swreq_valid::param::{ProtoId, TermId};
+use swreq_valid::symbols::Text;
+use swreq_valid::word::Symbol;
 
 /// A property of a type parameter.
 #[derive(Clone, Copy)]

@@ -1,23 +1,20 @@
 //! Machines of lists.
 ghost use Rattle.std.specs.Prelude.{◌≡◌, map, IfOk};
-ghost use Rattle.swreq_complete.specs.Limits.{AreInRange};
-ghost use Rattle.swreq_symbols.specs.Known.{IsTextOver};
-ghost use Rattle.swreq_world.specs.ByTable.{world_by};
-ghost use Rattle.swreq_valid.specs.Answers.{Answers, IsOnlyOutcome};
-ghost use Rattle.swreq_valid.specs.Protocols.{AreRulesOf};
+ghost use Rattle.swreq_map.specs.swreq_complete.Limits.{AreInRange};
+ghost use Rattle.swreq_valid.specs.swreq_symbols.Known.{IsTextOver};
+ghost use Rattle.swreq_valid.specs.swreq_world.ByTable.{world_by};
+ghost use Rattle.swreq_valid.specs.{Answers.{Answers, IsOnlyOutcome}, Protocols.{AreRulesOf}, Plans.{AreKnown, in_signature, listed}, Rounds.{AreRounds, last_rules}};
 ghost use Rattle.swreq_machine.specs.Machines.{IsMachineOf, machine_plan, machine_rules};
-ghost use Rattle.swreq_valid.specs.Plans.{AreKnown, in_signature, listed};
-ghost use Rattle.swreq_valid.specs.Rounds.{AreRounds, last_rules};
 
 use std::alloc::{AllocError, Global};
 use std::marker::Model;
-use swreq_complete::{CompleteRules, Failed, Limits};
-use swreq_derive::{Params, Requirement};
-use swreq_param::ParamTable;
-use swreq_symbols::Over;
+use swreq_valid::complete::{CompleteRules, Failed, Limits};
+use swreq_valid::derive::{Params, Requirement};
+use swreq_valid::param::ParamTable;
+use swreq_valid::symbols::Over;
+use swreq_valid::watch::Watch;
+use swreq_valid::world::World;
 use swreq_valid::{Protocols, RoundRequirement, RoundStart, Rounds, run_rounds};
-use swreq_watch::Watch;
-use swreq_world::World;
 
 /// The machine of a list: its generic parameters, and the rounds that found its rules. It borrows the rules of the protocols.
 #[derive(Drop)]

@@ -1,23 +1,18 @@
 //! The machine of a signature.
 ghost use Rattle.std.specs.Prelude.{◌≡◌, ◌<◌, IfOk, length};
-ghost use Rattle.swreq_complete.specs.Limits.{AreInRange};
-ghost use Rattle.swreq_symbols.specs.Meaning.{facts_of};
-ghost use Rattle.swreq_symbols.specs.Texts.{BelongTogether, world_of};
-ghost use Rattle.swreq_world.specs.FactsAt.{written_list};
-ghost use Rattle.swreq_world.specs.Worlds.{signature_at};
-ghost use Rattle.swreq_valid.specs.Built.{Builds, IsOnlyBuilt};
-ghost use Rattle.swreq_machine.specs.Machines.{IsMachineOf, built_rules};
-ghost use Rattle.swreq_valid.specs.Protocols.{AreRulesOf};
-ghost use Rattle.swreq_machine.specs.OfSignatures.{signature_plan, signature_sides};
-ghost use Rattle.swreq_valid.specs.Rounds.{AreRounds, last_rules};
+ghost use Rattle.swreq_map.specs.swreq_complete.Limits.{AreInRange};
+ghost use Rattle.swreq_valid.specs.swreq_symbols.{Meaning.{facts_of}, Texts.{BelongTogether, world_of}};
+ghost use Rattle.swreq_valid.specs.swreq_world.{FactsAt.{written_list}, Worlds.{signature_at}};
+ghost use Rattle.swreq_valid.specs.{Built.{Builds, IsOnlyBuilt}, Protocols.{AreRulesOf}, Rounds.{AreRounds, last_rules}};
+ghost use Rattle.swreq_machine.specs.{Machines.{IsMachineOf, built_rules}, OfSignatures.{signature_plan, signature_sides}};
 
 use crate::machine::Machine;
 use std::alloc::Global;
-use swreq_complete::Limits;
-use swreq_symbols::Text;
+use swreq_valid::complete::Limits;
+use swreq_valid::lowering::FuncId;
+use swreq_valid::symbols::Text;
+use swreq_valid::watch::Watch;
 use swreq_valid::{Protocols, Refused};
-use swreq_watch::Watch;
-use swreq_world::FuncId;
 
 impl<'b> Machine<'b> {
     /// The machine of a signature of a text, over the rules of its protocols.

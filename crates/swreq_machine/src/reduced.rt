@@ -1,31 +1,20 @@
 //! The reduced type of a type parameter, without memory.
 ghost use Rattle.std.specs.Prelude.{◌≡◌, ◌↔◌, ◌+◌, ◌*◌, ◌≤◌, ◌<◌, ◌++◌, ◌∷◌, [], ℕ, IsTrue, List, length, vec_capacity, vec_len, MatchOption};
-ghost use Rattle.swreq_param.specs.declared.ids.AssocId.{AssocId};
-ghost use Rattle.swreq_param.specs.declared.ids.Step.TheVariants.{Bound};
-ghost use Rattle.swreq_param.specs.Tables.{term_at};
-ghost use Rattle.swreq_param.specs.Terms.{Term, head, member_count, with_steps};
-ghost use Rattle.swreq_param.specs.Terms.Term.{Generic};
-ghost use Rattle.swreq_derive.specs.Derivation.{TermRequirement};
-ghost use Rattle.swreq_derive.specs.Derivation.TermStatement.{IsValid};
-ghost use Rattle.swreq_word.specs.declared.symbols.Symbol.{Symbol};
-ghost use Rattle.swreq_word.specs.declared.symbols.Symbol.TheVariants.{Member as MemberSymbol, Param};
-ghost use Rattle.swreq_correspondence.specs.Symbols.{IsRank, name_of};
-ghost use Rattle.swreq_world.specs.ByTable.{world_by};
-ghost use Rattle.swreq_symbols.specs.Known.{IsTextOver, IsTypeIn};
-ghost use Rattle.swreq_symbols.specs.Meaning.{symbols_of};
-ghost use Rattle.swreq_symbols.specs.Texts.{BelongTogether, world_of};
-ghost use Rattle.swreq_symbols.specs.Vanishing.{IsFirstBehind, IsLeastBy};
-ghost use Rattle.swreq_machine.specs.Asked.{IsDerivable, IsLeastOf, IsReducedIn};
-ghost use Rattle.swreq_machine.specs.LeastTypes.{BeginsBy};
-ghost use Rattle.swreq_machine.specs.Machines.{IsMachineOf};
+ghost use Rattle.swreq_valid.specs.swreq_param.{declared.ids.AssocId.{AssocId}, declared.ids.Step.TheVariants.{Bound}, Tables.{term_at}, Terms.{Term, head, member_count, with_steps}, Terms.Term.{Generic}};
+ghost use Rattle.swreq_valid.specs.swreq_derive.{Derivation.{TermRequirement}, Derivation.TermStatement.{IsValid}};
+ghost use Rattle.swreq_map.specs.swreq_word.{declared.symbols.Symbol.{Symbol}, declared.symbols.Symbol.TheVariants.{Member as MemberSymbol, Param}};
+ghost use Rattle.swreq_valid.specs.swreq_correspondence.Symbols.{IsRank, name_of};
+ghost use Rattle.swreq_valid.specs.swreq_world.ByTable.{world_by};
+ghost use Rattle.swreq_valid.specs.swreq_symbols.{Known.{IsTextOver, IsTypeIn}, Meaning.{symbols_of}, Texts.{BelongTogether, world_of}, Vanishing.{IsFirstBehind, IsLeastBy}};
+ghost use Rattle.swreq_machine.specs.{Asked.{IsDerivable, IsLeastOf, IsReducedIn}, LeastTypes.{BeginsBy}, Machines.{IsMachineOf}};
 
 use crate::machine::Machine;
 use crate::scratch::Scratch;
-use swreq_complete::CompleteRules;
-use swreq_param::{NameId, ParamId, ParamTable, Step, TermId};
-use swreq_symbols::{Text, first_behind, name_at};
-use swreq_word::Symbol;
-use swreq_world::World;
+use swreq_valid::complete::CompleteRules;
+use swreq_valid::param::{NameId, ParamId, ParamTable, Step, TermId};
+use swreq_valid::symbols::{Text, first_behind, name_at};
+use swreq_valid::word::Symbol;
+use swreq_valid::world::World;
 
 /// The name of a member symbol, or None where the symbol is not one.
 fn member_name(world: &World, symbol: Symbol) -> Option<NameId>

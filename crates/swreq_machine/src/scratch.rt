@@ -1,12 +1,11 @@
 //! Room for the answers of machines.
 ghost use Rattle.std.specs.Prelude.{◌≡◌, ◌+◌, ◌*◌, ◌≤◌, IfOk};
-ghost use Rattle.swreq_param.specs.Tables.{IsOf, term_at};
-ghost use Rattle.swreq_param.specs.Terms.{member_count};
+ghost use Rattle.swreq_valid.specs.swreq_param.{Tables.{IsOf, term_at}, Terms.{member_count}};
 
 use std::alloc::{AllocError, Global};
 use std::marker::Model;
-use swreq_param::{ParamId, ParamTable, Step, TermId};
-use swreq_word::Symbol;
+use swreq_valid::param::{ParamId, ParamTable, Step, TermId};
+use swreq_valid::word::Symbol;
 
 /// Room for the words of the answers of machines, which take no memory, and the reduced type that the last of them left.
 #[derive(Drop)]

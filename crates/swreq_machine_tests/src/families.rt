@@ -1,21 +1,20 @@
 //! The limits that requirement signatures have of their own.
 ghost use Rattle.std.specs.Prelude.{OnOk};
-ghost use Rattle.swreq_complete.specs.Limits.{AreInRange};
-ghost use Rattle.swreq_derive.specs.WellFormed.{AreProtocolsWellFormed};
-ghost use Rattle.swreq_symbols.specs.Known.{IsTextOver};
-ghost use Rattle.swreq_symbols.specs.Meaning.{facts_of};
-ghost use Rattle.swreq_world.specs.ByTable.{world_by};
+ghost use Rattle.swreq_machine.specs.swreq_complete.Limits.{AreInRange};
+ghost use Rattle.swreq_machine.specs.swreq_derive.WellFormed.{AreProtocolsWellFormed};
+ghost use Rattle.swreq_machine.specs.swreq_symbols.{Known.{IsTextOver}, Meaning.{facts_of}};
+ghost use Rattle.swreq_machine.specs.swreq_world.ByTable.{world_by};
 
 use crate::worlds::{LIMITS, limits_of, world_of};
 use std::alloc::{AllocError, Global};
 use std::test::Fail;
-use swreq_complete::{Failed, Limits};
-use swreq_param::ParamTable;
+use swreq_machine::complete::{Failed, Limits};
+use swreq_machine::param::ParamTable;
+use swreq_machine::valid::Protocols;
+use swreq_machine::watch::Quiet;
+use swreq_machine::world::World;
 use swreq_reqsig::laws::valid_sides_are_well_formed;
 use swreq_reqsig::{family_text, kept_family};
-use swreq_valid::Protocols;
-use swreq_watch::Quiet;
-use swreq_world::World;
 
 /// That the protocols of a world are well formed.
 fn are_well_formed(alloc: Global, world: &World, table: &ParamTable) -> Result<(), Fail>

@@ -1,23 +1,23 @@
 //! What minimising a signature takes.
 ghost use Rattle.std.specs.Prelude.{◌<◌, length};
-ghost use Rattle.swreq_complete.specs.Limits.{AreInRange};
-ghost use Rattle.swreq_symbols.specs.Known.{IsTextOver};
-ghost use Rattle.swreq_world.specs.ByTable.{world_by};
-ghost use Rattle.swreq_valid.specs.Protocols.{AreRulesOf};
-ghost use Rattle.swreq_valid.specs.Rounds.{last_rules};
+ghost use Rattle.swreq_machine.specs.swreq_complete.Limits.{AreInRange};
+ghost use Rattle.swreq_machine.specs.swreq_symbols.Known.{IsTextOver};
+ghost use Rattle.swreq_machine.specs.swreq_world.ByTable.{world_by};
+ghost use Rattle.swreq_machine.specs.swreq_valid.{Protocols.{AreRulesOf}, Rounds.{last_rules}};
 
 use crate::worlds::{LIMITS, limits_of, world_of};
 use std::alloc::Global;
 use std::test::Fail;
-use swreq_complete::{Failed, Limits};
-use swreq_derive::Requirement;
 use swreq_machine::Machine;
+use swreq_machine::complete::{Failed, Limits};
+use swreq_machine::derive::Requirement;
+use swreq_machine::lowering::FuncId;
+use swreq_machine::param::ParamTable;
+use swreq_machine::symbols::Text;
+use swreq_machine::valid::Protocols;
+use swreq_machine::watch::{Quiet, Recorder};
+use swreq_machine::world::World;
 use swreq_minimal::minimise;
-use swreq_param::ParamTable;
-use swreq_symbols::Text;
-use swreq_valid::Protocols;
-use swreq_watch::{Quiet, Recorder};
-use swreq_world::{FuncId, World};
 
 /// How many requirements minimising keeps, or None where it passes a limit.
 fn count_of(kept: Result<Vec<Requirement>, Failed>) -> Result<Option<usize>, Fail> {

@@ -1,14 +1,14 @@
 //! The worlds of texts, and the limits of completions.
 ghost use Rattle.std.specs.Prelude.{IfOk};
-ghost use Rattle.swreq_complete.specs.Limits.{AreInRange};
-ghost use Rattle.swreq_symbols.specs.Known.{IsTextOver};
+ghost use Rattle.swreq_machine.specs.swreq_complete.Limits.{AreInRange};
+ghost use Rattle.swreq_machine.specs.swreq_symbols.Known.{IsTextOver};
 
 use std::alloc::Global;
 use std::test::Fail;
-use swreq_complete::Limits;
-use swreq_param::ParamTable;
+use swreq_machine::complete::Limits;
+use swreq_machine::param::ParamTable;
+use swreq_machine::world::World;
 use swreq_samples::skeleton_of;
-use swreq_world::World;
 
 /// The limits of machines.
 pub(crate) const LIMITS: Limits = Limits {

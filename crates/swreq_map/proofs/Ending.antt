@@ -3,22 +3,22 @@ use Rattle.std.proofs.Common.{◌≡◌, inl, inr, ℕ, suc, ◌-◌, ◌≤◌,
 use Rattle.std.specs.List.{slice_get}
 use Rattle.std.specs.Bool.{Decides}
 use Rattle.std.proofs.lemmas.List.{nil_from_length}
-use Rattle.swreq_word.specs.declared.symbols.Symbol.{Symbol}
-use Rattle.swreq_word.specs.Relations.{Linked, IsIrreducible}
-use Rattle.swreq_word.proofs.Chains.{linked_on, linked_back}
-use Rattle.swreq_word.proofs.LeastWords.{one_least}
-use Rattle.swreq_word.proofs.Cuts.{cut, cut_rest}
-use Rattle.swreq_word.proofs.Cuts.Cut.{left, right}
-use Rattle.swreq_rule.specs.declared.rules.Rule.{Rule}
-use Rattle.swreq_rule.specs.Reduction.{NoneEarlier}
-use Rattle.swreq_rule.specs.Search.{NoneLonger}
-use Rattle.swreq_rule.specs.Steps.{Step}
-use Rattle.swreq_rule.proofs.Search.{reduction_step, a_step}
-use Rattle.swreq_pair.proofs.CriticalPairs.{locally}
+use Rattle.swreq_complete.specs.swreq_word.declared.symbols.Symbol.{Symbol}
+use Rattle.swreq_complete.specs.swreq_word.Relations.{Linked, IsIrreducible}
+use Rattle.swreq_complete.proofs.swreq_word.Chains.{linked_on, linked_back}
+use Rattle.swreq_complete.proofs.swreq_word.LeastWords.{one_least}
+use Rattle.swreq_complete.proofs.swreq_word.Cuts.{cut, cut_rest}
+use Rattle.swreq_complete.proofs.swreq_word.Cuts.Cut.{left, right}
+use Rattle.swreq_complete.specs.swreq_rule.declared.rules.Rule.{Rule}
+use Rattle.swreq_complete.specs.swreq_rule.Reduction.{NoneEarlier}
+use Rattle.swreq_complete.specs.swreq_rule.Search.{NoneLonger}
+use Rattle.swreq_complete.specs.swreq_rule.Steps.{Step}
+use Rattle.swreq_complete.proofs.swreq_rule.Search.{reduction_step, a_step}
+use Rattle.swreq_complete.proofs.swreq_pair.CriticalPairs.{locally}
 use Rattle.swreq_complete.specs.Complete.{IsComplete}
-use Rattle.swreq_word.specs.Least.{IsLeast}
+use Rattle.swreq_complete.specs.swreq_word.Least.{IsLeast}
 use Rattle.swreq_complete.proofs.ReducedSystem.{irreducible_least, least_irreducible}
-use Rattle.swreq_word.proofs.Comparing.{greater_some}
+use Rattle.swreq_complete.proofs.swreq_word.Comparing.{greater_some}
 use Rattle.swreq_map.specs.Properties.{Vanishes}
 
 module _ (rules : List Rule) where

@@ -5,16 +5,16 @@ use Rattle.std.specs.List.Sorted.{IsPermutation}
 use Rattle.std.proofs.lemmas.List.Elements.{Contains-append_left, Contains-append_right, Contains-append_cases}
 use Rattle.std.proofs.lemmas.List.Kept.{Contains-dedup_nat, Contains-from_dedup}
 use Rattle.std.proofs.lemmas.List.Sorted.{Contains-permutation, IsPermutation-sym}
-use Rattle.swreq_word.specs.declared.symbols.Symbol.{Symbol}
-use Rattle.swreq_word.specs.declared.symbols.Symbol.TheVariants.{Proto}
-use Rattle.swreq_word.specs.Least.{IsLeast}
-use Rattle.swreq_word.specs.Relations.{Linked}
-use Rattle.swreq_word.proofs.SameSymbols.{same_protocols}
-use Rattle.swreq_lemmas.proofs.Elements.{get_contains, take_one}
-use Rattle.swreq_lemmas.proofs.Members.{only_member}
-use Rattle.swreq_rule.specs.declared.rules.Rule.{Rule}
-use Rattle.swreq_rule.specs.Search.{NoneLonger}
-use Rattle.swreq_rule.specs.Steps.{Step}
+use Rattle.swreq_complete.specs.swreq_word.declared.symbols.Symbol.{Symbol}
+use Rattle.swreq_complete.specs.swreq_word.declared.symbols.Symbol.TheVariants.{Proto}
+use Rattle.swreq_complete.specs.swreq_word.Least.{IsLeast}
+use Rattle.swreq_complete.specs.swreq_word.Relations.{Linked}
+use Rattle.swreq_complete.proofs.swreq_word.SameSymbols.{same_protocols}
+use Rattle.swreq_complete.proofs.swreq_lemmas.Elements.{get_contains, take_one}
+use Rattle.swreq_complete.proofs.swreq_lemmas.Members.{only_member}
+use Rattle.swreq_complete.specs.swreq_rule.declared.rules.Rule.{Rule}
+use Rattle.swreq_complete.specs.swreq_rule.Search.{NoneLonger}
+use Rattle.swreq_complete.specs.swreq_rule.Steps.{Step}
 use Rattle.swreq_complete.specs.Complete.{IsComplete}
 use Rattle.swreq_map.specs.Follows.{AreConforming, IsKept, IsMapOf, MapView}
 use Rattle.swreq_map.specs.Properties.{IsProperty, Vanishes}

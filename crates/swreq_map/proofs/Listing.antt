@@ -5,10 +5,10 @@ use Rattle.std.specs.declared.alloc.Global.{Global}
 use Rattle.std.proofs.Math.ListN.{set}
 use Rattle.std.proofs.Math.Seq.{take-append_seam}
 use Rattle.std.proofs.lemmas.Option.{slice_get_within, get_or_from_slice_get}
-use Rattle.swreq_word.specs.declared.symbols.Symbol.{Symbol}
-use Rattle.swreq_word.specs.declared.table.WordId.{WordId}
-use Rattle.swreq_word.specs.Interned.{StandsFor, AreDistinct, Interned}
-use Rattle.swreq_lemmas.proofs.Elements.{get_left, get_last, set_here, set_kept}
+use Rattle.swreq_complete.specs.swreq_word.declared.symbols.Symbol.{Symbol}
+use Rattle.swreq_complete.specs.swreq_word.declared.table.WordId.{WordId}
+use Rattle.swreq_complete.specs.swreq_word.Interned.{StandsFor, AreDistinct, Interned}
+use Rattle.swreq_complete.proofs.swreq_lemmas.Elements.{get_left, get_last, set_here, set_kept}
 use Rattle.swreq_map.specs.Follows.{IsListed, KeepsListed, Follows}
 
 pub keeps_more : (old lists new : List (Vec Symbol Global)) (list : Vec Symbol Global) → KeepsListed old lists

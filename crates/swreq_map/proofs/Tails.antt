@@ -2,14 +2,14 @@
 use Rattle.std.proofs.Common.{◌≡◌, ℕ, suc, ◌+◌, ◌-◌, ◌≤◌, List, [], ◌∷◌, ◌++◌, append_assoc, append-nil, length, length-append, length-drop, take, drop, drop-drop, take-append-drop, true, false, refl, sym, ◌∙◌, ap, subst, arith}
 use Rattle.std.specs.Bool.{Decides}
 use Rattle.std.proofs.lemmas.Bool.{false≢true}
-use Rattle.swreq_word.specs.declared.symbols.Symbol.{Symbol}
-use Rattle.swreq_word.specs.Least.{IsLeast}
-use Rattle.swreq_word.specs.Relations.{Linked, IsIrreducible}
-use Rattle.swreq_rule.specs.declared.rules.Rule.{Rule}
-use Rattle.swreq_rule.specs.Search.{NoneLonger}
-use Rattle.swreq_rule.specs.Steps.{Step}
-use Rattle.swreq_rule.proofs.Context.{Linked-before, Step-before}
-use Rattle.swreq_pair.proofs.CriticalPairs.{locally}
+use Rattle.swreq_complete.specs.swreq_word.declared.symbols.Symbol.{Symbol}
+use Rattle.swreq_complete.specs.swreq_word.Least.{IsLeast}
+use Rattle.swreq_complete.specs.swreq_word.Relations.{Linked, IsIrreducible}
+use Rattle.swreq_complete.specs.swreq_rule.declared.rules.Rule.{Rule}
+use Rattle.swreq_complete.specs.swreq_rule.Search.{NoneLonger}
+use Rattle.swreq_complete.specs.swreq_rule.Steps.{Step}
+use Rattle.swreq_complete.proofs.swreq_rule.Context.{Linked-before, Step-before}
+use Rattle.swreq_complete.proofs.swreq_pair.CriticalPairs.{locally}
 use Rattle.swreq_complete.specs.Complete.{IsComplete}
 use Rattle.swreq_complete.proofs.ReducedSystem.{irreducible_least, least_irreducible}
 use Rattle.swreq_map.specs.Properties.{Vanishes}

@@ -1,11 +1,11 @@
 -- What a map keeps with words: the properties that end left sides after them.
 use Rattle.std.specs.Prelude.{◌≡◌, ◌↔◌, ◌⊎◌, ℕ, ◌<◌, List, [], ◌∷◌, ◌++◌, Option, Some, None, Vec, Contains, slice_get}
 use Rattle.std.specs.declared.alloc.Global.{Global}
-use Rattle.swreq_word.specs.declared.symbols.Symbol.{Symbol}
-use Rattle.swreq_word.specs.declared.symbols.Symbol.TheVariants.{Proto}
-use Rattle.swreq_word.specs.declared.table.WordId.{WordId}
-use Rattle.swreq_word.specs.Interned.{StandsFor}
-use Rattle.swreq_rule.specs.declared.rules.Rule.{Rule}
+use Rattle.swreq_complete.specs.swreq_word.declared.symbols.Symbol.{Symbol}
+use Rattle.swreq_complete.specs.swreq_word.declared.symbols.Symbol.TheVariants.{Proto}
+use Rattle.swreq_complete.specs.swreq_word.declared.table.WordId.{WordId}
+use Rattle.swreq_complete.specs.swreq_word.Interned.{StandsFor}
+use Rattle.swreq_complete.specs.swreq_rule.declared.rules.Rule.{Rule}
 use Rattle.swreq_map.specs.Properties.{IsProperty, Vanishes}
 
 -- words, and for each of them a list of symbols

@@ -1,11 +1,10 @@
 // A symbol put after a least word. A left side can then stand only near the end of the word.
 ghost use Rattle.std.specs.Prelude.{◌≡◌, ◌+◌, ◌≤◌, [], ◌∷◌, ◌++◌, vec_capacity, vec_len};
-ghost use Rattle.swreq_word.specs.Least.{IsLeast};
-ghost use Rattle.swreq_word.specs.Relations.{Linked};
-ghost use Rattle.swreq_rule.specs.Steps.{Step};
+ghost use Rattle.swreq_complete.specs.swreq_word.{Least.{IsLeast}, Relations.{Linked}};
+ghost use Rattle.swreq_complete.specs.swreq_rule.Steps.{Step};
 
 use swreq_complete::CompleteRules;
-use swreq_word::Symbol;
+use swreq_complete::word::Symbol;
 
 /// Puts a symbol last, where there is room for it.
 pub(crate) fn put(word: &mut Vec<Symbol>, x: Symbol)

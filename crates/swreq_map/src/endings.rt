@@ -1,14 +1,13 @@
 // What rules keep with the endings of words.
 ghost use Rattle.std.specs.Prelude.{◌≡◌, ◌<◌, ◌≤◌, List, ◌∷◌, ◌++◌, [], Contains, drop, IfOk, OnOk, true};
-ghost use Rattle.swreq_word.specs.declared.symbols.Symbol.{Symbol};
-ghost use Rattle.swreq_map.specs.Follows.{AreEndingsOf, Follows};
-ghost use Rattle.swreq_map.specs.Properties.{IsProperty};
+ghost use Rattle.swreq_complete.specs.swreq_word.declared.symbols.Symbol.{Symbol};
+ghost use Rattle.swreq_map.specs.{Follows.{AreEndingsOf, Follows}, Properties.{IsProperty}};
 
 use crate::followers::{add_end, followers};
 use std::alloc::{AllocError, Global};
 use std::marker::Model;
 use swreq_complete::CompleteRules;
-use swreq_word::{Symbol, WordTable};
+use swreq_complete::word::{Symbol, WordTable};
 
 /// Words, and with each of them the properties that end a left side after it.
 #[derive(Drop)]
@@ -18,7 +17,7 @@ pub struct Endings {
 }
 
 impl Model for Endings {
-    ghost use Rattle.swreq_word.specs.Interned.{AreDistinct};
+    ghost use Rattle.swreq_complete.specs.swreq_word.Interned.{AreDistinct};
     ghost use Rattle.swreq_map.specs.Follows.{EndingsView};
 
     ghost Value = { EndingsView };

@@ -1,13 +1,11 @@
 // The properties that are kept with words.
 ghost use Rattle.std.specs.Prelude.{◌≡◌, ◌<◌, List, [], ◌∷◌, ◌++◌, Contains, length, OnOk};
-ghost use Rattle.swreq_word.specs.declared.symbols.Symbol.{Symbol};
-ghost use Rattle.swreq_word.specs.Interned.{AreDistinct};
-ghost use Rattle.swreq_map.specs.Follows.{Follows, IsListed, KeepsListed};
-ghost use Rattle.swreq_map.specs.Properties.{IsProperty};
+ghost use Rattle.swreq_complete.specs.swreq_word.{declared.symbols.Symbol.{Symbol}, Interned.{AreDistinct}};
+ghost use Rattle.swreq_map.specs.{Follows.{Follows, IsListed, KeepsListed}, Properties.{IsProperty}};
 
 use crate::vanishing::is_property;
 use std::alloc::{AllocError, Global};
-use swreq_word::{Symbol, WordTable};
+use swreq_complete::word::{Symbol, WordTable};
 
 /// Makes room for a list at a place.
 fn make_room(alloc: Global, lists: &mut Vec<Vec<Symbol>>, place: usize) -> Result<(), AllocError>

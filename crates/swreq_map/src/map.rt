@@ -1,21 +1,16 @@
 // The map from the endings of words to the properties that rules give them.
-ghost use Rattle.std.specs.Prelude.{◌≡◌, ℕ, ◌+◌, ◌<◌, ◌≤◌, true, Contains, drop, length, take, slice_get, Some, IfOk, OnOk, MatchOption, vec_capacity};
-ghost use Rattle.std.specs.Bool.{Decides};
-ghost use Rattle.swreq_word.specs.declared.symbols.Symbol.{Symbol};
-ghost use Rattle.swreq_word.specs.declared.symbols.Symbol.TheVariants.{Proto};
-ghost use Rattle.swreq_word.specs.Least.{IsLeast};
-ghost use Rattle.swreq_word.specs.Relations.{Linked};
-ghost use Rattle.swreq_rule.specs.Steps.{Step};
-ghost use Rattle.swreq_map.specs.Follows.{AreConforming, AreEndingsOf, FollowsBelow, IsKept, IsMapOf};
-ghost use Rattle.swreq_map.specs.Properties.{ArePropertiesOf, IsProperty, Vanishes};
+ghost use Rattle.std.specs.{Prelude.{◌≡◌, ℕ, ◌+◌, ◌<◌, ◌≤◌, true, Contains, drop, length, take, slice_get, Some, IfOk, OnOk, MatchOption, vec_capacity}, Bool.{Decides}};
+ghost use Rattle.swreq_complete.specs.swreq_word.{declared.symbols.Symbol.{Symbol}, declared.symbols.Symbol.TheVariants.{Proto}, Least.{IsLeast}, Relations.{Linked}};
+ghost use Rattle.swreq_complete.specs.swreq_rule.Steps.{Step};
+ghost use Rattle.swreq_map.specs.{Follows.{AreConforming, AreEndingsOf, FollowsBelow, IsKept, IsMapOf}, Properties.{ArePropertiesOf, IsProperty, Vanishes}};
 
 use crate::endings::Endings;
 use crate::vanishing::vanishes;
 use std::alloc::{AllocError, Global};
 use std::marker::Model;
 use swreq_complete::CompleteRules;
+use swreq_complete::word::Symbol;
 use swreq_text::Seq;
-use swreq_word::Symbol;
 
 /// The protocols to which a word conforms, ascending, and whether it has the layout.
 #[derive(Debug, Drop)]

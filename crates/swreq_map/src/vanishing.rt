@@ -1,15 +1,12 @@
 // Whether a symbol vanishes after a word.
-ghost use Rattle.std.specs.Prelude.{◌≡◌, ◌+◌, ◌-◌, ◌≤◌, [], ◌∷◌, ◌++◌, length, vec_capacity, vec_len, IfSome};
-ghost use Rattle.std.specs.Bool.{Decides};
-ghost use Rattle.swreq_word.specs.Least.{IsLeast};
-ghost use Rattle.swreq_word.specs.Relations.{Linked};
-ghost use Rattle.swreq_rule.specs.Search.{NoneLonger};
-ghost use Rattle.swreq_rule.specs.Steps.{Step};
+ghost use Rattle.std.specs.{Prelude.{◌≡◌, ◌+◌, ◌-◌, ◌≤◌, [], ◌∷◌, ◌++◌, length, vec_capacity, vec_len, IfSome}, Bool.{Decides}};
+ghost use Rattle.swreq_complete.specs.swreq_word.{Least.{IsLeast}, Relations.{Linked}};
+ghost use Rattle.swreq_complete.specs.swreq_rule.{Search.{NoneLonger}, Steps.{Step}};
 ghost use Rattle.swreq_map.specs.Properties.{IsProperty, Vanishes};
 
 use crate::appending::append;
 use swreq_complete::CompleteRules;
-use swreq_word::{Symbol, are_same};
+use swreq_complete::word::{Symbol, are_same};
 
 /// Writes the word, where there is room for it.
 fn write(room: &mut Vec<Symbol>, u: &[Symbol])

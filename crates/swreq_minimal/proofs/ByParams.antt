@@ -2,19 +2,19 @@
 use Rattle.std.proofs.Common.{◌≡◌, ◌∙◌, inl, inr, sym, ap, subst, ◌+◌, arith, ℕ, List, [], ◌∷◌, ◌++◌, length, slice_get, Some}
 use Rattle.std.proofs.lemmas.Bool.{cases_eq}
 use Rattle.std.proofs.lemmas.Option.{same_Some, slice_get_within}
-use Rattle.swreq_lemmas.proofs.Elements.{get_cases, get_last, get_left}
-use Rattle.swreq_param.specs.declared.ids.Step.TheVariants.{Bound, Name}
-use Rattle.swreq_param.specs.Terms.{Term}
-use Rattle.swreq_param.specs.Terms.Term.{Generic, Member}
-use Rattle.swreq_derive.specs.Derivation.{Source, TermFacts, TermRequirement}
-use Rattle.swreq_derive.specs.Derivation.TermRequirement.{Conforms, Equals, IsAnyObject}
-use Rattle.swreq_word.specs.declared.symbols.Symbol.{Symbol}
-use Rattle.swreq_word.specs.declared.symbols.Symbol.TheVariants.{Layout, Member as MemberSymbol, Name as NameSymbol, Param, Proto}
-use Rattle.swreq_word.specs.Least.{IsMinimal}
-use Rattle.swreq_rule.specs.declared.rules.Rule.{Rule}
-use Rattle.swreq_complete.specs.Reduced.{IsReduced}
-use Rattle.swreq_correspondence.specs.Symbols.{Symbols, Word}
-use Rattle.swreq_correspondence.specs.Types.{BeginsAs, IsTypeOf}
+use Rattle.swreq_machine.proofs.swreq_lemmas.Elements.{get_cases, get_last, get_left}
+use Rattle.swreq_machine.specs.swreq_param.declared.ids.Step.TheVariants.{Bound, Name}
+use Rattle.swreq_machine.specs.swreq_param.Terms.{Term}
+use Rattle.swreq_machine.specs.swreq_param.Terms.Term.{Generic, Member}
+use Rattle.swreq_machine.specs.swreq_derive.Derivation.{Source, TermFacts, TermRequirement}
+use Rattle.swreq_machine.specs.swreq_derive.Derivation.TermRequirement.{Conforms, Equals, IsAnyObject}
+use Rattle.swreq_homotopy.specs.swreq_word.declared.symbols.Symbol.{Symbol}
+use Rattle.swreq_homotopy.specs.swreq_word.declared.symbols.Symbol.TheVariants.{Layout, Member as MemberSymbol, Name as NameSymbol, Param, Proto}
+use Rattle.swreq_homotopy.specs.swreq_word.Least.{IsMinimal}
+use Rattle.swreq_machine.specs.swreq_rule.declared.rules.Rule.{Rule}
+use Rattle.swreq_machine.specs.swreq_complete.Reduced.{IsReduced}
+use Rattle.swreq_machine.specs.swreq_correspondence.Symbols.{Symbols, Word}
+use Rattle.swreq_machine.specs.swreq_correspondence.Types.{BeginsAs, IsTypeOf}
 use Rattle.swreq_candidates.specs.Candidates.{IsReadOff, SpeaksOf}
 use Rattle.swreq_minimal.specs.OfParams.{AreOfParams, BeginsWithParam}
 

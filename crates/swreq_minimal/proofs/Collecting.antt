@@ -2,35 +2,35 @@
 use Rattle.std.proofs.Common.{◌≡◌, ◌∙◌, ◌⊎◌, ◌↔◌, inl, inr, sym, ap, subst, ◌≤◌, ◌+◌, arith, ℕ, List, [], Contains, length, slice_get, Some}
 use Rattle.std.proofs.lemmas.Bool.{cases_eq}
 use Rattle.std.proofs.lemmas.Option.{same_Some, slice_get_within}
-use Rattle.swreq_derive.specs.declared.known.Params.{Params}
-use Rattle.swreq_derive.specs.Derivation.{Source, TermFacts, TermRequirement}
-use Rattle.swreq_derive.specs.Derivation.Source.{Written}
-use Rattle.swreq_derive.specs.Facts.{generic_params}
-use Rattle.swreq_lemmas.proofs.Members.{no_member}
-use Rattle.swreq_word.specs.Least.{IsMinimal}
-use Rattle.swreq_word.specs.Relations.{Linked}
-use Rattle.swreq_word.proofs.Chains.{joined}
-use Rattle.swreq_word.proofs.LeastWords.{least_along, minimal_along, one_least}
-use Rattle.swreq_rule.specs.declared.rules.Rule.{Rule}
-use Rattle.swreq_rule.specs.Steps.{Step}
-use Rattle.swreq_pair.proofs.CriticalPairs.{locally}
-use Rattle.swreq_complete.specs.Complete.{IsComplete}
-use Rattle.swreq_complete.specs.Reduced.{IsReduced}
-use Rattle.swreq_complete.proofs.ReducedSystem.{minimal_there}
-use Rattle.swreq_lexicon.specs.Views.{LexiconView}
-use Rattle.swreq_correspondence.specs.Equations.{AreCongruent}
-use Rattle.swreq_correspondence.proofs.Chained.{turn_all}
-use Rattle.swreq_correspondence.specs.Symbols.{Word}
-use Rattle.swreq_canonical.specs.Canonical.{IsCanonical}
-use Rattle.swreq_canonical.specs.CanonicalOrder.{IsStrictlySorted}
+use Rattle.swreq_machine.specs.swreq_derive.declared.known.Params.{Params}
+use Rattle.swreq_machine.specs.swreq_derive.Derivation.{Source, TermFacts, TermRequirement}
+use Rattle.swreq_machine.specs.swreq_derive.Derivation.Source.{Written}
+use Rattle.swreq_machine.specs.swreq_derive.Facts.{generic_params}
+use Rattle.swreq_machine.proofs.swreq_lemmas.Members.{no_member}
+use Rattle.swreq_homotopy.specs.swreq_word.Least.{IsMinimal}
+use Rattle.swreq_homotopy.specs.swreq_word.Relations.{Linked}
+use Rattle.swreq_homotopy.proofs.swreq_word.Chains.{joined}
+use Rattle.swreq_homotopy.proofs.swreq_word.LeastWords.{least_along, minimal_along, one_least}
+use Rattle.swreq_machine.specs.swreq_rule.declared.rules.Rule.{Rule}
+use Rattle.swreq_machine.specs.swreq_rule.Steps.{Step}
+use Rattle.swreq_homotopy.proofs.swreq_pair.CriticalPairs.{locally}
+use Rattle.swreq_machine.specs.swreq_complete.Complete.{IsComplete}
+use Rattle.swreq_machine.specs.swreq_complete.Reduced.{IsReduced}
+use Rattle.swreq_candidates.proofs.swreq_complete.ReducedSystem.{minimal_there}
+use Rattle.swreq_machine.specs.swreq_lexicon.Views.{LexiconView}
+use Rattle.swreq_machine.specs.swreq_correspondence.Equations.{AreCongruent}
+use Rattle.swreq_candidates.proofs.swreq_correspondence.Chained.{turn_all}
+use Rattle.swreq_machine.specs.swreq_correspondence.Symbols.{Word}
+use Rattle.swreq_candidates.specs.swreq_canonical.Canonical.{IsCanonical}
+use Rattle.swreq_candidates.specs.swreq_canonical.CanonicalOrder.{IsStrictlySorted}
 use Rattle.swreq_candidates.specs.Candidates.{IsCandidate, IsCandidateList, IsReadOff, IsReducedRule}
 use Rattle.swreq_candidates.specs.Completed.{IsCompleted}
 use Rattle.swreq_candidates.proofs.Completions.{canonical_here}
-use Rattle.swreq_symbols.specs.Meaning.{facts_of, symbols_of}
-use Rattle.swreq_world.specs.Closed.{IsClosed}
-use Rattle.swreq_world.specs.Worlds.{TextWorld}
+use Rattle.swreq_machine.specs.swreq_symbols.Meaning.{facts_of, symbols_of}
+use Rattle.swreq_machine.specs.swreq_world.Closed.{IsClosed}
+use Rattle.swreq_machine.specs.swreq_world.Worlds.{TextWorld}
 use Rattle.swreq_machine.specs.Machines.{IsMachineOf, MachineView}
-use Rattle.swreq_valid.specs.Rounds.{last_rules}
+use Rattle.swreq_machine.specs.swreq_valid.Rounds.{last_rules}
 use Rattle.swreq_minimal.specs.OfParams.{AreOfParams, BeginsWithParam}
 use Rattle.swreq_minimal.specs.Sorted.{IsOfFirstRules, IsListOfFirstRules}
 use Rattle.swreq_minimal.specs.Typed.{IsRequirementOfRule}

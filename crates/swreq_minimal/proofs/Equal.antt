@@ -1,13 +1,13 @@
 -- Requirements that `==` finds equal are the same.
 use Rattle.std.proofs.Common.{◌≡◌, true, rules, subst}
 use Rattle.std.specs.Bool.{Decides, IsTrue}
-use Rattle.swreq_param.specs.declared.ids.TermId.{TermId}
-use Rattle.swreq_param.specs.contracts.ids.TermIdPartialEq.TheImpl.{eq-value as id-value}
-use Rattle.swreq_param.specs.contracts.ids.TermIdEq.TheImpl.Laws.{laws-law as id-laws}
-use Rattle.swreq_derive.specs.contracts.requirements.RequirementPartialEq.TheImpl.{eq-value}
-use Rattle.swreq_derive.specs.contracts.requirements.RequirementEq.TheImpl.Laws.{laws-law}
-use Rattle.swreq_derive.specs.declared.requirements.Requirement.{Requirement}
-use Rattle.swreq_derive.specs.declared.requirements.Requirement.TheVariants.{Conf, Layout, Same}
+use Rattle.swreq_machine.specs.swreq_param.declared.ids.TermId.{TermId}
+use Rattle.swreq_machine.specs.swreq_param.contracts.ids.TermIdPartialEq.TheImpl.{eq-value as id-value}
+use Rattle.swreq_machine.specs.swreq_param.contracts.ids.TermIdEq.TheImpl.Laws.{laws-law as id-laws}
+use Rattle.swreq_machine.specs.swreq_derive.contracts.requirements.RequirementPartialEq.TheImpl.{eq-value}
+use Rattle.swreq_machine.specs.swreq_derive.contracts.requirements.RequirementEq.TheImpl.Laws.{laws-law}
+use Rattle.swreq_machine.specs.swreq_derive.declared.requirements.Requirement.{Requirement}
+use Rattle.swreq_machine.specs.swreq_derive.declared.requirements.Requirement.TheVariants.{Conf, Layout, Same}
 
 requirement_same : (r q : Requirement) → eq-value.it r q ≡ true → r ≡ q
 requirement_same (Conf t p) (Conf u o) h = search rules

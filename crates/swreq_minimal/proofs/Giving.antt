@@ -1,19 +1,19 @@
 -- The bound member for which a member symbol stands after a word.
 use Rattle.std.proofs.Common.{◌≡◌, refl, sym, ap, subst, ℕ, ◌<◌, ◌≤◌, arith, List, length, slice_get, Option, Some, None, MatchOption}
 use Rattle.std.proofs.lemmas.List.{length-map}
-use Rattle.swreq_param.specs.declared.ids.AssocId.{AssocId}
-use Rattle.swreq_param.specs.declared.ids.ProtoId.{ProtoId}
-use Rattle.swreq_word.specs.declared.symbols.Symbol.{Symbol}
-use Rattle.swreq_word.specs.declared.symbols.Symbol.TheVariants.{Proto, Member as MemberSymbol}
-use Rattle.swreq_word.proofs.SameSymbols.{same_members}
-use Rattle.swreq_rule.specs.declared.rules.Rule.{Rule}
-use Rattle.swreq_lexicon.specs.declared.pair.ProtocolName.{ProtocolName}
-use Rattle.swreq_lexicon.specs.Views.{LexiconView}
-use Rattle.swreq_correspondence.specs.Symbols.{MemberName, Word, name_of, proto_of}
-use Rattle.swreq_symbols.specs.Meaning.{member_name, symbols_of}
-use Rattle.swreq_symbols.proofs.Declared.{is_rank, member_is}
-use Rattle.swreq_map.specs.Properties.{Vanishes}
-use Rattle.swreq_symbols.specs.Vanishing.{IsFirstBehind, IsGivenBehind}
+use Rattle.swreq_machine.specs.swreq_param.declared.ids.AssocId.{AssocId}
+use Rattle.swreq_machine.specs.swreq_param.declared.ids.ProtoId.{ProtoId}
+use Rattle.swreq_homotopy.specs.swreq_word.declared.symbols.Symbol.{Symbol}
+use Rattle.swreq_homotopy.specs.swreq_word.declared.symbols.Symbol.TheVariants.{Proto, Member as MemberSymbol}
+use Rattle.swreq_homotopy.proofs.swreq_word.SameSymbols.{same_members}
+use Rattle.swreq_machine.specs.swreq_rule.declared.rules.Rule.{Rule}
+use Rattle.swreq_machine.specs.swreq_lexicon.declared.pair.ProtocolName.{ProtocolName}
+use Rattle.swreq_machine.specs.swreq_lexicon.Views.{LexiconView}
+use Rattle.swreq_machine.specs.swreq_correspondence.Symbols.{MemberName, Word, name_of, proto_of}
+use Rattle.swreq_machine.specs.swreq_symbols.Meaning.{member_name, symbols_of}
+use Rattle.swreq_machine.proofs.swreq_symbols.Declared.{is_rank, member_is}
+use Rattle.swreq_machine.specs.swreq_map.Properties.{Vanishes}
+use Rattle.swreq_machine.specs.swreq_symbols.Vanishing.{IsFirstBehind, IsGivenBehind}
 use Rattle.swreq_minimal.specs.Typed.{IsMemberBehind}
 
 module _ (x : LexiconView) (rules : List Rule) (w : Word) where

@@ -1,14 +1,14 @@
 -- A table that grows keeps requirements of the text.
 use Rattle.std.proofs.Common.{◌≡◌, refl, ap₂, List, [], ◌∷◌, Contains}
-use Rattle.swreq_param.specs.Tables.{Extends}
-use Rattle.swreq_param.specs.Terms.{Term}
-use Rattle.swreq_derive.specs.declared.requirements.Requirement.{Requirement}
-use Rattle.swreq_lemmas.proofs.Members.{first_member, later_member}
-use Rattle.swreq_lowering.specs.ByTable.{HasIdsOf}
-use Rattle.swreq_lowering.proofs.Growing.{requirement_stays}
-use Rattle.swreq_lexicon.specs.Views.{LexiconView}
-use Rattle.swreq_symbols.proofs.Growing.{requirement_in_stays}
-use Rattle.swreq_valid.specs.Plans.{AreKnown, listed}
+use Rattle.swreq_machine.specs.swreq_param.Tables.{Extends}
+use Rattle.swreq_machine.specs.swreq_param.Terms.{Term}
+use Rattle.swreq_machine.specs.swreq_derive.declared.requirements.Requirement.{Requirement}
+use Rattle.swreq_machine.proofs.swreq_lemmas.Members.{first_member, later_member}
+use Rattle.swreq_machine.specs.swreq_lowering.ByTable.{HasIdsOf}
+use Rattle.swreq_machine.proofs.swreq_lowering.Growing.{requirement_stays}
+use Rattle.swreq_machine.specs.swreq_lexicon.Views.{LexiconView}
+use Rattle.swreq_machine.proofs.swreq_symbols.Growing.{requirement_in_stays}
+use Rattle.swreq_machine.specs.swreq_valid.Plans.{AreKnown, listed}
 
 module _ (old new : List Term) (more : Extends old new) where
   pub listed_stays : (rs : List Requirement) → ((r : Requirement) → Contains rs r → HasIdsOf old r) → listed new rs ≡ listed old rs

@@ -4,21 +4,21 @@ use Rattle.std.specs.Prelude.{insert}
 use Rattle.std.proofs.Math.Seq.{take-append_seam, drop-append_seam}
 use Rattle.std.proofs.lemmas.List.{take-append-drop, take_more, take_all, map-append}
 use Rattle.std.proofs.lemmas.List.Elements.{Contains-append_left, Contains-append_right, Contains-append_cases, Contains-push_cases}
-use Rattle.swreq_param.specs.Order.{TermBefore}
-use Rattle.swreq_param.specs.Tables.{AreDistinct}
-use Rattle.swreq_param.specs.Terms.{Term}
-use Rattle.swreq_param.proofs.TotalOrder.{strict, transitive}
-use Rattle.swreq_derive.specs.declared.requirements.Requirement.{Requirement}
-use Rattle.swreq_derive.specs.declared.requirements.Requirement.TheVariants.{Conf, Layout, Same}
-use Rattle.swreq_derive.specs.Derivation.{Source, TermFacts, TermRequirement}
-use Rattle.swreq_derive.specs.Facts.{requirement_of}
-use Rattle.swreq_lemmas.proofs.Elements.{same_heads}
-use Rattle.swreq_lemmas.proofs.Members.{first_member, later_member, member_cases, no_member}
-use Rattle.swreq_lowering.specs.ByTable.{HasIdsOf}
-use Rattle.swreq_canonical.specs.Canonical.{IsCanonical, principal}
-use Rattle.swreq_canonical.specs.CanonicalOrder.{IsStrictlySorted, KindBefore, RequirementBefore}
-use Rattle.swreq_canonical.proofs.Ordered.{canonical_total, transitive_requirements}
-use Rattle.swreq_valid.specs.Plans.{listed}
+use Rattle.swreq_machine.specs.swreq_param.Order.{TermBefore}
+use Rattle.swreq_machine.specs.swreq_param.Tables.{AreDistinct}
+use Rattle.swreq_machine.specs.swreq_param.Terms.{Term}
+use Rattle.swreq_candidates.proofs.swreq_param.TotalOrder.{strict, transitive}
+use Rattle.swreq_machine.specs.swreq_derive.declared.requirements.Requirement.{Requirement}
+use Rattle.swreq_machine.specs.swreq_derive.declared.requirements.Requirement.TheVariants.{Conf, Layout, Same}
+use Rattle.swreq_machine.specs.swreq_derive.Derivation.{Source, TermFacts, TermRequirement}
+use Rattle.swreq_machine.specs.swreq_derive.Facts.{requirement_of}
+use Rattle.swreq_machine.proofs.swreq_lemmas.Elements.{same_heads}
+use Rattle.swreq_machine.proofs.swreq_lemmas.Members.{first_member, later_member, member_cases, no_member}
+use Rattle.swreq_machine.specs.swreq_lowering.ByTable.{HasIdsOf}
+use Rattle.swreq_candidates.specs.swreq_canonical.Canonical.{IsCanonical, principal}
+use Rattle.swreq_candidates.specs.swreq_canonical.CanonicalOrder.{IsStrictlySorted, KindBefore, RequirementBefore}
+use Rattle.swreq_candidates.proofs.swreq_canonical.Ordered.{canonical_total, transitive_requirements}
+use Rattle.swreq_machine.specs.swreq_valid.Plans.{listed}
 use Rattle.swreq_minimal.specs.Sorted.{BelongsAt}
 
 -- what stands where nothing is

@@ -1,3 +1,5 @@
+pub use Rattle.swreq_candidates.proofs.swreq_canonical as swreq_canonical
+pub use Rattle.swreq_candidates.proofs as swreq_candidates
 pub mod Equal
 pub mod Giving
 pub mod Typing

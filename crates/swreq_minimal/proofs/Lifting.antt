@@ -1,37 +1,37 @@
 -- What the rules of a machine say is what is read off them.
 use Rattle.std.proofs.Common.{◌≡◌, ◌↔◌, ◌∙◌, refl, sym, ap, subst, List, [], ◌∷◌, ◌++◌, append_assoc}
-use Rattle.swreq_param.specs.declared.ids.AssocId.{AssocId}
-use Rattle.swreq_param.specs.declared.ids.NameId.{NameId}
-use Rattle.swreq_param.specs.declared.ids.ParamId.{ParamId}
-use Rattle.swreq_param.specs.declared.ids.ProtoId.{ProtoId}
-use Rattle.swreq_param.specs.declared.ids.Step.TheVariants.{Bound, Name}
-use Rattle.swreq_param.specs.Terms.{Term}
-use Rattle.swreq_param.specs.Terms.Term.{Generic, Member}
-use Rattle.swreq_derive.specs.Derivation.{Derivable, Source, TermFacts, TermRequirement}
-use Rattle.swreq_derive.specs.Derivation.Derives.{assoc_decl, generic}
-use Rattle.swreq_derive.specs.Derivation.Source.{Written}
-use Rattle.swreq_derive.specs.Derivation.TermRequirement.{Conforms, IsAnyObject, Equals}
-use Rattle.swreq_derive.specs.Derivation.TermStatement.{IsValid, Requires}
-use Rattle.swreq_derive.specs.Facts.{generic_params}
-use Rattle.swreq_word.specs.declared.symbols.Symbol.TheVariants.{Proto, Member as MemberSymbol, Param}
-use Rattle.swreq_rule.specs.declared.rules.Rule.{Rule}
-use Rattle.swreq_correspondence.specs.Equations.{AreCongruent}
-use Rattle.swreq_correspondence.specs.Symbols.{Symbols, Word, name_of, proto_of, spell}
-use Rattle.swreq_correspondence.specs.Types.{BeginsAs, IsFirstFor, IsTypeOf}
-use Rattle.swreq_correspondence.proofs.Chained.{chained_usable}
-use Rattle.swreq_correspondence.proofs.Readings.{valid_base, valid_generic}
-use Rattle.swreq_lexicon.specs.Views.{IsProtocol}
+use Rattle.swreq_machine.specs.swreq_param.declared.ids.AssocId.{AssocId}
+use Rattle.swreq_machine.specs.swreq_param.declared.ids.NameId.{NameId}
+use Rattle.swreq_machine.specs.swreq_param.declared.ids.ParamId.{ParamId}
+use Rattle.swreq_machine.specs.swreq_param.declared.ids.ProtoId.{ProtoId}
+use Rattle.swreq_machine.specs.swreq_param.declared.ids.Step.TheVariants.{Bound, Name}
+use Rattle.swreq_machine.specs.swreq_param.Terms.{Term}
+use Rattle.swreq_machine.specs.swreq_param.Terms.Term.{Generic, Member}
+use Rattle.swreq_machine.specs.swreq_derive.Derivation.{Derivable, Source, TermFacts, TermRequirement}
+use Rattle.swreq_machine.specs.swreq_derive.Derivation.Derives.{assoc_decl, generic}
+use Rattle.swreq_machine.specs.swreq_derive.Derivation.Source.{Written}
+use Rattle.swreq_machine.specs.swreq_derive.Derivation.TermRequirement.{Conforms, IsAnyObject, Equals}
+use Rattle.swreq_machine.specs.swreq_derive.Derivation.TermStatement.{IsValid, Requires}
+use Rattle.swreq_machine.specs.swreq_derive.Facts.{generic_params}
+use Rattle.swreq_homotopy.specs.swreq_word.declared.symbols.Symbol.TheVariants.{Proto, Member as MemberSymbol, Param}
+use Rattle.swreq_machine.specs.swreq_rule.declared.rules.Rule.{Rule}
+use Rattle.swreq_machine.specs.swreq_correspondence.Equations.{AreCongruent}
+use Rattle.swreq_machine.specs.swreq_correspondence.Symbols.{Symbols, Word, name_of, proto_of, spell}
+use Rattle.swreq_machine.specs.swreq_correspondence.Types.{BeginsAs, IsFirstFor, IsTypeOf}
+use Rattle.swreq_candidates.proofs.swreq_correspondence.Chained.{chained_usable}
+use Rattle.swreq_candidates.proofs.swreq_correspondence.Readings.{valid_base, valid_generic}
+use Rattle.swreq_machine.specs.swreq_lexicon.Views.{IsProtocol}
 use Rattle.swreq_candidates.specs.Candidates.{IsReadOff, SpeaksOf}
 use Rattle.swreq_candidates.proofs.SameTypes.{begins_on}
 use Rattle.swreq_candidates.proofs.Settled.{stands}
-use Rattle.swreq_symbols.specs.Meaning.{facts_of, symbols_of}
-use Rattle.swreq_symbols.proofs.Symbols.{ranks_law, symbols_law, text_law}
-use Rattle.swreq_map.specs.Properties.{Vanishes}
-use Rattle.swreq_world.specs.Closed.{IsClosed}
-use Rattle.swreq_world.specs.Worlds.{TextWorld}
+use Rattle.swreq_machine.specs.swreq_symbols.Meaning.{facts_of, symbols_of}
+use Rattle.swreq_machine.proofs.swreq_symbols.Symbols.{ranks_law, symbols_law, text_law}
+use Rattle.swreq_machine.specs.swreq_map.Properties.{Vanishes}
+use Rattle.swreq_machine.specs.swreq_world.Closed.{IsClosed}
+use Rattle.swreq_machine.specs.swreq_world.Worlds.{TextWorld}
 use Rattle.swreq_machine.specs.Machines.{IsMachineOf, MachineView}
-use Rattle.swreq_valid.specs.Rounds.{last_rules}
-use Rattle.swreq_symbols.specs.Vanishing.{IsFirstBehind}
+use Rattle.swreq_machine.specs.swreq_valid.Rounds.{last_rules}
+use Rattle.swreq_machine.specs.swreq_symbols.Vanishing.{IsFirstBehind}
 use Rattle.swreq_machine.proofs.Reducing.{first_behind, vanishing}
 use Rattle.swreq_minimal.specs.Typed.{IsTypeBy, IsRequirementOfRule, IsSubjectOf}
 

@@ -1,22 +1,22 @@
 -- `Self` of each protocol conforms to a protocol that declares the name of a member symbol of it.
 use Rattle.std.proofs.Common.{◌≡◌, ◌∙◌, ⊎_elim, ap, subst, sym, Some, Contains, IsTrue}
 use Rattle.std.proofs.lemmas.Option.{slice_get-get_or}
-use Rattle.swreq_param.specs.declared.ids.AssocId.{AssocId}
-use Rattle.swreq_param.specs.declared.ids.ProtoId.{ProtoId}
-use Rattle.swreq_derive.specs.Derivation.{Declares}
-use Rattle.swreq_derive.specs.Inheritance.{LeadsTo}
-use Rattle.swreq_derive.specs.Inheritance.LeadsTo.{further, here}
-use Rattle.swreq_lexicon.specs.declared.pair.ProtocolName.{ProtocolName}
-use Rattle.swreq_lexicon.specs.Lexicons.{pair}
-use Rattle.swreq_lexicon.specs.Views.{IsProtocol, inherits}
-use Rattle.swreq_correspondence.specs.Symbols.{name_of, proto_of}
-use Rattle.swreq_world.specs.Closed.{IsClosed}
-use Rattle.swreq_world.specs.Worlds.{TextWorld}
+use Rattle.swreq_machine.specs.swreq_param.declared.ids.AssocId.{AssocId}
+use Rattle.swreq_machine.specs.swreq_param.declared.ids.ProtoId.{ProtoId}
+use Rattle.swreq_machine.specs.swreq_derive.Derivation.{Declares}
+use Rattle.swreq_machine.specs.swreq_derive.Inheritance.{LeadsTo}
+use Rattle.swreq_machine.specs.swreq_derive.Inheritance.LeadsTo.{further, here}
+use Rattle.swreq_machine.specs.swreq_lexicon.declared.pair.ProtocolName.{ProtocolName}
+use Rattle.swreq_machine.specs.swreq_lexicon.Lexicons.{pair}
+use Rattle.swreq_machine.specs.swreq_lexicon.Views.{IsProtocol, inherits}
+use Rattle.swreq_machine.specs.swreq_correspondence.Symbols.{name_of, proto_of}
+use Rattle.swreq_machine.specs.swreq_world.Closed.{IsClosed}
+use Rattle.swreq_machine.specs.swreq_world.Worlds.{TextWorld}
 use Rattle.swreq_candidates.specs.Blocks.{AreMembersDeclared, AreMembersNamed}
 use Rattle.swreq_candidates.proofs.Inherited.{declared_named}
-use Rattle.swreq_symbols.specs.Meaning.{facts_of, symbols_of}
-use Rattle.swreq_lemmas.proofs.Elements.{get_contains}
-use Rattle.swreq_symbols.proofs.Declared.{from_rank, member_is, of_rank}
+use Rattle.swreq_machine.specs.swreq_symbols.Meaning.{facts_of, symbols_of}
+use Rattle.swreq_machine.proofs.swreq_lemmas.Elements.{get_contains}
+use Rattle.swreq_machine.proofs.swreq_symbols.Declared.{from_rank, member_is, of_rank}
 
 module _ (w : TextWorld) (closed : IsClosed w) where
   pub leads_to : (p q : ProtoId) → IsProtocol w.lexicon p → IsProtocol w.lexicon q → IsTrue (inherits w.lexicon p q)

@@ -4,22 +4,22 @@ use Rattle.std.specs.Prelude.{insert, remove}
 use Rattle.std.proofs.Math.Seq.{drop-append_seam, take-append_seam}
 use Rattle.std.proofs.lemmas.List.{drop_all, length-map, map-append, map_more, take-append-drop, take_all, take_more}
 use Rattle.std.proofs.lemmas.List.Elements.{Contains-append_cases, Contains-append_left, Contains-append_right}
-use Rattle.swreq_lemmas.proofs.Elements.{same_heads, same_tails}
-use Rattle.swreq_lemmas.proofs.Members.{later_member}
+use Rattle.swreq_machine.proofs.swreq_lemmas.Elements.{same_heads, same_tails}
+use Rattle.swreq_machine.proofs.swreq_lemmas.Members.{later_member}
 use Rattle.std.proofs.lemmas.List.Edits.{remove-append_right}
-use Rattle.swreq_param.specs.declared.ids.ParamId.{ParamId}
-use Rattle.swreq_param.specs.Terms.{Term}
-use Rattle.swreq_word.proofs.Cuts.{same_cut}
-use Rattle.swreq_derive.specs.declared.requirements.Requirement.{Requirement}
-use Rattle.swreq_derive.specs.Derivation.{Derivable, TermFacts, TermRequirement}
-use Rattle.swreq_derive.specs.Derivation.Source.{Written}
-use Rattle.swreq_derive.specs.Derivation.TermStatement.{Requires}
-use Rattle.swreq_derive.specs.Facts.{requirement_of}
-use Rattle.swreq_canonical.specs.Generators.{Takes}
-use Rattle.swreq_canonical.specs.Generators.Takes.{ended, skipped, taken}
-use Rattle.swreq_canonical.specs.Minimised.{Leaves}
-use Rattle.swreq_canonical.specs.Minimised.Leaves.{dropped, kept, nothing}
-use Rattle.swreq_valid.specs.Plans.{listed}
+use Rattle.swreq_machine.specs.swreq_param.declared.ids.ParamId.{ParamId}
+use Rattle.swreq_machine.specs.swreq_param.Terms.{Term}
+use Rattle.swreq_homotopy.proofs.swreq_word.Cuts.{same_cut}
+use Rattle.swreq_machine.specs.swreq_derive.declared.requirements.Requirement.{Requirement}
+use Rattle.swreq_machine.specs.swreq_derive.Derivation.{Derivable, TermFacts, TermRequirement}
+use Rattle.swreq_machine.specs.swreq_derive.Derivation.Source.{Written}
+use Rattle.swreq_machine.specs.swreq_derive.Derivation.TermStatement.{Requires}
+use Rattle.swreq_machine.specs.swreq_derive.Facts.{requirement_of}
+use Rattle.swreq_candidates.specs.swreq_canonical.Generators.{Takes}
+use Rattle.swreq_candidates.specs.swreq_canonical.Generators.Takes.{ended, skipped, taken}
+use Rattle.swreq_candidates.specs.swreq_canonical.Minimised.{Leaves}
+use Rattle.swreq_candidates.specs.swreq_canonical.Minimised.Leaves.{dropped, kept, nothing}
+use Rattle.swreq_machine.specs.swreq_valid.Plans.{listed}
 use Rattle.swreq_minimal.specs.Passed.{IsLastNeeded, IsLeftFrom, IsLeftWithout, IsTakenBefore}
 
 module _ (f : TermFacts) (ps : List ParamId) where

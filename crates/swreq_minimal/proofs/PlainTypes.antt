@@ -2,22 +2,22 @@
 use Rattle.std.proofs.Common.{◌<◌, ◌≤◌, ◌+◌, inl, inr, sym, subst, ℕ, List, Contains, get_or, length, take}
 use Rattle.std.proofs.lemmas.List.{take_all, take_more}
 use Rattle.std.proofs.lemmas.List.Elements.{Contains-push_cases}
-use Rattle.swreq_param.specs.declared.ids.ParamId.{ParamId}
-use Rattle.swreq_param.specs.declared.ids.Step.TheVariants.{Bound, Name}
-use Rattle.swreq_param.specs.Terms.{Term}
-use Rattle.swreq_param.specs.Terms.Term.{Generic, Member}
-use Rattle.swreq_derive.specs.declared.requirements.Requirement.{Requirement}
-use Rattle.swreq_derive.specs.Derivation.{Derivable, TermFacts, TermRequirement}
-use Rattle.swreq_derive.specs.Derivation.Derives.{assoc_decl, conf, generic}
-use Rattle.swreq_derive.specs.Derivation.Source.{Written}
-use Rattle.swreq_derive.specs.Derivation.TermRequirement.{Conforms, Equals, IsAnyObject}
-use Rattle.swreq_derive.specs.Derivation.TermStatement.{IsValid}
-use Rattle.swreq_derive.specs.Facts.{requirement_of}
-use Rattle.swreq_derive.specs.WellFormed.{HasValidSides}
-use Rattle.swreq_lemmas.proofs.Members.{no_member}
+use Rattle.swreq_machine.specs.swreq_param.declared.ids.ParamId.{ParamId}
+use Rattle.swreq_machine.specs.swreq_param.declared.ids.Step.TheVariants.{Bound, Name}
+use Rattle.swreq_machine.specs.swreq_param.Terms.{Term}
+use Rattle.swreq_machine.specs.swreq_param.Terms.Term.{Generic, Member}
+use Rattle.swreq_machine.specs.swreq_derive.declared.requirements.Requirement.{Requirement}
+use Rattle.swreq_machine.specs.swreq_derive.Derivation.{Derivable, TermFacts, TermRequirement}
+use Rattle.swreq_machine.specs.swreq_derive.Derivation.Derives.{assoc_decl, conf, generic}
+use Rattle.swreq_machine.specs.swreq_derive.Derivation.Source.{Written}
+use Rattle.swreq_machine.specs.swreq_derive.Derivation.TermRequirement.{Conforms, Equals, IsAnyObject}
+use Rattle.swreq_machine.specs.swreq_derive.Derivation.TermStatement.{IsValid}
+use Rattle.swreq_machine.specs.swreq_derive.Facts.{requirement_of}
+use Rattle.swreq_machine.specs.swreq_derive.WellFormed.{HasValidSides}
+use Rattle.swreq_machine.proofs.swreq_lemmas.Members.{no_member}
 use Rattle.swreq_candidates.specs.Evidence.{HasPlainTypes, IsPlain, IsPlainIn}
 use Rattle.swreq_candidates.proofs.Inherited.{reached}
-use Rattle.swreq_valid.specs.Plans.{listed}
+use Rattle.swreq_machine.specs.swreq_valid.Plans.{listed}
 use Rattle.swreq_minimal.proofs.Inserting.{from_listed}
 
 -- They are valid.

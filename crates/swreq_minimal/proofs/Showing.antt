@@ -1,34 +1,34 @@
 -- What a loop shows of a requirement is a derivation.
 use Rattle.std.proofs.Common.{◌≡◌, ◌∙◌, ◌⊎◌, ◌<◌, inl, inr, refl, sym, ap, subst, subst₂, ℕ, suc, ◌+◌, arith, Bool, true, List, [], ◌∷◌, ◌++◌, length, slice_get, get_or, Option, Some, None, is_some, IsTrue, MatchOption, Contains, append-nil, length-append}
 use Rattle.std.proofs.lemmas.Option.{slice_get-get_or}
-use Rattle.swreq_param.specs.declared.ids.ParamId.{ParamId}
-use Rattle.swreq_derive.specs.Derivation.{Derivable, TermFacts, TermRequirement}
-use Rattle.swreq_derive.specs.Derivation.Source.{Written}
-use Rattle.swreq_derive.specs.Derivation.TermRequirement.{Conforms, Equals, IsAnyObject}
-use Rattle.swreq_derive.specs.Derivation.TermStatement.{Requires}
-use Rattle.swreq_word.specs.Relations.{Linked}
-use Rattle.swreq_word.specs.Relations.Linked.{forth, here}
-use Rattle.swreq_lemmas.proofs.Elements.{get_cases, get_last}
-use Rattle.swreq_rule.specs.declared.rules.Rule.{Rule}
-use Rattle.swreq_rule.specs.Steps.{RuleAt, Step}
-use Rattle.swreq_pair.specs.declared.pairs.Pair.{Pair}
-use Rattle.swreq_pair.specs.PairLists.{ArePairs, HasGreater}
-use Rattle.swreq_pair.specs.Pairs.{HasPair}
-use Rattle.swreq_path.specs.declared.paths.Loop.{Loop}
-use Rattle.swreq_path.specs.Paths.{IsLoop}
+use Rattle.swreq_machine.specs.swreq_param.declared.ids.ParamId.{ParamId}
+use Rattle.swreq_machine.specs.swreq_derive.Derivation.{Derivable, TermFacts, TermRequirement}
+use Rattle.swreq_machine.specs.swreq_derive.Derivation.Source.{Written}
+use Rattle.swreq_machine.specs.swreq_derive.Derivation.TermRequirement.{Conforms, Equals, IsAnyObject}
+use Rattle.swreq_machine.specs.swreq_derive.Derivation.TermStatement.{Requires}
+use Rattle.swreq_homotopy.specs.swreq_word.Relations.{Linked}
+use Rattle.swreq_homotopy.specs.swreq_word.Relations.Linked.{forth, here}
+use Rattle.swreq_machine.proofs.swreq_lemmas.Elements.{get_cases, get_last}
+use Rattle.swreq_machine.specs.swreq_rule.declared.rules.Rule.{Rule}
+use Rattle.swreq_machine.specs.swreq_rule.Steps.{RuleAt, Step}
+use Rattle.swreq_homotopy.specs.swreq_pair.declared.pairs.Pair.{Pair}
+use Rattle.swreq_homotopy.specs.swreq_pair.PairLists.{ArePairs, HasGreater}
+use Rattle.swreq_homotopy.specs.swreq_pair.Pairs.{HasPair}
+use Rattle.swreq_homotopy.specs.swreq_path.declared.paths.Loop.{Loop}
+use Rattle.swreq_homotopy.specs.swreq_path.Paths.{IsLoop}
 use Rattle.swreq_homotopy.specs.declared.around.Evidence.{Evidence}
 use Rattle.swreq_homotopy.specs.Evidence.{AreLoops, IsEvidence, IsMarked, NoneShown}
 use Rattle.swreq_homotopy.specs.Laws.{EvidenceLinks, HasOthers}
-use Rattle.swreq_correspondence.specs.Equations.{Linking}
-use Rattle.swreq_correspondence.specs.Symbols.{IsInText, Symbols, Word, left_side, right_side}
-use Rattle.swreq_correspondence.proofs.Chained.{turn_all}
-use Rattle.swreq_rounds.specs.Presents.{AreProtocolRules}
+use Rattle.swreq_machine.specs.swreq_correspondence.Equations.{Linking}
+use Rattle.swreq_machine.specs.swreq_correspondence.Symbols.{IsInText, Symbols, Word, left_side, right_side}
+use Rattle.swreq_candidates.proofs.swreq_correspondence.Chained.{turn_all}
+use Rattle.swreq_machine.specs.swreq_rounds.Presents.{AreProtocolRules}
 use Rattle.swreq_candidates.specs.Evidence.{AreRulesOfRest, HasEvidence, HasPlainTypes, IsPlain, RestEquation}
 use Rattle.swreq_candidates.proofs.EvidenceDrops.{derives, links}
-use Rattle.swreq_symbols.specs.Meaning.{facts_of, symbols_of}
-use Rattle.swreq_symbols.proofs.Symbols.{symbols_law, text_law}
-use Rattle.swreq_world.specs.Closed.{IsClosed}
-use Rattle.swreq_world.specs.Worlds.{TextWorld}
+use Rattle.swreq_machine.specs.swreq_symbols.Meaning.{facts_of, symbols_of}
+use Rattle.swreq_machine.proofs.swreq_symbols.Symbols.{symbols_law, text_law}
+use Rattle.swreq_machine.specs.swreq_world.Closed.{IsClosed}
+use Rattle.swreq_machine.specs.swreq_world.Worlds.{TextWorld}
 use Rattle.swreq_minimal.specs.Evident.{IsOfEquation, LinkLast}
 use Rattle.swreq_minimal.proofs.PlainTypes.{plain_sides}
 

@@ -1,35 +1,35 @@
 -- What a rule says.
 use Rattle.std.proofs.Common.{◌≡◌, ◌∙◌, ◌⊎◌, inl, inr, refl, sym, ap, ap₂, subst, ℕ, suc, ◌<◌, ◌+◌, arith, List, [], ◌∷◌, ◌++◌, Option, Some, None, MatchOption, length, take, drop, get_or, length-take-le}
 use Rattle.std.proofs.lemmas.List.{drop_all, take-append-drop, same_from_push}
-use Rattle.swreq_param.specs.declared.ids.AssocId.{AssocId}
-use Rattle.swreq_param.specs.declared.ids.NameId.{NameId}
-use Rattle.swreq_param.specs.declared.ids.ProtoId.{ProtoId}
-use Rattle.swreq_param.specs.declared.ids.Step.TheVariants.{Bound, Name}
-use Rattle.swreq_param.specs.declared.ids.TermId.{TermId}
-use Rattle.swreq_param.specs.Tables.{Extends, IsOf, term_at}
-use Rattle.swreq_param.specs.Terms.{Term}
-use Rattle.swreq_param.specs.Terms.Term.{Generic, Member}
-use Rattle.swreq_derive.specs.declared.known.Params.{Params}
-use Rattle.swreq_derive.specs.declared.requirements.Requirement.{Requirement}
-use Rattle.swreq_derive.specs.declared.requirements.Requirement.TheVariants.{Conf, Layout as LayoutOf, Same}
-use Rattle.swreq_derive.specs.Derivation.{TermRequirement}
-use Rattle.swreq_derive.specs.Derivation.TermRequirement.{Conforms, IsAnyObject, Equals}
-use Rattle.swreq_derive.specs.Facts.{requirement_of}
-use Rattle.swreq_word.specs.declared.symbols.Symbol.{Symbol}
-use Rattle.swreq_word.specs.declared.symbols.Symbol.TheVariants.{Proto, Layout, Param}
-use Rattle.swreq_word.specs.Least.{IsLeast, IsMinimal}
-use Rattle.swreq_rule.specs.declared.rules.Rule.{Rule}
-use Rattle.swreq_lexicon.specs.Views.{IsProtocol, LexiconView}
-use Rattle.swreq_correspondence.specs.Symbols.{Word}
+use Rattle.swreq_machine.specs.swreq_param.declared.ids.AssocId.{AssocId}
+use Rattle.swreq_machine.specs.swreq_param.declared.ids.NameId.{NameId}
+use Rattle.swreq_machine.specs.swreq_param.declared.ids.ProtoId.{ProtoId}
+use Rattle.swreq_machine.specs.swreq_param.declared.ids.Step.TheVariants.{Bound, Name}
+use Rattle.swreq_machine.specs.swreq_param.declared.ids.TermId.{TermId}
+use Rattle.swreq_machine.specs.swreq_param.Tables.{Extends, IsOf, term_at}
+use Rattle.swreq_machine.specs.swreq_param.Terms.{Term}
+use Rattle.swreq_machine.specs.swreq_param.Terms.Term.{Generic, Member}
+use Rattle.swreq_machine.specs.swreq_derive.declared.known.Params.{Params}
+use Rattle.swreq_machine.specs.swreq_derive.declared.requirements.Requirement.{Requirement}
+use Rattle.swreq_machine.specs.swreq_derive.declared.requirements.Requirement.TheVariants.{Conf, Layout as LayoutOf, Same}
+use Rattle.swreq_machine.specs.swreq_derive.Derivation.{TermRequirement}
+use Rattle.swreq_machine.specs.swreq_derive.Derivation.TermRequirement.{Conforms, IsAnyObject, Equals}
+use Rattle.swreq_machine.specs.swreq_derive.Facts.{requirement_of}
+use Rattle.swreq_homotopy.specs.swreq_word.declared.symbols.Symbol.{Symbol}
+use Rattle.swreq_homotopy.specs.swreq_word.declared.symbols.Symbol.TheVariants.{Proto, Layout, Param}
+use Rattle.swreq_homotopy.specs.swreq_word.Least.{IsLeast, IsMinimal}
+use Rattle.swreq_machine.specs.swreq_rule.declared.rules.Rule.{Rule}
+use Rattle.swreq_machine.specs.swreq_lexicon.Views.{IsProtocol, LexiconView}
+use Rattle.swreq_machine.specs.swreq_correspondence.Symbols.{Word}
 use Rattle.swreq_candidates.specs.Candidates.{IsNamed}
 use Rattle.std.proofs.lemmas.List.{same_from_push}
-use Rattle.swreq_symbols.proofs.LeastWords.{one_first}
+use Rattle.swreq_machine.proofs.swreq_symbols.LeastWords.{one_first}
 use Rattle.swreq_candidates.proofs.ReadOff.{not_empty, one_name}
-use Rattle.swreq_symbols.specs.Known.{IsRequirementIn}
-use Rattle.swreq_symbols.specs.Meaning.{symbols_of}
-use Rattle.swreq_world.specs.Closed.{IsTermOf}
-use Rattle.swreq_lowering.proofs.Growing.{of_stays}
-use Rattle.swreq_symbols.specs.Vanishing.{IsFirstBehind, IsGivenBehind}
+use Rattle.swreq_machine.specs.swreq_symbols.Known.{IsRequirementIn}
+use Rattle.swreq_machine.specs.swreq_symbols.Meaning.{symbols_of}
+use Rattle.swreq_machine.specs.swreq_world.Closed.{IsTermOf}
+use Rattle.swreq_machine.proofs.swreq_lowering.Growing.{of_stays}
+use Rattle.swreq_machine.specs.swreq_symbols.Vanishing.{IsFirstBehind, IsGivenBehind}
 use Rattle.swreq_minimal.specs.Typed.{Finds, Identifies, IsTypeBy, IsRequirementOfRule, IsSubjectOf}
 use Rattle.swreq_minimal.proofs.Passing.{parted}
 use Rattle.swreq_minimal.proofs.Typing.{given_of_text, none_of_nothing, nothing_before, one_type, type_of_text}

@@ -1,15 +1,15 @@
 -- Parts that are told one after the other.
 use Rattle.std.proofs.Common.{◌≡◌, ◌∙◌, inl, inr, refl, sym, ap, subst, List, [], ◌++◌, Option, Result, Ok, Err, IsErrAnd, append-nil, append_assoc}
-use Rattle.swreq_derive.specs.Derivation.{TermRequirement}
-use Rattle.swreq_rule.specs.declared.rules.Rule.{Rule}
-use Rattle.swreq_watch.specs.declared.events.Event.{Event}
-use Rattle.swreq_watch.proofs.Told.{grew_none, grew_on}
-use Rattle.swreq_complete.specs.declared.limit.Limits.{Limits}
-use Rattle.swreq_complete.specs.declared.limit.Failed.{Failed}
-use Rattle.swreq_complete.specs.declared.limit.Failed.TheVariants.{Limit, Memory}
-use Rattle.swreq_rounds.specs.Plan.{Plan}
-use Rattle.swreq_valid.specs.Answers.{Answers}
-use Rattle.swreq_canonical.specs.Generators.{Takes}
+use Rattle.swreq_machine.specs.swreq_derive.Derivation.{TermRequirement}
+use Rattle.swreq_machine.specs.swreq_rule.declared.rules.Rule.{Rule}
+use Rattle.swreq_candidates.specs.swreq_watch.declared.events.Event.{Event}
+use Rattle.swreq_candidates.proofs.swreq_watch.Told.{grew_none, grew_on}
+use Rattle.swreq_machine.specs.swreq_complete.declared.limit.Limits.{Limits}
+use Rattle.swreq_machine.specs.swreq_complete.declared.limit.Failed.{Failed}
+use Rattle.swreq_machine.specs.swreq_complete.declared.limit.Failed.TheVariants.{Limit, Memory}
+use Rattle.swreq_machine.specs.swreq_rounds.Plan.{Plan}
+use Rattle.swreq_machine.specs.swreq_valid.Answers.{Answers}
+use Rattle.swreq_candidates.specs.swreq_canonical.Generators.{Takes}
 use Rattle.swreq_list_rules.specs.declared.setting.Setting.{Setting}
 use Rattle.swreq_list_rules.specs.Settings.{facts_in, params_in, plan_in}
 use Rattle.swreq_minimal.specs.Passed.{IsLeftWithout, IsPassed, IsTakenBefore}

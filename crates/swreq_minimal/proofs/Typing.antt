@@ -2,31 +2,31 @@
 use Rattle.std.proofs.Common.{◌≡◌, ◌∙◌, refl, sym, ap, subst, ◌<◌, arith, ℕ, List, [], ◌∷◌, ◌++◌, Option, Some, None, MatchOption, Contains, length, take, drop, get_or}
 use Rattle.std.proofs.lemmas.List.{same_from_push, take-append-drop}
 use Rattle.std.proofs.lemmas.Option.{slice_get_within}
-use Rattle.swreq_param.specs.declared.ids.AssocId.{AssocId}
-use Rattle.swreq_param.specs.declared.ids.NameId.{NameId}
-use Rattle.swreq_param.specs.declared.ids.ParamId.{ParamId}
-use Rattle.swreq_param.specs.declared.ids.Step.TheVariants.{Bound, Name}
-use Rattle.swreq_param.specs.declared.ids.TermId.{TermId}
-use Rattle.swreq_param.specs.Tables.{IsOf, term_at}
-use Rattle.swreq_param.specs.Terms.{Term}
-use Rattle.swreq_param.specs.Terms.Term.{Generic, Member}
-use Rattle.swreq_derive.specs.declared.known.Params.{Params}
-use Rattle.swreq_derive.specs.Facts.{generic_params}
-use Rattle.swreq_word.specs.declared.symbols.Symbol.{Symbol}
-use Rattle.swreq_word.specs.declared.symbols.Symbol.TheVariants.{Param}
-use Rattle.swreq_word.proofs.SameSymbols.{same_members}
-use Rattle.swreq_rule.specs.declared.rules.Rule.{Rule}
-use Rattle.swreq_lemmas.proofs.Elements.{same_heads}
-use Rattle.swreq_correspondence.proofs.OneType.{one_param}
-use Rattle.swreq_symbols.specs.Vanishing.{IsFirstBehind, IsLeastBy}
-use Rattle.swreq_lexicon.specs.Lexicons.{pair}
-use Rattle.swreq_lexicon.specs.Views.{LexiconView}
-use Rattle.swreq_correspondence.specs.Symbols.{Word, name_of}
+use Rattle.swreq_machine.specs.swreq_param.declared.ids.AssocId.{AssocId}
+use Rattle.swreq_machine.specs.swreq_param.declared.ids.NameId.{NameId}
+use Rattle.swreq_machine.specs.swreq_param.declared.ids.ParamId.{ParamId}
+use Rattle.swreq_machine.specs.swreq_param.declared.ids.Step.TheVariants.{Bound, Name}
+use Rattle.swreq_machine.specs.swreq_param.declared.ids.TermId.{TermId}
+use Rattle.swreq_machine.specs.swreq_param.Tables.{IsOf, term_at}
+use Rattle.swreq_machine.specs.swreq_param.Terms.{Term}
+use Rattle.swreq_machine.specs.swreq_param.Terms.Term.{Generic, Member}
+use Rattle.swreq_machine.specs.swreq_derive.declared.known.Params.{Params}
+use Rattle.swreq_machine.specs.swreq_derive.Facts.{generic_params}
+use Rattle.swreq_homotopy.specs.swreq_word.declared.symbols.Symbol.{Symbol}
+use Rattle.swreq_homotopy.specs.swreq_word.declared.symbols.Symbol.TheVariants.{Param}
+use Rattle.swreq_homotopy.proofs.swreq_word.SameSymbols.{same_members}
+use Rattle.swreq_machine.specs.swreq_rule.declared.rules.Rule.{Rule}
+use Rattle.swreq_machine.proofs.swreq_lemmas.Elements.{same_heads}
+use Rattle.swreq_candidates.proofs.swreq_correspondence.OneType.{one_param}
+use Rattle.swreq_machine.specs.swreq_symbols.Vanishing.{IsFirstBehind, IsLeastBy}
+use Rattle.swreq_machine.specs.swreq_lexicon.Lexicons.{pair}
+use Rattle.swreq_machine.specs.swreq_lexicon.Views.{LexiconView}
+use Rattle.swreq_machine.specs.swreq_correspondence.Symbols.{Word, name_of}
 use Rattle.swreq_candidates.proofs.ReadOff.{not_empty}
-use Rattle.swreq_symbols.specs.Meaning.{symbols_of}
-use Rattle.swreq_symbols.proofs.Declared.{at_rank}
-use Rattle.swreq_symbols.proofs.LeastWords.{one_first, prefix_least}
-use Rattle.swreq_world.specs.Closed.{IsTermOf}
+use Rattle.swreq_machine.specs.swreq_symbols.Meaning.{symbols_of}
+use Rattle.swreq_machine.proofs.swreq_symbols.Declared.{at_rank}
+use Rattle.swreq_machine.proofs.swreq_symbols.LeastWords.{one_first, prefix_least}
+use Rattle.swreq_machine.specs.swreq_world.Closed.{IsTermOf}
 use Rattle.swreq_minimal.specs.Typed.{Identifies, IsMemberBehind, IsTypeBy}
 
 -- ---- words

@@ -1,38 +1,38 @@
 -- What is left of the candidates of a machine's list is its minimised list.
 use Rattle.std.proofs.Common.{subst, List, Contains, Option}
-use Rattle.swreq_param.specs.declared.ids.ParamId.{ParamId}
-use Rattle.swreq_param.specs.Tables.{Extends}
-use Rattle.swreq_param.specs.Terms.{Term}
-use Rattle.swreq_derive.specs.Derivation.{TermFacts, TermRequirement}
-use Rattle.swreq_derive.specs.Derivation.Source.{Written}
-use Rattle.swreq_derive.specs.Equivalence.{AreEquivalent}
-use Rattle.swreq_derive.specs.Facts.{generic_params}
-use Rattle.swreq_rule.specs.declared.rules.Rule.{Rule}
-use Rattle.swreq_watch.specs.declared.events.Event.{Event}
-use Rattle.swreq_complete.specs.Complete.{IsComplete}
-use Rattle.swreq_complete.specs.declared.limit.Failed.{Failed}
-use Rattle.swreq_complete.specs.declared.limit.Limits.{Limits}
-use Rattle.swreq_canonical.specs.Canonical.{IsCanonical}
-use Rattle.swreq_canonical.specs.CanonicalOrder.{IsStrictlySorted}
-use Rattle.swreq_canonical.specs.Generators.{AreEnough}
-use Rattle.swreq_canonical.specs.Minimised.{IsIndependent, IsMinimised}
-use Rattle.swreq_canonical.proofs.Agreement.{minimised_canonical, minimised_independent, minimised_same, minimised_sorted}
-use Rattle.swreq_canonical.proofs.Taking.{generator_list, generators_told}
+use Rattle.swreq_machine.specs.swreq_param.declared.ids.ParamId.{ParamId}
+use Rattle.swreq_machine.specs.swreq_param.Tables.{Extends}
+use Rattle.swreq_machine.specs.swreq_param.Terms.{Term}
+use Rattle.swreq_machine.specs.swreq_derive.Derivation.{TermFacts, TermRequirement}
+use Rattle.swreq_machine.specs.swreq_derive.Derivation.Source.{Written}
+use Rattle.swreq_machine.specs.swreq_derive.Equivalence.{AreEquivalent}
+use Rattle.swreq_machine.specs.swreq_derive.Facts.{generic_params}
+use Rattle.swreq_machine.specs.swreq_rule.declared.rules.Rule.{Rule}
+use Rattle.swreq_candidates.specs.swreq_watch.declared.events.Event.{Event}
+use Rattle.swreq_machine.specs.swreq_complete.Complete.{IsComplete}
+use Rattle.swreq_machine.specs.swreq_complete.declared.limit.Failed.{Failed}
+use Rattle.swreq_machine.specs.swreq_complete.declared.limit.Limits.{Limits}
+use Rattle.swreq_candidates.specs.swreq_canonical.Canonical.{IsCanonical}
+use Rattle.swreq_candidates.specs.swreq_canonical.CanonicalOrder.{IsStrictlySorted}
+use Rattle.swreq_candidates.specs.swreq_canonical.Generators.{AreEnough}
+use Rattle.swreq_candidates.specs.swreq_canonical.Minimised.{IsIndependent, IsMinimised}
+use Rattle.swreq_candidates.proofs.swreq_canonical.Agreement.{minimised_canonical, minimised_independent, minimised_same, minimised_sorted}
+use Rattle.swreq_candidates.proofs.swreq_canonical.Taking.{generator_list, generators_told}
 use Rattle.swreq_candidates.specs.Candidates.{IsCandidateList}
 use Rattle.swreq_candidates.specs.Completed.{IsCompleted}
 use Rattle.swreq_candidates.proofs.Completions.{enough_here, reduced_here}
-use Rattle.swreq_correspondence.specs.Symbols.{Symbols}
-use Rattle.swreq_symbols.specs.Known.{IsTextOver}
-use Rattle.swreq_symbols.specs.Meaning.{facts_of, symbols_of}
-use Rattle.swreq_world.specs.ByTable.{world_by}
-use Rattle.swreq_world.specs.Worlds.{IdWorld, TextWorld}
-use Rattle.swreq_valid.specs.Protocols.{AreRulesOf}
+use Rattle.swreq_machine.specs.swreq_correspondence.Symbols.{Symbols}
+use Rattle.swreq_machine.specs.swreq_symbols.Known.{IsTextOver}
+use Rattle.swreq_machine.specs.swreq_symbols.Meaning.{facts_of, symbols_of}
+use Rattle.swreq_machine.specs.swreq_world.ByTable.{world_by}
+use Rattle.swreq_machine.specs.swreq_world.Worlds.{IdWorld, TextWorld}
+use Rattle.swreq_machine.specs.swreq_valid.Protocols.{AreRulesOf}
 use Rattle.swreq_machine.specs.Machines.{IsMachineOf, MachineView, list_of}
-use Rattle.swreq_valid.specs.Rounds.{last_rules}
+use Rattle.swreq_machine.specs.swreq_valid.Rounds.{last_rules}
 use Rattle.swreq_minimal.specs.Passed.{IsPassed, IsPassedOf, AreMinimisedCandidates}
 use Rattle.swreq_minimal.specs.Told.{TellsFailure, TellsParts}
 use Rattle.swreq_minimal.proofs.Completing.{completed}
-use Rattle.swreq_symbols.proofs.Growing.{world_stays}
+use Rattle.swreq_machine.proofs.swreq_symbols.Growing.{world_stays}
 use Rattle.swreq_minimal.proofs.Telling.{failure_of, tells_of}
 
 -- A machine of a list over a table that grew since, and the candidates that were read off it.

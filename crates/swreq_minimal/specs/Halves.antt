@@ -1,7 +1,7 @@
 -- Rules with members more, and the spans of a list that is gone through by halves.
 use Rattle.std.specs.Prelude.{◌↔◌, ◌<◌, ◌≤◌, ◌-◌, ◌++◌, List, length, take, drop, Contains}
-use Rattle.swreq_derive.specs.declared.requirements.Requirement.{Requirement}
-use Rattle.swreq_derive.specs.Derivation.{TermRequirement}
+use Rattle.swreq_machine.specs.swreq_derive.declared.requirements.Requirement.{Requirement}
+use Rattle.swreq_machine.specs.swreq_derive.Derivation.{TermRequirement}
 use Rattle.swreq_list_rules.specs.declared.setting.Setting.{Setting}
 use Rattle.swreq_list_rules.specs.ListRules.{AreOfList, ListRulesView}
 use Rattle.swreq_list_rules.specs.Settings.{said_in}

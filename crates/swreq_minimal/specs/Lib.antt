@@ -1,3 +1,5 @@
+pub use Rattle.swreq_candidates.specs.swreq_canonical as swreq_canonical
+pub use Rattle.swreq_candidates.specs as swreq_candidates
 pub mod Typed
 pub mod Sorted
 pub mod Passed

@@ -1,10 +1,10 @@
 -- The rules of a reduced system whose left sides begin with a generic parameter.
 use Rattle.std.specs.Prelude.{◌≡◌, ℕ, ◌<◌, List, [], ◌∷◌, slice_get, Some}
-use Rattle.swreq_word.specs.declared.symbols.Symbol.TheVariants.{Param}
-use Rattle.swreq_word.specs.Least.{IsMinimal}
-use Rattle.swreq_rule.specs.declared.rules.Rule.{Rule}
-use Rattle.swreq_complete.specs.Reduced.{IsReduced}
-use Rattle.swreq_correspondence.specs.Symbols.{Word}
+use Rattle.swreq_homotopy.specs.swreq_word.declared.symbols.Symbol.TheVariants.{Param}
+use Rattle.swreq_homotopy.specs.swreq_word.Least.{IsMinimal}
+use Rattle.swreq_machine.specs.swreq_rule.declared.rules.Rule.{Rule}
+use Rattle.swreq_machine.specs.swreq_complete.Reduced.{IsReduced}
+use Rattle.swreq_machine.specs.swreq_correspondence.Symbols.{Word}
 
 -- the first symbol of the word is that of a generic parameter
 abbrev pub BeginsWithParam : Word → Type 0

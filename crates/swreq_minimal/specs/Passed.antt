@@ -1,13 +1,13 @@
 -- The lists that minimising may complete.
 use Rattle.std.specs.Prelude.{◌≡◌, ◌⊎◌, ℕ, List, [], ◌∷◌, ◌++◌, take, drop}
-use Rattle.swreq_param.specs.declared.ids.ParamId.{ParamId}
-use Rattle.swreq_derive.specs.Derivation.{Derivable, TermFacts, TermRequirement}
-use Rattle.swreq_derive.specs.Derivation.Source.{Written}
-use Rattle.swreq_derive.specs.Derivation.TermStatement.{Requires}
-use Rattle.swreq_canonical.specs.Generators.{Takes}
-use Rattle.swreq_canonical.specs.Minimised.{Leaves}
+use Rattle.swreq_machine.specs.swreq_param.declared.ids.ParamId.{ParamId}
+use Rattle.swreq_machine.specs.swreq_derive.Derivation.{Derivable, TermFacts, TermRequirement}
+use Rattle.swreq_machine.specs.swreq_derive.Derivation.Source.{Written}
+use Rattle.swreq_machine.specs.swreq_derive.Derivation.TermStatement.{Requires}
+use Rattle.swreq_candidates.specs.swreq_canonical.Generators.{Takes}
+use Rattle.swreq_candidates.specs.swreq_canonical.Minimised.{Leaves}
 use Rattle.swreq_candidates.specs.Candidates.{IsCandidateList}
-use Rattle.swreq_correspondence.specs.Symbols.{Symbols}
+use Rattle.swreq_machine.specs.swreq_correspondence.Symbols.{Symbols}
 
 -- for a candidate, those that were taken before it
 pub record IsTakenBefore (f : TermFacts) (params : List ParamId) (candidates list : List TermRequirement) : Type 0 where

@@ -1,15 +1,15 @@
 -- Where a requirement belongs among others, and the requirements of the first rules of a system.
 use Rattle.std.specs.Prelude.{◌≡◌, ◌↔◌, ◌<◌, ℕ, List, ◌∷◌, ◌++◌, Some, length, slice_get, Contains}
-use Rattle.swreq_param.specs.Terms.{Term}
-use Rattle.swreq_derive.specs.declared.known.Params.{Params}
-use Rattle.swreq_derive.specs.declared.requirements.Requirement.{Requirement}
-use Rattle.swreq_derive.specs.Derivation.{Source, TermFacts, TermRequirement}
-use Rattle.swreq_derive.specs.Facts.{requirement_of}
-use Rattle.swreq_rule.specs.declared.rules.Rule.{Rule}
-use Rattle.swreq_lexicon.specs.Views.{LexiconView}
-use Rattle.swreq_lowering.specs.ByTable.{HasIdsOf}
-use Rattle.swreq_canonical.specs.Canonical.{IsCanonical}
-use Rattle.swreq_canonical.specs.CanonicalOrder.{IsStrictlySorted, RequirementBefore}
+use Rattle.swreq_machine.specs.swreq_param.Terms.{Term}
+use Rattle.swreq_machine.specs.swreq_derive.declared.known.Params.{Params}
+use Rattle.swreq_machine.specs.swreq_derive.declared.requirements.Requirement.{Requirement}
+use Rattle.swreq_machine.specs.swreq_derive.Derivation.{Source, TermFacts, TermRequirement}
+use Rattle.swreq_machine.specs.swreq_derive.Facts.{requirement_of}
+use Rattle.swreq_machine.specs.swreq_rule.declared.rules.Rule.{Rule}
+use Rattle.swreq_machine.specs.swreq_lexicon.Views.{LexiconView}
+use Rattle.swreq_machine.specs.swreq_lowering.ByTable.{HasIdsOf}
+use Rattle.swreq_candidates.specs.swreq_canonical.Canonical.{IsCanonical}
+use Rattle.swreq_candidates.specs.swreq_canonical.CanonicalOrder.{IsStrictlySorted, RequirementBefore}
 use Rattle.swreq_minimal.specs.Typed.{IsRequirementOfRule}
 
 -- The ids of the requirements are of the table.

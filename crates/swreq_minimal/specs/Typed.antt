@@ -1,27 +1,27 @@
 -- What the rules of a machine tell of words: their types, and the requirements of rules.
 use Rattle.std.specs.Prelude.{◌≡◌, ℕ, List, [], ◌∷◌, ◌++◌, Option, MatchOption, Contains}
-use Rattle.swreq_param.specs.declared.ids.AssocId.{AssocId}
-use Rattle.swreq_param.specs.declared.ids.NameId.{NameId}
-use Rattle.swreq_param.specs.declared.ids.Step.TheVariants.{Bound, Name}
-use Rattle.swreq_param.specs.declared.ids.TermId.{TermId}
-use Rattle.swreq_param.specs.Tables.{IsOf, term_at}
-use Rattle.swreq_param.specs.Terms.{Term}
-use Rattle.swreq_param.specs.Terms.Term.{Generic, Member}
-use Rattle.swreq_derive.specs.declared.known.Params.{Params}
-use Rattle.swreq_derive.specs.declared.requirements.Requirement.{Requirement}
-use Rattle.swreq_derive.specs.Derivation.{TermRequirement}
-use Rattle.swreq_derive.specs.Derivation.TermRequirement.{Conforms, IsAnyObject, Equals}
-use Rattle.swreq_derive.specs.Facts.{generic_params, requirement_of}
-use Rattle.swreq_word.specs.declared.symbols.Symbol.{Symbol}
-use Rattle.swreq_word.specs.declared.symbols.Symbol.TheVariants.{Proto, Member as MemberSymbol, Param, Layout}
-use Rattle.swreq_rule.specs.declared.rules.Rule.{Rule}
-use Rattle.swreq_lexicon.specs.Views.{IsProtocol, LexiconView}
-use Rattle.swreq_correspondence.specs.Symbols.{IsRank, Word, name_of, proto_of}
+use Rattle.swreq_machine.specs.swreq_param.declared.ids.AssocId.{AssocId}
+use Rattle.swreq_machine.specs.swreq_param.declared.ids.NameId.{NameId}
+use Rattle.swreq_machine.specs.swreq_param.declared.ids.Step.TheVariants.{Bound, Name}
+use Rattle.swreq_machine.specs.swreq_param.declared.ids.TermId.{TermId}
+use Rattle.swreq_machine.specs.swreq_param.Tables.{IsOf, term_at}
+use Rattle.swreq_machine.specs.swreq_param.Terms.{Term}
+use Rattle.swreq_machine.specs.swreq_param.Terms.Term.{Generic, Member}
+use Rattle.swreq_machine.specs.swreq_derive.declared.known.Params.{Params}
+use Rattle.swreq_machine.specs.swreq_derive.declared.requirements.Requirement.{Requirement}
+use Rattle.swreq_machine.specs.swreq_derive.Derivation.{TermRequirement}
+use Rattle.swreq_machine.specs.swreq_derive.Derivation.TermRequirement.{Conforms, IsAnyObject, Equals}
+use Rattle.swreq_machine.specs.swreq_derive.Facts.{generic_params, requirement_of}
+use Rattle.swreq_homotopy.specs.swreq_word.declared.symbols.Symbol.{Symbol}
+use Rattle.swreq_homotopy.specs.swreq_word.declared.symbols.Symbol.TheVariants.{Proto, Member as MemberSymbol, Param, Layout}
+use Rattle.swreq_machine.specs.swreq_rule.declared.rules.Rule.{Rule}
+use Rattle.swreq_machine.specs.swreq_lexicon.Views.{IsProtocol, LexiconView}
+use Rattle.swreq_machine.specs.swreq_correspondence.Symbols.{IsRank, Word, name_of, proto_of}
 use Rattle.swreq_candidates.specs.Candidates.{IsNamed}
-use Rattle.swreq_symbols.specs.Known.{IsRequirementIn}
-use Rattle.swreq_symbols.specs.Meaning.{symbols_of}
-use Rattle.swreq_symbols.specs.Vanishing.{IsFirstBehind}
-use Rattle.swreq_map.specs.Properties.{Vanishes}
+use Rattle.swreq_machine.specs.swreq_symbols.Known.{IsRequirementIn}
+use Rattle.swreq_machine.specs.swreq_symbols.Meaning.{symbols_of}
+use Rattle.swreq_machine.specs.swreq_symbols.Vanishing.{IsFirstBehind}
+use Rattle.swreq_machine.specs.swreq_map.Properties.{Vanishes}
 
 -- After the word the symbol `[P:A]` stands for the bound member d: `[P]` vanishes there, and d is the first associated type A given there.
 abbrev pub IsMemberBehind : LexiconView → List Rule → Word → Symbol → AssocId → Type 0

@@ -1,37 +1,30 @@
 //! The candidates of a machine's list, read off the reduced system of its rules.
 ghost use Rattle.std.specs.Prelude.{◌≡◌, ◌⊎◌, ◌↔◌, ◌<◌, ℕ, List, length, slice_get, Some, Contains, IfOk, OnOk, MatchOption};
-ghost use Rattle.swreq_param.specs.Tables.{Extends};
-ghost use Rattle.swreq_derive.specs.Derivation.{Source, TermFacts, TermRequirement};
-ghost use Rattle.swreq_derive.specs.Derivation.Source.{Written};
-ghost use Rattle.swreq_derive.specs.Facts.{generic_params, requirement_of};
-ghost use Rattle.swreq_word.specs.Least.{IsMinimal};
-ghost use Rattle.swreq_complete.specs.Reduced.{IsReduced};
-ghost use Rattle.swreq_lowering.specs.ByTable.{HasIdsOf};
-ghost use Rattle.swreq_canonical.specs.Canonical.{IsCanonical};
-ghost use Rattle.swreq_canonical.specs.CanonicalOrder.{IsStrictlySorted};
-ghost use Rattle.swreq_candidates.specs.Candidates.{IsCandidateList};
-ghost use Rattle.swreq_candidates.specs.Completed.{IsCompleted};
-ghost use Rattle.swreq_lexicon.specs.Views.{LexiconView};
-ghost use Rattle.swreq_symbols.specs.Known.{IsRequirementIn, IsTextOver};
-ghost use Rattle.swreq_symbols.specs.Meaning.{facts_of, symbols_of};
-ghost use Rattle.swreq_symbols.specs.Vanishing.{IsLeastBy, Links};
-ghost use Rattle.swreq_world.specs.ByTable.{world_by};
+ghost use Rattle.swreq_machine.specs.swreq_param.Tables.{Extends};
+ghost use Rattle.swreq_machine.specs.swreq_derive.{Derivation.{Source, TermFacts, TermRequirement}, Derivation.Source.{Written}, Facts.{generic_params, requirement_of}};
+ghost use Rattle.swreq_homotopy.specs.swreq_word.Least.{IsMinimal};
+ghost use Rattle.swreq_machine.specs.swreq_complete.Reduced.{IsReduced};
+ghost use Rattle.swreq_machine.specs.swreq_lowering.ByTable.{HasIdsOf};
+ghost use Rattle.swreq_candidates.specs.swreq_canonical.{Canonical.{IsCanonical}, CanonicalOrder.{IsStrictlySorted}};
+ghost use Rattle.swreq_candidates.specs.{Candidates.{IsCandidateList}, Completed.{IsCompleted}};
+ghost use Rattle.swreq_machine.specs.swreq_lexicon.Views.{LexiconView};
+ghost use Rattle.swreq_machine.specs.swreq_symbols.{Known.{IsRequirementIn, IsTextOver}, Meaning.{facts_of, symbols_of}, Vanishing.{IsLeastBy, Links}};
+ghost use Rattle.swreq_machine.specs.swreq_world.ByTable.{world_by};
 ghost use Rattle.swreq_machine.specs.Machines.{IsMachineOf};
-ghost use Rattle.swreq_valid.specs.Plans.{AreKnown, listed};
-ghost use Rattle.swreq_minimal.specs.Sorted.{AreHere, BelongsAt, IsListOfFirstRules};
-ghost use Rattle.swreq_minimal.specs.Typed.{IsRequirementOfRule};
+ghost use Rattle.swreq_machine.specs.swreq_valid.Plans.{AreKnown, listed};
+ghost use Rattle.swreq_minimal.specs.{Sorted.{AreHere, BelongsAt, IsListOfFirstRules}, Typed.{IsRequirementOfRule}};
 
 use crate::of_params::of_params;
 use crate::order::{is_before, is_same};
 use crate::reader::Reader;
 use crate::rule_requirement::rule_requirement;
 use std::alloc::{AllocError, Global};
-use swreq_complete::CompleteRules;
-use swreq_derive::Requirement;
 use swreq_machine::Machine;
-use swreq_param::ParamTable;
-use swreq_rule::Rule;
-use swreq_world::World;
+use swreq_machine::complete::CompleteRules;
+use swreq_machine::derive::Requirement;
+use swreq_machine::param::ParamTable;
+use swreq_machine::rule::Rule;
+use swreq_machine::world::World;
 
 /// The place at which a requirement belongs, or None where it is there.
 fn place_of(table: &ParamTable, found: &[Requirement], r: Requirement) -> Option<usize>

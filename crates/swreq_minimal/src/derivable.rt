@@ -1,17 +1,16 @@
 //! Whether a requirement is derivable from a list: by its rules, by evidence, or by its machine.
 ghost use Rattle.std.specs.Prelude.{◌↔◌, IfOk, IfSome, IsTrue};
 ghost use Rattle.swreq_list_rules.specs.Settings.{AreKnownIn, IsSetting};
-ghost use Rattle.swreq_symbols.specs.Known.{IsRequirementIn};
-ghost use Rattle.swreq_minimal.specs.Lists.{AreRulesFor, IsDerivableFrom};
-ghost use Rattle.swreq_minimal.specs.Told.{TellsOfList};
+ghost use Rattle.swreq_machine.specs.swreq_symbols.Known.{IsRequirementIn};
+ghost use Rattle.swreq_minimal.specs.{Lists.{AreRulesFor, IsDerivableFrom}, Told.{TellsOfList}};
 
 use crate::evidence::is_evident;
 use std::alloc::Global;
-use swreq_complete::Failed;
-use swreq_derive::Requirement;
 use swreq_list_rules::{ListRules, Setting, is_derivable_by};
+use swreq_machine::complete::Failed;
 use swreq_machine::core;
-use swreq_watch::Watch;
+use swreq_machine::derive::Requirement;
+use swreq_machine::watch::Watch;
 
 /// Whether a requirement is derivable from a list, as the machine of the list tells.
 fn is_derivable_by_machine<W: Watch>(

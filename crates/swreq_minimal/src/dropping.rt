@@ -1,21 +1,17 @@
 //! What is left of generators, where from the last to the first each is dropped that is derivable from the others.
 ghost use Rattle.std.specs.Prelude.{◌≡◌, ◌<◌, ◌≤◌, [], ◌∷◌, ◌++◌, List, length, drop, remove, suc, take, IfOk, IfSome, OnOk};
-ghost use Rattle.swreq_derive.specs.declared.requirements.Requirement.{Requirement};
-ghost use Rattle.swreq_derive.specs.Derivation.{TermRequirement};
-ghost use Rattle.swreq_canonical.specs.Minimised.{Leaves};
+ghost use Rattle.swreq_machine.specs.swreq_derive.{declared.requirements.Requirement.{Requirement}, Derivation.{TermRequirement}};
+ghost use Rattle.swreq_candidates.specs.swreq_canonical.Minimised.{Leaves};
 ghost use Rattle.swreq_list_rules.specs.Settings.{AreKnownIn, IsSetting, facts_in, params_in, said_in};
-ghost use Rattle.swreq_minimal.specs.Halves.{AreOutsideBoth, IsPartOf, IsSpanOf, outside_span};
-ghost use Rattle.swreq_minimal.specs.Lists.{AreRulesFor, GoesThrough, TellsWithout};
-ghost use Rattle.swreq_minimal.specs.Passed.{IsLastNeeded, IsLeftWithout};
-ghost use Rattle.swreq_minimal.specs.Told.{Tells, TellsOfList};
+ghost use Rattle.swreq_minimal.specs.{Halves.{AreOutsideBoth, IsPartOf, IsSpanOf, outside_span}, Lists.{AreRulesFor, GoesThrough, TellsWithout}, Passed.{IsLastNeeded, IsLeftWithout}, Told.{Tells, TellsOfList}};
 
 use crate::derivable::is_derivable;
 use crate::extending::{cloned, extended_if_any, rules_of};
 use std::alloc::{AllocError, Global};
-use swreq_complete::Failed;
-use swreq_derive::Requirement;
 use swreq_list_rules::{ListRules, Setting};
-use swreq_watch::Watch;
+use swreq_machine::complete::Failed;
+use swreq_machine::derive::Requirement;
+use swreq_machine::watch::Watch;
 
 /// Drops the requirement at a place, if it is derivable from the others, of which these are the rules where there are any.
 fn drop_at<W: Watch>(

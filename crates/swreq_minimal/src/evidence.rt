@@ -1,39 +1,32 @@
 //! Evidence that a requirement follows from a list, found without completing it.
 ghost use Rattle.std.specs.Prelude.{◌≡◌, ◌⊎◌, ◌<◌, ◌^◌, ◌-◌, ◌++◌, ◌∷◌, ⊤, ℕ, [], IfOk, IsTrue, MatchOption, OnOk, length};
-ghost use Rattle.swreq_derive.specs.Derivation.{Derivable};
-ghost use Rattle.swreq_derive.specs.Derivation.Source.{Written};
-ghost use Rattle.swreq_derive.specs.Derivation.TermStatement.{Requires};
-ghost use Rattle.swreq_derive.specs.Facts.{requirement_of};
-ghost use Rattle.swreq_word.specs.Relations.{Linked};
-ghost use Rattle.swreq_rule.specs.declared.rules.Rule.{Rule};
-ghost use Rattle.swreq_rule.specs.Steps.{Step};
-ghost use Rattle.swreq_pair.specs.Pairs.{HasPair, IsNumberOf};
+ghost use Rattle.swreq_machine.specs.swreq_derive.{Derivation.{Derivable}, Derivation.Source.{Written}, Derivation.TermStatement.{Requires}, Facts.{requirement_of}};
+ghost use Rattle.swreq_homotopy.specs.swreq_word.Relations.{Linked};
+ghost use Rattle.swreq_machine.specs.swreq_rule.{declared.rules.Rule.{Rule}, Steps.{Step}};
+ghost use Rattle.swreq_homotopy.specs.swreq_pair.Pairs.{HasPair, IsNumberOf};
 ghost use Rattle.swreq_homotopy.specs.Evidence.{AreLoops, IsMarked};
 ghost use Rattle.swreq_candidates.specs.Evidence.{AreRulesOfRest};
-ghost use Rattle.swreq_symbols.specs.Known.{IsRequirementIn, IsTextOver};
-ghost use Rattle.swreq_symbols.specs.Meaning.{facts_of, symbols_of};
-ghost use Rattle.swreq_world.specs.ByTable.{world_by};
-ghost use Rattle.swreq_valid.specs.Protocols.{AreRulesOf};
-ghost use Rattle.swreq_valid.specs.Plans.{AreKnown, listed};
-ghost use Rattle.swreq_valid.specs.Rounds.{last_rules};
+ghost use Rattle.swreq_machine.specs.swreq_symbols.{Known.{IsRequirementIn, IsTextOver}, Meaning.{facts_of, symbols_of}};
+ghost use Rattle.swreq_machine.specs.swreq_world.ByTable.{world_by};
+ghost use Rattle.swreq_machine.specs.swreq_valid.{Protocols.{AreRulesOf}, Plans.{AreKnown, listed}, Rounds.{last_rules}};
 ghost use Rattle.swreq_minimal.specs.Evident.{HasSides, IsOfEquation, LinkLast};
 ghost use Rattle.swreq_list_rules.specs.Settings.{IsSetting, facts_in, params_in};
 
 use crate::plain::{are_plain, has_plain_types};
 use std::alloc::{AllocError, Global};
 use std::cmp::Ordering;
-use swreq_derive::Requirement;
 use swreq_homotopy::laws::evidence_links;
 use swreq_homotopy::{loop_of_pair, redundant};
 use swreq_list_rules::Setting;
-use swreq_pair::{Pair, pairs_up_to};
-use swreq_param::ParamTable;
-use swreq_path::Loop;
-use swreq_rule::{Birth, Place, Rule};
-use swreq_symbols::equation;
-use swreq_valid::Protocols;
-use swreq_word::{Word, compare};
-use swreq_world::World;
+use swreq_machine::derive::Requirement;
+use swreq_machine::pair::{Pair, pairs_up_to};
+use swreq_machine::param::ParamTable;
+use swreq_machine::path::Loop;
+use swreq_machine::rule::{Birth, Place, Rule};
+use swreq_machine::symbols::equation;
+use swreq_machine::valid::Protocols;
+use swreq_machine::word::{Word, compare};
+use swreq_machine::world::World;
 
 // ---- rules of equations
 

@@ -1,15 +1,12 @@
 //! The rules of a list that is extended by members.
-ghost use Rattle.std.specs.Prelude.{◌≡◌, IfOk, IfSome, Some};
-ghost use Rattle.std.specs.Borrow.{Bor};
-ghost use Rattle.swreq_list_rules.specs.ListRules.{ListRulesView};
-ghost use Rattle.swreq_list_rules.specs.Settings.{AreKnownIn, IsSetting};
-ghost use Rattle.swreq_minimal.specs.Halves.{AreGrownBy};
-ghost use Rattle.swreq_minimal.specs.Lists.{AreRulesFor};
+ghost use Rattle.std.specs.{Prelude.{◌≡◌, IfOk, IfSome, Some}, Borrow.{Bor}};
+ghost use Rattle.swreq_list_rules.specs.{ListRules.{ListRulesView}, Settings.{AreKnownIn, IsSetting}};
+ghost use Rattle.swreq_minimal.specs.{Halves.{AreGrownBy}, Lists.{AreRulesFor}};
 
 use std::alloc::{AllocError, Global};
-use swreq_complete::Failed;
-use swreq_derive::Requirement;
 use swreq_list_rules::{ListRules, Setting};
+use swreq_machine::complete::Failed;
+use swreq_machine::derive::Requirement;
 
 /// The rules of a list with members more, or None where a completion passes a limit.
 fn extended<'b>(

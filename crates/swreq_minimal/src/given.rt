@@ -1,16 +1,16 @@
 //! Which bound member a symbol stands for after a word.
 ghost use Rattle.std.specs.Prelude.{◌+◌, ◌≤◌, length, vec_capacity, MatchOption};
-ghost use Rattle.swreq_param.specs.declared.ids.AssocId.{AssocId};
-ghost use Rattle.swreq_word.specs.declared.symbols.Symbol.TheVariants.{Member as MemberSymbol};
-ghost use Rattle.swreq_symbols.specs.Vanishing.{IsLeastBy};
+ghost use Rattle.swreq_machine.specs.swreq_param.declared.ids.AssocId.{AssocId};
+ghost use Rattle.swreq_homotopy.specs.swreq_word.declared.symbols.Symbol.TheVariants.{Member as MemberSymbol};
+ghost use Rattle.swreq_machine.specs.swreq_symbols.Vanishing.{IsLeastBy};
 ghost use Rattle.swreq_minimal.specs.Typed.{IsMemberBehind};
 
-use swreq_complete::CompleteRules;
-use swreq_map::vanishes;
-use swreq_param::AssocId;
-use swreq_symbols::first_behind;
-use swreq_word::Symbol;
-use swreq_world::World;
+use swreq_machine::complete::CompleteRules;
+use swreq_machine::map::vanishes;
+use swreq_machine::param::AssocId;
+use swreq_machine::symbols::first_behind;
+use swreq_machine::word::Symbol;
+use swreq_machine::world::World;
 
 /// The bound member for which the member symbol of this rank stands after the word, or None where it stands for none.
 fn member_at(

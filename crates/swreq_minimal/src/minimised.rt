@@ -1,37 +1,28 @@
 //! The minimised list of a machine's list.
 ghost use Rattle.std.specs.Prelude.{◌≡◌, List, Contains, IfErr, IfOk};
-ghost use Rattle.swreq_param.specs.Tables.{Extends};
-ghost use Rattle.swreq_derive.specs.Derivation.{TermRequirement};
-ghost use Rattle.swreq_derive.specs.Derivation.Source.{Written};
-ghost use Rattle.swreq_derive.specs.Equivalence.{AreEquivalent};
-ghost use Rattle.swreq_derive.specs.Facts.{generic_params};
-ghost use Rattle.swreq_complete.specs.Limits.{AreInRange};
-ghost use Rattle.swreq_canonical.specs.Canonical.{IsCanonical};
-ghost use Rattle.swreq_canonical.specs.CanonicalOrder.{IsStrictlySorted};
-ghost use Rattle.swreq_canonical.specs.Minimised.{IsIndependent, IsMinimised};
-ghost use Rattle.swreq_symbols.specs.Known.{IsTextOver};
-ghost use Rattle.swreq_symbols.specs.Meaning.{facts_of, symbols_of};
-ghost use Rattle.swreq_world.specs.ByTable.{world_by};
-ghost use Rattle.swreq_valid.specs.Protocols.{AreRulesOf};
+ghost use Rattle.swreq_machine.specs.swreq_param.Tables.{Extends};
+ghost use Rattle.swreq_machine.specs.swreq_derive.{Derivation.{TermRequirement}, Derivation.Source.{Written}, Equivalence.{AreEquivalent}, Facts.{generic_params}};
+ghost use Rattle.swreq_machine.specs.swreq_complete.Limits.{AreInRange};
+ghost use Rattle.swreq_candidates.specs.swreq_canonical.{Canonical.{IsCanonical}, CanonicalOrder.{IsStrictlySorted}, Minimised.{IsIndependent, IsMinimised}};
+ghost use Rattle.swreq_machine.specs.swreq_symbols.{Known.{IsTextOver}, Meaning.{facts_of, symbols_of}};
+ghost use Rattle.swreq_machine.specs.swreq_world.ByTable.{world_by};
+ghost use Rattle.swreq_machine.specs.swreq_valid.{Protocols.{AreRulesOf}, Plans.{AreKnown, listed}, Rounds.{last_rules}};
 ghost use Rattle.swreq_machine.specs.Machines.{IsMachineOf, list_of};
-ghost use Rattle.swreq_valid.specs.Plans.{AreKnown, listed};
-ghost use Rattle.swreq_valid.specs.Rounds.{last_rules};
 ghost use Rattle.swreq_list_rules.specs.Settings.{AreKnownIn, IsSetting, facts_in, params_in, said_in};
-ghost use Rattle.swreq_minimal.specs.Passed.{AreMinimisedCandidates, IsPassed, IsPassedOf};
-ghost use Rattle.swreq_minimal.specs.Told.{Tells, TellsFailure, TellsParts};
+ghost use Rattle.swreq_minimal.specs.{Passed.{AreMinimisedCandidates, IsPassed, IsPassedOf}, Told.{Tells, TellsFailure, TellsParts}};
 
 use crate::candidates::candidates;
 use crate::dropping::drop_derivable;
 use crate::taking::generators;
 use std::alloc::Global;
-use swreq_complete::{Failed, Limits};
-use swreq_derive::Requirement;
 use swreq_list_rules::Setting;
 use swreq_machine::Machine;
-use swreq_param::ParamTable;
-use swreq_valid::Protocols;
-use swreq_watch::Watch;
-use swreq_world::World;
+use swreq_machine::complete::{Failed, Limits};
+use swreq_machine::derive::Requirement;
+use swreq_machine::param::ParamTable;
+use swreq_machine::valid::Protocols;
+use swreq_machine::watch::Watch;
+use swreq_machine::world::World;
 
 /// The minimised candidates: what is left of them.
 fn minimised_candidates<W: Watch>(

@@ -1,15 +1,14 @@
 //! The rules of the reduced system that can say a requirement.
-ghost use Rattle.std.specs.Prelude.{◌+◌, ◌<◌, ◌∷◌, IfOk, OnOk, length};
-ghost use Rattle.std.specs.Bool.{Decides};
-ghost use Rattle.swreq_complete.specs.Complete.{IsComplete};
-ghost use Rattle.swreq_correspondence.specs.Symbols.{Word};
-ghost use Rattle.swreq_symbols.specs.Vanishing.{Links};
+ghost use Rattle.std.specs.{Prelude.{◌+◌, ◌<◌, ◌∷◌, IfOk, OnOk, length}, Bool.{Decides}};
+ghost use Rattle.swreq_machine.specs.swreq_complete.Complete.{IsComplete};
+ghost use Rattle.swreq_machine.specs.swreq_correspondence.Symbols.{Word};
+ghost use Rattle.swreq_machine.specs.swreq_symbols.Vanishing.{Links};
 ghost use Rattle.swreq_minimal.specs.OfParams.{AreOfParams, BeginsWithParam};
 
 use std::alloc::{AllocError, Global};
-use swreq_complete::CompleteRules;
-use swreq_rule::Rule;
-use swreq_word::Symbol;
+use swreq_machine::complete::CompleteRules;
+use swreq_machine::rule::Rule;
+use swreq_machine::word::Symbol;
 
 /// Whether the symbol is that of a generic parameter.
 fn is_param(symbol: Symbol) -> bool

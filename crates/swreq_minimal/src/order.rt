@@ -1,15 +1,14 @@
 //! The order of canonical requirements.
 ghost use Rattle.std.specs.Prelude.{◌≡◌, ◌↔◌, IsTrue, List};
-ghost use Rattle.swreq_param.specs.Tables.{IsOf, term_at};
-ghost use Rattle.swreq_param.specs.Terms.{Term};
-ghost use Rattle.swreq_derive.specs.Facts.{requirement_of};
-ghost use Rattle.swreq_lowering.specs.ByTable.{HasIdsOf};
-ghost use Rattle.swreq_canonical.specs.Canonical as canonical;
-ghost use Rattle.swreq_canonical.specs.CanonicalOrder.{KindBefore, RequirementBefore};
+ghost use Rattle.swreq_machine.specs.swreq_param.{Tables.{IsOf, term_at}, Terms.{Term}};
+ghost use Rattle.swreq_machine.specs.swreq_derive.Facts.{requirement_of};
+ghost use Rattle.swreq_machine.specs.swreq_lowering.ByTable.{HasIdsOf};
+ghost use Rattle.swreq_candidates.specs.swreq_canonical.Canonical as canonical;
+ghost use Rattle.swreq_candidates.specs.swreq_canonical.CanonicalOrder.{KindBefore, RequirementBefore};
 
 use std::cmp::Ordering;
-use swreq_derive::Requirement;
-use swreq_param::{ParamTable, TermId};
+use swreq_machine::derive::Requirement;
+use swreq_machine::param::{ParamTable, TermId};
 
 /// The principal type of a requirement.
 fn principal(r: Requirement) -> TermId

@@ -1,25 +1,16 @@
 //! Type parameters that are plain in a list.
 ghost use Rattle.std.specs.Prelude.{◌≡◌, ◌<◌, Contains, IsTrue, List, length};
-ghost use Rattle.swreq_param.specs.declared.ids.ParamId.{ParamId};
-ghost use Rattle.swreq_param.specs.declared.ids.ProtoId.{ProtoId};
-ghost use Rattle.swreq_param.specs.declared.ids.Step.TheVariants.{Bound};
-ghost use Rattle.swreq_param.specs.Tables.{term_at};
-ghost use Rattle.swreq_param.specs.Terms.{Term};
-ghost use Rattle.swreq_param.specs.Terms.Term.{Member};
-ghost use Rattle.swreq_derive.specs.Derivation.TermRequirement.{Conforms};
-ghost use Rattle.swreq_derive.specs.Facts.{generic_params, requirement_of};
-ghost use Rattle.swreq_derive.specs.Inheritance.{LeadsTo};
-ghost use Rattle.swreq_lexicon.specs.Views.{IsProtocol};
+ghost use Rattle.swreq_machine.specs.swreq_param.{declared.ids.ParamId.{ParamId}, declared.ids.ProtoId.{ProtoId}, declared.ids.Step.TheVariants.{Bound}, Tables.{term_at}, Terms.{Term}, Terms.Term.{Member}};
+ghost use Rattle.swreq_machine.specs.swreq_derive.{Derivation.TermRequirement.{Conforms}, Facts.{generic_params, requirement_of}, Inheritance.{LeadsTo}};
+ghost use Rattle.swreq_machine.specs.swreq_lexicon.Views.{IsProtocol};
 ghost use Rattle.swreq_candidates.specs.Evidence.{HasPlainTypes, IsPlain, IsPlainIn};
-ghost use Rattle.swreq_symbols.specs.Known.{IsRequirementIn, IsTextOver, IsTypeIn};
-ghost use Rattle.swreq_symbols.specs.Meaning.{facts_of};
-ghost use Rattle.swreq_world.specs.ByTable.{world_by};
-ghost use Rattle.swreq_world.specs.Closed.{IsClosed, IsStepOf};
-ghost use Rattle.swreq_valid.specs.Plans.{AreKnown, listed};
+ghost use Rattle.swreq_machine.specs.swreq_symbols.{Known.{IsRequirementIn, IsTextOver, IsTypeIn}, Meaning.{facts_of}};
+ghost use Rattle.swreq_machine.specs.swreq_world.{ByTable.{world_by}, Closed.{IsClosed, IsStepOf}};
+ghost use Rattle.swreq_machine.specs.swreq_valid.Plans.{AreKnown, listed};
 
-use swreq_derive::{Params, Requirement};
-use swreq_param::{AssocId, ParamTable, ProtoId, Step, TermId};
-use swreq_world::World;
+use swreq_machine::derive::{Params, Requirement};
+use swreq_machine::param::{AssocId, ParamTable, ProtoId, Step, TermId};
+use swreq_machine::world::World;
 
 /// Whether a protocol is p, or inherits it.
 fn leads(world: &World, q: ProtoId, p: ProtoId) -> bool

@@ -1,8 +1,8 @@
 //! By what the words of a signature's rules are read.
 use std::alloc::Global;
-use swreq_complete::CompleteRules;
-use swreq_derive::Params;
-use swreq_world::World;
+use swreq_machine::complete::CompleteRules;
+use swreq_machine::derive::Params;
+use swreq_machine::world::World;
 
 /// By what the words of a signature's rules are read: its text, the rules, and its generic parameters.
 #[derive(Clone, Copy)]

@@ -1,32 +1,22 @@
 //! The requirement of a rule of a reduced system.
 ghost use Rattle.std.specs.Prelude.{◌≡◌, ◌⊎◌, ◌+◌, ◌≤◌, ◌<◌, ◌∷◌, ◌++◌, [], length, vec_capacity, List, IfOk, MatchOption};
-ghost use Rattle.swreq_param.specs.declared.ids.AssocId.{AssocId};
-ghost use Rattle.swreq_param.specs.declared.ids.NameId.{NameId};
-ghost use Rattle.swreq_param.specs.declared.ids.ProtoId.{ProtoId};
-ghost use Rattle.swreq_param.specs.declared.ids.Step.TheVariants.{Bound};
-ghost use Rattle.swreq_param.specs.Tables.{Extends, IsOf, term_at};
-ghost use Rattle.swreq_param.specs.Terms.{Term};
-ghost use Rattle.swreq_param.specs.Terms.Term.{Member};
-ghost use Rattle.swreq_derive.specs.declared.known.Params.{Params};
-ghost use Rattle.swreq_derive.specs.declared.requirements.Requirement.TheVariants.{Conf, Layout as LayoutOf, Same};
-ghost use Rattle.swreq_word.specs.declared.symbols.Symbol.{Symbol};
-ghost use Rattle.swreq_word.specs.declared.symbols.Symbol.TheVariants.{Proto, Layout};
-ghost use Rattle.swreq_word.specs.Least.{IsMinimal};
+ghost use Rattle.swreq_machine.specs.swreq_param.{declared.ids.AssocId.{AssocId}, declared.ids.NameId.{NameId}, declared.ids.ProtoId.{ProtoId}, declared.ids.Step.TheVariants.{Bound}, Tables.{Extends, IsOf, term_at}, Terms.{Term}, Terms.Term.{Member}};
+ghost use Rattle.swreq_machine.specs.swreq_derive.{declared.known.Params.{Params}, declared.requirements.Requirement.TheVariants.{Conf, Layout as LayoutOf, Same}};
+ghost use Rattle.swreq_homotopy.specs.swreq_word.{declared.symbols.Symbol.{Symbol}, declared.symbols.Symbol.TheVariants.{Proto, Layout}, Least.{IsMinimal}};
 ghost use Rattle.swreq_candidates.specs.Candidates.{IsNamed};
-ghost use Rattle.swreq_lexicon.specs.Views.{IsProtocol};
-ghost use Rattle.swreq_symbols.specs.Meaning.{symbols_of};
-ghost use Rattle.swreq_symbols.specs.Vanishing.{IsFirstBehind, IsLeastBy, Links};
+ghost use Rattle.swreq_machine.specs.swreq_lexicon.Views.{IsProtocol};
+ghost use Rattle.swreq_machine.specs.swreq_symbols.{Meaning.{symbols_of}, Vanishing.{IsFirstBehind, IsLeastBy, Links}};
 ghost use Rattle.swreq_minimal.specs.Typed.{Finds, Identifies, IsTypeBy, IsRequirementOfRule, IsSubjectOf};
 
 use crate::reader::Reader;
 use crate::typed::{bound, symbol_type, type_of};
 use std::alloc::AllocError;
-use swreq_complete::CompleteRules;
-use swreq_derive::Requirement;
-use swreq_param::{AssocId, NameId, ParamTable, ProtoId, TermId};
-use swreq_symbols::{first_behind, name_at};
-use swreq_word::{Symbol, are_same};
-use swreq_world::World;
+use swreq_machine::complete::CompleteRules;
+use swreq_machine::derive::Requirement;
+use swreq_machine::param::{AssocId, NameId, ParamTable, ProtoId, TermId};
+use swreq_machine::symbols::{first_behind, name_at};
+use swreq_machine::word::{Symbol, are_same};
+use swreq_machine::world::World;
 
 /// The name for which a symbol stands, or None where it stands for none.
 fn name_of(world: &World, symbol: Symbol) -> Option<NameId>

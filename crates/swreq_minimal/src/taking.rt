@@ -1,21 +1,18 @@
 //! The generators among candidates: those that are not derivable from those that were taken before them.
 ghost use Rattle.std.specs.Prelude.{◌≡◌, [], ◌∷◌, ◌++◌, List, IfOk, IfSome, OnOk};
-ghost use Rattle.swreq_derive.specs.Derivation.{TermRequirement};
-ghost use Rattle.swreq_derive.specs.Facts.{requirement_of};
-ghost use Rattle.swreq_canonical.specs.Generators.{Takes};
+ghost use Rattle.swreq_machine.specs.swreq_derive.{Derivation.{TermRequirement}, Facts.{requirement_of}};
+ghost use Rattle.swreq_candidates.specs.swreq_canonical.Generators.{Takes};
 ghost use Rattle.swreq_list_rules.specs.Settings.{AreKnownIn, IsSetting, facts_in, params_in, said_in};
-ghost use Rattle.swreq_symbols.specs.Known.{IsRequirementIn};
-ghost use Rattle.swreq_minimal.specs.Lists.{AreRulesFor};
-ghost use Rattle.swreq_minimal.specs.Passed.{IsTakenBefore};
-ghost use Rattle.swreq_minimal.specs.Told.{Tells, TellsOfList};
+ghost use Rattle.swreq_machine.specs.swreq_symbols.Known.{IsRequirementIn};
+ghost use Rattle.swreq_minimal.specs.{Lists.{AreRulesFor}, Passed.{IsTakenBefore}, Told.{Tells, TellsOfList}};
 
 use crate::derivable::is_derivable;
 use crate::extending::{extended_if_any, rules_of};
 use std::alloc::{AllocError, Global};
-use swreq_complete::Failed;
-use swreq_derive::Requirement;
 use swreq_list_rules::{ListRules, Setting};
-use swreq_watch::Watch;
+use swreq_machine::complete::Failed;
+use swreq_machine::derive::Requirement;
+use swreq_machine::watch::Watch;
 
 /// Takes a candidate, and gives the rules of the list with it, where there are any of the list without it.
 fn take_candidate<'b>(

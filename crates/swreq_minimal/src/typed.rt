@@ -1,22 +1,19 @@
 //! The type of a word, as rules tell it.
 ghost use Rattle.std.specs.Prelude.{◌≡◌, ◌+◌, ◌≤◌, ◌<◌, ◌∷◌, ◌++◌, [], length, take, vec_capacity, List, IfOk, MatchOption};
-ghost use Rattle.swreq_param.specs.declared.ids.AssocId.{AssocId};
-ghost use Rattle.swreq_param.specs.declared.ids.Step.TheVariants.{Bound};
-ghost use Rattle.swreq_param.specs.Tables.{Extends, IsOf, term_at};
-ghost use Rattle.swreq_param.specs.Terms.Term.{Member};
-ghost use Rattle.swreq_derive.specs.declared.known.Params.{Params};
-ghost use Rattle.swreq_word.specs.declared.symbols.Symbol.TheVariants.{Param};
-ghost use Rattle.swreq_rule.specs.declared.rules.Rule.{Rule};
-ghost use Rattle.swreq_lexicon.specs.Views.{LexiconView};
-ghost use Rattle.swreq_symbols.specs.Vanishing.{IsLeastBy};
+ghost use Rattle.swreq_machine.specs.swreq_param.{declared.ids.AssocId.{AssocId}, declared.ids.Step.TheVariants.{Bound}, Tables.{Extends, IsOf, term_at}, Terms.Term.{Member}};
+ghost use Rattle.swreq_machine.specs.swreq_derive.declared.known.Params.{Params};
+ghost use Rattle.swreq_homotopy.specs.swreq_word.declared.symbols.Symbol.TheVariants.{Param};
+ghost use Rattle.swreq_machine.specs.swreq_rule.declared.rules.Rule.{Rule};
+ghost use Rattle.swreq_machine.specs.swreq_lexicon.Views.{LexiconView};
+ghost use Rattle.swreq_machine.specs.swreq_symbols.Vanishing.{IsLeastBy};
 ghost use Rattle.swreq_minimal.specs.Typed.{Identifies, IsMemberBehind, IsTypeBy};
 
 use crate::given::member_behind;
 use crate::reader::Reader;
 use std::alloc::AllocError;
-use swreq_derive::Params;
-use swreq_param::{AssocId, ParamId, ParamTable, Step, TermId};
-use swreq_word::Symbol;
+use swreq_machine::derive::Params;
+use swreq_machine::param::{AssocId, ParamId, ParamTable, Step, TermId};
+use swreq_machine::word::Symbol;
 
 /// The type of the word of a generic parameter's symbol, or None where the generic parameter is none of these.
 fn generic(params: Params, table: &mut ParamTable, g: ParamId) -> Result<Option<TermId>, AllocError>

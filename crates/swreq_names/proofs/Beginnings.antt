@@ -6,7 +6,7 @@ use Rattle.std.proofs.lemmas.Bool.{cases_eq, cases_lt, or_cases, or_left, or_rig
 use Rattle.std.proofs.lemmas.List.{get_or_past}
 use Rattle.std.proofs.lemmas.List.Elements.{Contains-append_right}
 use Rattle.std.proofs.lemmas.Slice.Eq.{bytes_eq-Decides}
-use Rattle.swreq_lemmas.proofs.Members.{no_member}
+use Rattle.swreq_rank.proofs.swreq_lemmas.Members.{no_member}
 use Rattle.swreq_rank.proofs.Tests.{same_bool, some_passes, passes}
 use Rattle.swreq_names.specs.declared.directory.Declaration.{Declaration}
 use Rattle.swreq_names.specs.Spaces.{is_declared, any_below}

@@ -5,8 +5,8 @@ use Rattle.std.proofs.lemmas.List.{get_or_past, take_all}
 use Rattle.std.proofs.lemmas.Cmp.{nat_list_cmp_total}
 use Rattle.std.proofs.lemmas.Option.{slice_get_within, get_or_from_slice_get, same_Some}
 use Rattle.std.proofs.lemmas.List.Elements.{Contains-append_left, Contains-append_right, Contains-push, Contains-push_cases}
-use Rattle.swreq_lemmas.proofs.Members.{no_member}
-use Rattle.swreq_lemmas.proofs.Numbers.{below}
+use Rattle.swreq_rank.proofs.swreq_lemmas.Members.{no_member}
+use Rattle.swreq_rank.proofs.swreq_lemmas.Numbers.{below}
 use Rattle.swreq_rank.specs.Ranks.{bytes_cmp}
 use Rattle.swreq_rank.proofs.Pushed.{pushed, with_item}
 use Rattle.swreq_rank.proofs.Rising.{IsRising, one_place}

@@ -52,7 +52,7 @@ found_below (x ∷ xs) name i k e = by (bytes_eq name x) e (found_below xs name 
     by true f below = let s = some_number i k f in omega (arith, s)
     by false f below = let l = below f in omega (arith, l)
 
-placed_below : (ds : List Declaration) (name : List ℕ) (k : ℕ) → place ds name ≡ Some k → k < length ds
+pub placed_below : (ds : List Declaration) (name : List ℕ) (k : ℕ) → place ds name ≡ Some k → k < length ds
 placed_below ds name k e =
     let below = found_below (names_of ds) name 0 k e in
     let size = length-map ds (λ (d : Declaration). d.name) in

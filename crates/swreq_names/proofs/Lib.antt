@@ -1,3 +1,5 @@
+pub use Rattle.swreq_rank.proofs.swreq_lemmas as swreq_lemmas
+pub use Rattle.swreq_rank.proofs as swreq_rank
 pub mod Firsts
 pub mod Pieces
 pub mod Declaring

@@ -4,7 +4,7 @@ use Rattle.std.specs.List.{flat_map}
 use Rattle.std.proofs.lemmas.List.{take_more, map-append}
 use Rattle.std.proofs.lemmas.List.Concat.{flat_map-append}
 use Rattle.std.proofs.lemmas.List.Elements.{Contains-append_left, Contains-append_right, Contains-append_cases}
-use Rattle.swreq_lemmas.proofs.Members.{no_member, first_member, later_member, member_cases}
+use Rattle.swreq_rank.proofs.swreq_lemmas.Members.{no_member, first_member, later_member, member_cases}
 
 pub pieces_more : {A B : Type 0} (g : A → List B) (xs : List A) (i : ℕ) (x : A) (start into new : List B)
     → i < length xs → x ≡ get_or xs i x

@@ -1,10 +1,11 @@
 -- The names in the parts of a text are names among its tokens.
 use Rattle.std.proofs.Common.{◌≡◌, ◌++◌, ◌∷◌, ⊎_elim, ℕ, List, [], IsTrue, flat_map, subst}
 use Rattle.std.specs.List.{AllByRecursion}
+use Rattle.swreq_rank.proofs.swreq_lemmas.Members.{each_append}
 use Rattle.swreq_lex.specs.declared.token.TokenKind.TheVariants as kinds
 use Rattle.swreq_lex.specs.Slices.{IsSpelled}
-use Rattle.swreq_grammar.specs.declared.token.Token.{Token}
-use Rattle.swreq_grammar.specs.Grammar.{Limit, Matches, Parts, has, empty, mapped, sequence, alternative, repetition}
+use Rattle.swreq_decl.specs.swreq_grammar.declared.token.Token.{Token}
+use Rattle.swreq_decl.specs.swreq_grammar.Grammar.{Limit, Matches, Parts, has, empty, mapped, sequence, alternative, repetition}
 use Rattle.swreq_decl.specs.declared.terminal.Terminal.{Terminal}
 use Rattle.swreq_decl.specs.declared.terminal.Terminal.TheVariants.{Name, Query}
 use Rattle.swreq_decl.specs.declared.kind.Kind.{Kind}
@@ -32,16 +33,12 @@ Tokens = List (Token Terminal)
 abbrev pub AreNamed : List ℕ → List (Token Terminal) → Type 0
 AreNamed text ts = AllByRecursion (IsNamed text) ts
 
-all_append : {X : Type 0} (P : X → Type 0) (xs ys : List X) → AllByRecursion P xs → AllByRecursion P ys → AllByRecursion P (xs ++ ys)
-all_append P [] ys a b = b
-all_append P (x ∷ xs) ys a b = (a.0, all_append P xs ys a.1 b)
-
 all_parts : {X : Type 0} (P : X → Type 0) (xs ys : List X) → AllByRecursion P (xs ++ ys) → AllByRecursion P xs × AllByRecursion P ys
 all_parts P [] ys a = (tt, a)
 all_parts P (x ∷ xs) ys a = let more = all_parts P xs ys a.1 in ((a.0, more.0), more.1)
 
 pub join : (vs ws : List (List ℕ)) → AreNames vs → AreNames ws → AreNames (vs ++ ws)
-join vs ws a b = all_append (IsSpelled kinds.Name) vs ws a b
+join vs ws a b = each_append (IsSpelled kinds.Name) vs ws a b
 
 pub join_all : {A : Type 0} (f : A → List (List ℕ)) (xs : List A) → AllByRecursion (λ x. AreNames (f x)) xs → AreNames (flat_map f xs)
 join_all f [] a = tt

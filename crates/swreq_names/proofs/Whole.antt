@@ -8,7 +8,7 @@ use Rattle.swreq_lex.specs.declared.token.TokenKind.{TokenKind}
 use Rattle.swreq_lex.specs.declared.token.TokenKind.TheVariants as kinds
 use Rattle.swreq_lex.specs.Slices.{AreSlices, IsSpelled, next}
 use Rattle.swreq_lex.specs.Tokens.{HasTokens, first_offset}
-use Rattle.swreq_grammar.specs.Grammar.{has}
+use Rattle.swreq_decl.specs.swreq_grammar.Grammar.{has}
 use Rattle.swreq_decl.specs.declared.terminal.Terminal.{Terminal}
 use Rattle.swreq_decl.specs.declared.terminal.Terminal.TheVariants.{Name, Query}
 use Rattle.swreq_decl.specs.declared.skeleton.Item.{Item}

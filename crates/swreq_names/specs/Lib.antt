@@ -1,3 +1,4 @@
+pub use Rattle.swreq_rank.specs as swreq_rank
 pub mod Spaces
 pub mod Parts
 pub mod Directories

@@ -1,7 +1,6 @@
 // The names that a text declares.
 ghost use Rattle.std.specs.Prelude.{◌≡◌, ◌↔◌, ℕ, [], slice_index_or, Contains, IfOk};
-ghost use Rattle.swreq_names.specs.Spaces.{spaces, protocol_of, struct_of, signature_of, nested_in, nested_of, outer_params, own_params, param_of, declares};
-ghost use Rattle.swreq_names.specs.Directories.{names_of};
+ghost use Rattle.swreq_names.specs.{Spaces.{spaces, protocol_of, struct_of, signature_of, nested_in, nested_of, outer_params, own_params, param_of, declares}, Directories.{names_of}};
 
 use crate::declarers::Declarers;
 use crate::directory::Directory;
@@ -24,8 +23,7 @@ pub struct Declared {
 
 impl Model for Declared {
     ghost use Rattle.std.specs.Prelude.{◌≡◌, []};
-    ghost use Rattle.swreq_names.specs.Spaces.{Spaces};
-    ghost use Rattle.swreq_names.specs.Directories.{AreDeclarers};
+    ghost use Rattle.swreq_names.specs.{Spaces.{Spaces}, Directories.{AreDeclarers}};
 
     ghost Value = { Spaces };
 

@@ -1,7 +1,6 @@
 // Which protocols declare a name, by their places in written order.
 ghost use Rattle.std.specs.Prelude.{◌≡◌, ◌⊎◌, ◌↔◌, ◌++◌, ℕ, [], List, length, Some, slice_get, slice_index_or, Contains, IfOk, OnOk};
-ghost use Rattle.swreq_names.specs.declared.directory.Declaration.{Declaration};
-ghost use Rattle.swreq_names.specs.Directories.{names_of, AreDeclarers};
+ghost use Rattle.swreq_names.specs.{declared.directory.Declaration.{Declaration}, Directories.{names_of, AreDeclarers}};
 
 use crate::directory::{Declaration, Directory};
 use std::alloc::{AllocError, Global};

@@ -1,8 +1,6 @@
 // Declared names by their bytes.
-ghost use Rattle.std.specs.Prelude.{◌≡◌, ℕ, List, map, IfOk, OnOk, None, Some, cond, length, slice_get, slice_index_or, Contains, ◌↔◌};
-ghost use Rattle.std.specs.Str.{bytes_eq};
-ghost use Rattle.swreq_names.specs.Spaces.{place, is_declared, offset_of, is_declared_before, refers_to};
-ghost use Rattle.swreq_names.specs.Directories.{names_of};
+ghost use Rattle.std.specs.{Prelude.{◌≡◌, ℕ, List, map, IfOk, OnOk, None, Some, cond, length, slice_get, slice_index_or, Contains, ◌↔◌}, Str.{bytes_eq}};
+ghost use Rattle.swreq_names.specs.{Spaces.{place, is_declared, offset_of, is_declared_before, refers_to}, Directories.{names_of}};
 
 use std::alloc::{AllocError, Global};
 use std::marker::Model;
@@ -26,8 +24,7 @@ pub struct Directory {
 
 impl Model for Directory {
     ghost use Rattle.std.specs.Prelude.{List};
-    ghost use Rattle.swreq_names.specs.declared.directory.Declaration.{Declaration};
-    ghost use Rattle.swreq_names.specs.Directories.{AreFirsts};
+    ghost use Rattle.swreq_names.specs.{declared.directory.Declaration.{Declaration}, Directories.{AreFirsts}};
 
     ghost Value = { List Declaration };
 

@@ -1,10 +1,7 @@
 // Which protocol inherits which, by places in written order.
-ghost use Rattle.std.specs.Prelude.{◌≡◌, ◌++◌, map, length, IfOk, OnOk, MatchOption};
-ghost use Rattle.std.specs.List.{flat_map};
-ghost use Rattle.std.specs.Option.{option_to_list};
+ghost use Rattle.std.specs.{Prelude.{◌≡◌, ◌++◌, map, length, IfOk, OnOk, MatchOption}, List.{flat_map}, Option.{option_to_list}};
 ghost use Rattle.swreq_closure.specs.Chains.{AreWithin};
-ghost use Rattle.swreq_names.specs.Inheritance.{named_by, named_in, direct, LeadToDeclared};
-ghost use Rattle.swreq_names.specs.Walk.{inherited_in, inherited_in_clause, walked_direct};
+ghost use Rattle.swreq_names.specs.{Inheritance.{named_by, named_in, direct, LeadToDeclared}, Walk.{inherited_in, inherited_in_clause, walked_direct}};
 
 use crate::declared::Declared;
 use crate::words::word;

@@ -1,14 +1,9 @@
 //! What holds of the names of each text, and of the bytes of each word.
 
 ghost use Rattle.std.specs.Prelude.{◌≡◌, List, ℕ, Contains, map};
-ghost use Rattle.swreq_lex.specs.declared.token.TokenKind.TheVariants.{Name};
-ghost use Rattle.swreq_lex.specs.Slices.{IsSpelled, IsSpelledWord};
-ghost use Rattle.swreq_decl.specs.declared.skeleton.Skeleton.{Skeleton};
-ghost use Rattle.swreq_decl.specs.Skeletons.{StandsFor};
-ghost use Rattle.swreq_names.specs.Mentioned.{mentioned};
-ghost use Rattle.swreq_names.specs.Names.{HasDeclared, NamesView};
-ghost use Rattle.swreq_names.specs.Spaces.{word};
-ghost use Rattle.swreq_names.specs.WordBytes.{HasWordBytes};
+ghost use Rattle.swreq_lex.specs.{declared.token.TokenKind.TheVariants.{Name}, Slices.{IsSpelled, IsSpelledWord}};
+ghost use Rattle.swreq_decl.specs.{declared.skeleton.Skeleton.{Skeleton}, Skeletons.{StandsFor}};
+ghost use Rattle.swreq_names.specs.{Mentioned.{mentioned}, Names.{HasDeclared, NamesView}, Spaces.{word}, WordBytes.{HasWordBytes}};
 
 use swreq_lex::laws::tokens_are_slices;
 

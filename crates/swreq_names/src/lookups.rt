@@ -1,11 +1,8 @@
 //! What the names of a text refer to.
 
-ghost use Rattle.std.specs.Prelude.{◌≡◌, ℕ, Bool, List, ◌&&◌, length, IfOk};
-ghost use Rattle.std.specs.List.{list_any};
+ghost use Rattle.std.specs.{Prelude.{◌≡◌, ℕ, Bool, List, ◌&&◌, length, IfOk}, List.{list_any}};
 ghost use Rattle.swreq_closure.specs.Chains.{leads, AreWithin, IsClosureOf};
-ghost use Rattle.swreq_names.specs.Spaces.{any_below, protocol_of, signature_of, nested_of, param_of, declares, has_member};
-ghost use Rattle.swreq_names.specs.Inheritance.{LeadToDeclared};
-ghost use Rattle.swreq_names.specs.Names.{HasDeclared};
+ghost use Rattle.swreq_names.specs.{Spaces.{any_below, protocol_of, signature_of, nested_of, param_of, declares, has_member}, Inheritance.{LeadToDeclared}, Names.{HasDeclared}};
 
 use crate::declared::Declared;
 use crate::inheritance::inheritance;
@@ -51,8 +48,7 @@ pub struct Names {
 
 impl Model for Names {
     ghost use Rattle.swreq_closure.specs.Chains.{AreWithin, IsClosureOf};
-    ghost use Rattle.swreq_names.specs.Inheritance.{LeadToDeclared};
-    ghost use Rattle.swreq_names.specs.Names.{NamesView};
+    ghost use Rattle.swreq_names.specs.{Inheritance.{LeadToDeclared}, Names.{NamesView}};
 
     ghost Value = { NamesView };
 

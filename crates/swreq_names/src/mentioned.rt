@@ -1,10 +1,7 @@
 //! The names of associated types and of members that a text mentions.
 
-ghost use Rattle.std.specs.Prelude.{◌≡◌, ◌↔◌, ◌++◌, ◌∷◌, [], ℕ, List, Contains, IfOk, OnOk};
-ghost use Rattle.std.specs.List.{flat_map};
-ghost use Rattle.swreq_names.specs.Spaces.{word};
-ghost use Rattle.swreq_names.specs.Mentioned.{member_of, mentioned};
-ghost use Rattle.swreq_names.specs.Walk.{in_step, in_type, in_entity, in_bounds, in_requirement, in_clause, in_member, in_protocol, in_param, in_function, in_struct, in_ask, in_query, walked};
+ghost use Rattle.std.specs.{Prelude.{◌≡◌, ◌↔◌, ◌++◌, ◌∷◌, [], ℕ, List, Contains, IfOk, OnOk}, List.{flat_map}};
+ghost use Rattle.swreq_names.specs.{Spaces.{word}, Mentioned.{member_of, mentioned}, Walk.{in_step, in_type, in_entity, in_bounds, in_requirement, in_clause, in_member, in_protocol, in_param, in_function, in_struct, in_ask, in_query, walked}};
 
 use crate::words::word;
 use std::alloc::{AllocError, Global};

@@ -1,8 +1,8 @@
 -- The sides of a pair are one step from its word.
 use Rattle.std.proofs.Common.{◌≡◌, ℕ, ◌-◌, inl, inr, refl, sym, ◌∙◌, ap, subst, arith, List, [], ◌++◌, append_assoc, append-nil, length, length-drop, drop}
 use Rattle.std.proofs.lemmas.List.{nil_from_length}
-use Rattle.swreq_word.specs.declared.symbols.Symbol.{Symbol}
-use Rattle.swreq_word.specs.Replacement.{Replaced}
+use Rattle.swreq_rule.specs.swreq_word.declared.symbols.Symbol.{Symbol}
+use Rattle.swreq_rule.specs.swreq_word.Replacement.{Replaced}
 use Rattle.swreq_rule.specs.declared.rules.Rule.{Rule}
 use Rattle.swreq_rule.proofs.Numbers.{one_rule}
 use Rattle.swreq_rule.proofs.Overlapping.{containment_within}

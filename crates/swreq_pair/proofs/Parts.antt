@@ -1,11 +1,11 @@
 -- The pairs of overlaps and containments, by the parts that the code cuts.
 use Rattle.std.proofs.Common.{◌≡◌, ℕ, ◌+◌, ◌-◌, refl, sym, ◌∙◌, ap, arith, List, [], ◌++◌, append_assoc, length, length-append, take, drop, append-nil}
 use Rattle.std.proofs.Math.Seq.{take-append_seam}
-use Rattle.swreq_word.specs.declared.symbols.Symbol.{Symbol}
+use Rattle.swreq_rule.specs.swreq_word.declared.symbols.Symbol.{Symbol}
 use Rattle.swreq_rule.specs.declared.rules.Rule.{Rule}
 use Rattle.swreq_pair.specs.Pairs.{OverlapPair, ContainmentPair}
-use Rattle.swreq_word.proofs.Cuts.{cut_rest, whole_rest}
-use Rattle.swreq_word.specs.Overlap.{Overlap, Containment}
+use Rattle.swreq_rule.proofs.swreq_word.Cuts.{cut_rest, whole_rest}
+use Rattle.swreq_rule.specs.swreq_word.Overlap.{Overlap, Containment}
 
 -- the parts of an overlap, as the code cuts them
 pub before_is : (l m : List Symbol) (at : ℕ) → (o : Overlap l m at) → take at l ≡ o.before

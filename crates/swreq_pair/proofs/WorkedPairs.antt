@@ -1,7 +1,7 @@
 -- The pairs of three rules, one by one.
 use Rattle.std.proofs.Common.{◌≡◌, ℕ, ◌<◌, inl, refl, arith, List, [], ◌∷◌, ◌++◌, length}
-use Rattle.swreq_word.specs.declared.symbols.Symbol.{Symbol}
-use Rattle.swreq_word.specs.Overlap.{Overlap}
+use Rattle.swreq_rule.specs.swreq_word.declared.symbols.Symbol.{Symbol}
+use Rattle.swreq_rule.specs.swreq_word.Overlap.{Overlap}
 use Rattle.swreq_rule.specs.declared.rules.Rule.{Rule}
 use Rattle.swreq_rule.specs.Steps.{RuleAt}
 use Rattle.swreq_pair.specs.Pairs.{HasPair}

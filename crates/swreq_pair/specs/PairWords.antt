@@ -1,6 +1,6 @@
 -- The word of a pair, from which a step by its first rule leads to its left side, and a step by its second rule to its right side.
 use Rattle.std.specs.Prelude.{◌≡◌, ◌-◌, List, ◌++◌, length, drop}
-use Rattle.swreq_word.specs.declared.symbols.Symbol.{Symbol}
+use Rattle.swreq_rule.specs.swreq_word.declared.symbols.Symbol.{Symbol}
 use Rattle.swreq_rule.specs.declared.rules.Rule.{Rule}
 use Rattle.swreq_rule.specs.declared.rules.Place.{Place}
 use Rattle.swreq_rule.specs.Steps.{RuleAt, StepBy}

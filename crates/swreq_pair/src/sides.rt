@@ -1,15 +1,13 @@
 //! The two sides of the pair of two rules at a place.
 
-ghost use Rattle.std.specs.Prelude.{◌≡◌, ◌++◌, List, IfOk, OnOk};
-ghost use Rattle.std.specs.Bool.{Decides};
-ghost use Rattle.swreq_word.specs.Overlap.{Containment, Overlap};
+ghost use Rattle.std.specs.{Prelude.{◌≡◌, ◌++◌, List, IfOk, OnOk}, Bool.{Decides}};
+ghost use Rattle.swreq_rule.specs.swreq_word.Overlap.{Containment, Overlap};
 ghost use Rattle.swreq_pair.specs.Pairs.{AreSides, ContainmentPair, HasPair, HavePairAt, IsNumberOf, IsOfRules, IsPair, LeftLength, OverlapPair};
-ghost use Rattle.swreq_rule.specs.declared.rules.Place.{Place};
-ghost use Rattle.swreq_rule.specs.declared.rules.Rule.{Rule};
+ghost use Rattle.swreq_rule.specs.{declared.rules.Place.{Place}, declared.rules.Rule.{Rule}};
 
 use std::alloc::{AllocError, Global};
+use swreq_rule::word::{Symbol, Word};
 use swreq_rule::{Place, Rule, contains, overlaps};
-use swreq_word::{Symbol, Word};
 
 // Puts the two words into the buffer, one after the other, in place of what was there.
 fn write(buffer: &mut Vec<Symbol>, a: &[Symbol], b: &[Symbol]) -> Result<(), AllocError>

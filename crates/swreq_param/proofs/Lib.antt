@@ -1,3 +1,4 @@
+pub use Rattle.swreq_lemmas.proofs as swreq_lemmas
 pub mod TotalOrder
 pub mod Founded
 pub mod Comparing

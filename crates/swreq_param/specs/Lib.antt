@@ -1,3 +1,4 @@
+pub use Rattle.swreq_lemmas.specs as swreq_lemmas
 pub mod Terms
 pub mod Order
 pub mod Worked

@@ -1,10 +1,8 @@
 //! Type parameters by themselves, without a table.
-ghost use Rattle.std.specs.Prelude.{◌≡◌, ◌++◌};
-ghost use Rattle.std.specs.Ordering.{as_partial_cmp, eq_by_cmp};
+ghost use Rattle.std.specs.{Prelude.{◌≡◌, ◌++◌}, Ordering.{as_partial_cmp, eq_by_cmp}};
 ghost use Rattle.std.specs.Cmp as cmps;
 ghost use Rattle.std.proofs.Common.{refl, ap};
-ghost use Rattle.swreq_param.specs.Owned.{owned_cmp};
-ghost use Rattle.swreq_param.specs.OwnedLaws.{owned_total, owned_partial, owned_equivalent, owned_same};
+ghost use Rattle.swreq_param.specs.{Owned.{owned_cmp}, OwnedLaws.{owned_total, owned_partial, owned_equivalent, owned_same}};
 
 use crate::ids::{ParamId, Step};
 use std::cmp::Ordering;

@@ -1,12 +1,6 @@
 //! Type parameters by small ids.
-ghost use Rattle.std.specs.Prelude.{◌≡◌, ◌↔◌, [], length, Contains, IfOk, OnErr, IsOk, MatchOption};
-ghost use Rattle.std.specs.declared.cmp.Ordering.TheVariants.{Equal};
-ghost use Rattle.swreq_param.specs.Terms.{head, member_count};
-ghost use Rattle.swreq_param.specs.Terms.Term.{Generic, Member};
-ghost use Rattle.swreq_param.specs.Order.{Compares};
-ghost use Rattle.swreq_param.specs.Entries.{IsBelow, IsEntryOf, term_of};
-ghost use Rattle.swreq_param.specs.Tables.{IsOf, term_at, AreDistinct, HasBases, Extends, Interned, IsSplit};
-ghost use Rattle.swreq_param.specs.Owned.{as_term};
+ghost use Rattle.std.specs.{Prelude.{◌≡◌, ◌↔◌, [], length, Contains, IfOk, OnErr, IsOk, MatchOption}, declared.cmp.Ordering.TheVariants.{Equal}};
+ghost use Rattle.swreq_param.specs.{Terms.{head, member_count}, Terms.Term.{Generic, Member}, Order.{Compares}, Entries.{IsBelow, IsEntryOf, term_of}, Tables.{IsOf, term_at, AreDistinct, HasBases, Extends, Interned, IsSplit}, Owned.{as_term}};
 
 use crate::ids::{ParamId, Step, TermId};
 use crate::owned::TypeParam;
@@ -33,11 +27,8 @@ pub struct ParamTable {
 }
 
 impl Model for ParamTable {
-    ghost use Rattle.std.specs.Prelude.{List};
-    ghost use Rattle.std.specs.Coded.{coded_list};
-    ghost use Rattle.swreq_param.specs.Terms.{Term};
-    ghost use Rattle.swreq_param.specs.Codes.{term_code};
-    ghost use Rattle.swreq_param.specs.Entries.{terms_of, AreGrounded};
+    ghost use Rattle.std.specs.{Prelude.{List}, Coded.{coded_list}};
+    ghost use Rattle.swreq_param.specs.{Terms.{Term}, Codes.{term_code}, Entries.{terms_of, AreGrounded}};
 
     ghost Value = { List Term };
 

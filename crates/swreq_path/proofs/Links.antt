@@ -1,12 +1,12 @@
 -- A path links what each of its rules links, and links are paths.
 use Rattle.std.proofs.Common.{◌≡◌, ℕ, zero, suc, refl, subst, Bool, true, false, not, List, [], ◌∷◌, Some}
 use Rattle.std.specs.List.{slice_get}
-use Rattle.swreq_word.specs.declared.symbols.Symbol.{Symbol}
-use Rattle.swreq_word.specs.Relations.{Linked}
-use Rattle.swreq_word.specs.Relations.Linked.{here, forth, back}
-use Rattle.swreq_word.specs.Replacement.{Replaced}
-use Rattle.swreq_word.proofs.Chains.{linked_on, linked_back}
-use Rattle.swreq_word.proofs.Congruence.{Replaced-whole}
+use Rattle.swreq_rule.specs.swreq_word.declared.symbols.Symbol.{Symbol}
+use Rattle.swreq_rule.specs.swreq_word.Relations.{Linked}
+use Rattle.swreq_rule.specs.swreq_word.Relations.Linked.{here, forth, back}
+use Rattle.swreq_rule.specs.swreq_word.Replacement.{Replaced}
+use Rattle.swreq_rule.proofs.swreq_word.Chains.{linked_on, linked_back}
+use Rattle.swreq_rule.proofs.swreq_word.Congruence.{Replaced-whole}
 use Rattle.swreq_rule.specs.declared.rules.Rule.{Rule}
 use Rattle.swreq_rule.specs.Steps.{RuleAt, Step}
 use Rattle.swreq_rule.proofs.Context.{Linked-in-place}

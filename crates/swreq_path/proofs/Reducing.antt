@@ -2,11 +2,11 @@
 use Rattle.std.proofs.Common.{◌≡◌, ℕ, ◌+◌, ◌<◌, refl, sym, ◌∙◌, ap, subst, subst₂, arith, true, not, List, [], ◌∷◌, ◌++◌, append_assoc, length, length-append, take, drop}
 use Rattle.std.proofs.lemmas.List.{append_cancel_left}
 use Rattle.std.proofs.Math.Seq.{drop-append_seam, take-append_seam}
-use Rattle.swreq_word.specs.declared.symbols.Symbol.{Symbol}
-use Rattle.swreq_word.specs.Overlap.{Containment}
-use Rattle.swreq_word.specs.Relations.{Chain}
-use Rattle.swreq_word.specs.Relations.Chain.{done, more}
-use Rattle.swreq_word.proofs.Cuts.{same_cut}
+use Rattle.swreq_rule.specs.swreq_word.declared.symbols.Symbol.{Symbol}
+use Rattle.swreq_rule.specs.swreq_word.Overlap.{Containment}
+use Rattle.swreq_rule.specs.swreq_word.Relations.{Chain}
+use Rattle.swreq_rule.specs.swreq_word.Relations.Chain.{done, more}
+use Rattle.swreq_rule.proofs.swreq_word.Cuts.{same_cut}
 use Rattle.swreq_rule.specs.declared.rules.Rule.{Rule}
 use Rattle.swreq_rule.specs.Steps.{RuleAt}
 use Rattle.swreq_rule.specs.Reduction.{FirstRedex, ReductionStep, Reduces}

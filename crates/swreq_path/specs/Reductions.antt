@@ -1,8 +1,8 @@
 -- Steps forward at a place of a word, and the path of its reduction.
 use Rattle.std.specs.Prelude.{◌≡◌, ℕ, true, List, [], ◌∷◌, ◌++◌, length}
-use Rattle.swreq_word.specs.declared.symbols.Symbol.{Symbol}
-use Rattle.swreq_word.specs.Relations.{IsIrreducible}
-use Rattle.swreq_word.specs.Overlap.{Containment}
+use Rattle.swreq_rule.specs.swreq_word.declared.symbols.Symbol.{Symbol}
+use Rattle.swreq_rule.specs.swreq_word.Relations.{IsIrreducible}
+use Rattle.swreq_rule.specs.swreq_word.Overlap.{Containment}
 use Rattle.swreq_rule.specs.declared.rules.Rule.{Rule}
 use Rattle.swreq_rule.specs.Steps.{RuleAt, Step}
 use Rattle.swreq_rule.specs.Reduction.{FirstRedex}

@@ -1,15 +1,14 @@
 //! Paths, loops, and the operations on them.
 
 ghost use Rattle.std.specs.Prelude.{◌≡◌, ◌++◌, List, IfOk, OnOk};
-ghost use Rattle.swreq_word.specs.declared.symbols.Symbol.{Symbol};
-ghost use Rattle.swreq_path.specs.Inverse.{inverse};
-ghost use Rattle.swreq_path.specs.Paths.{HasTarget, IsPath};
+ghost use Rattle.swreq_rule.specs.swreq_word.declared.symbols.Symbol.{Symbol};
+ghost use Rattle.swreq_path.specs.{Inverse.{inverse}, Paths.{HasTarget, IsPath}};
 
 use crate::RewriteStep;
 use std::alloc::{AllocError, Global};
 use swreq_rule::Rule;
+use swreq_rule::word::{Symbol, Word};
 use swreq_text::Seq;
-use swreq_word::{Symbol, Word};
 
 /// Steps, one after the other, from a word on.
 #[derive(Debug, Drop)]

@@ -1,19 +1,15 @@
 //! The path of the reduction of a word.
 
 ghost use Rattle.std.specs.Prelude.{◌≡◌, ◌-◌, ◌<◌, ◌^◌, List, length, IfOk, OnOk, OnErr};
-ghost use Rattle.swreq_word.specs.declared.symbols.Symbol.{Symbol};
-ghost use Rattle.swreq_word.specs.Overlap.{Containment};
-ghost use Rattle.swreq_rule.specs.Reduction.{FirstRedex, IsFirstOf, Reduces};
-ghost use Rattle.swreq_rule.specs.Steps.{RuleAt};
-ghost use Rattle.swreq_rule.specs.declared.rules.Rule.{Rule};
-ghost use Rattle.swreq_path.specs.Paths.{HasTarget};
-ghost use Rattle.swreq_path.specs.Reductions.{AddsReductionStep, IsRedex, IsReductionPath, StepsAt};
+ghost use Rattle.swreq_rule.specs.swreq_word.{declared.symbols.Symbol.{Symbol}, Overlap.{Containment}};
+ghost use Rattle.swreq_rule.specs.{Reduction.{FirstRedex, IsFirstOf, Reduces}, Steps.{RuleAt}, declared.rules.Rule.{Rule}};
+ghost use Rattle.swreq_path.specs.{Paths.{HasTarget}, Reductions.{AddsReductionStep, IsRedex, IsReductionPath, StepsAt}};
 
 use crate::{Path, RewriteStep};
 use std::alloc::{AllocError, Global};
+use swreq_rule::word::{Symbol, Word};
 use swreq_rule::{Redex, Rule, first_redex, take_step_of};
 use swreq_text::Seq;
-use swreq_word::{Symbol, Word};
 
 /// The step that puts the right side of the rule with this number in place of its left side, which stands in the word at the place.
 pub fn step_of(

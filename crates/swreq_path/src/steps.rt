@@ -1,15 +1,13 @@
 //! One step of rewriting.
 
 ghost use Rattle.std.specs.Prelude.{◌≡◌, ◌++◌, List, IfOk};
-ghost use Rattle.swreq_word.specs.declared.symbols.Symbol.{Symbol};
-ghost use Rattle.swreq_rule.specs.declared.rules.Rule.{Rule};
-ghost use Rattle.swreq_rule.specs.Steps.{RuleAt};
-ghost use Rattle.swreq_path.specs.Inverse.{inverse_step};
-ghost use Rattle.swreq_path.specs.Paths.{StepLeads, put_side};
+ghost use Rattle.swreq_rule.specs.swreq_word.declared.symbols.Symbol.{Symbol};
+ghost use Rattle.swreq_rule.specs.{declared.rules.Rule.{Rule}, Steps.{RuleAt}};
+ghost use Rattle.swreq_path.specs.{Inverse.{inverse_step}, Paths.{StepLeads, put_side}};
 
 use std::alloc::{AllocError, Global};
 use swreq_rule::Rule;
-use swreq_word::{Symbol, Word};
+use swreq_rule::word::{Symbol, Word};
 
 /// One side of a rule put in place of the other, at one place of a word.
 #[derive(Debug, Drop)]

@@ -2,11 +2,11 @@
 use Rattle.std.proofs.Common.{◌≡◌, ◌∙◌, ◌++◌, ◌∷◌, [], ap, ap₂, refl, sym, List, codes, arith}
 use Rattle.std.specs.List.{AllByRecursion}
 use Rattle.std.proofs.lemmas.List.{append_assoc}
-use Rattle.swreq_param.specs.declared.ids.ParamId.{ParamId}
-use Rattle.swreq_param.specs.declared.ids.ProtoId.{ProtoId}
-use Rattle.swreq_param.specs.Terms.{Term}
-use Rattle.swreq_derive.specs.Derivation.{TermRequirement}
-use Rattle.swreq_derive.specs.Derivation.TermRequirement.{Conforms, IsAnyObject, Equals}
+use Rattle.swreq_lexicon.specs.swreq_param.declared.ids.ParamId.{ParamId}
+use Rattle.swreq_lexicon.specs.swreq_param.declared.ids.ProtoId.{ProtoId}
+use Rattle.swreq_lexicon.specs.swreq_param.Terms.{Term}
+use Rattle.swreq_lexicon.specs.swreq_derive.Derivation.{TermRequirement}
+use Rattle.swreq_lexicon.specs.swreq_derive.Derivation.TermRequirement.{Conforms, IsAnyObject, Equals}
 use Rattle.swreq_lexicon.specs.Views.{LexiconView, IsProtocol}
 use Rattle.swreq_print.specs.Names.{Text, protocol_name}
 use Rattle.swreq_print.specs.Types.{param_text, type_text}

@@ -6,14 +6,14 @@ use Rattle.std.proofs.lemmas.List.{append_assoc}
 use Rattle.std.proofs.lemmas.Fmt.{decimal_is_IsNumeral}
 use Rattle.std.specs.Str.Parse.{digits_value}
 use Rattle.std.specs.Fmt.{decimal}
-use Rattle.swreq_param.specs.declared.ids.NameId.{NameId}
-use Rattle.swreq_param.specs.declared.ids.ParamId.{ParamId}
-use Rattle.swreq_param.specs.declared.ids.ProtoId.{ProtoId}
-use Rattle.swreq_param.specs.declared.ids.Step.{Step}
-use Rattle.swreq_param.specs.declared.ids.Step.TheVariants.{Bound, Name}
-use Rattle.swreq_param.specs.Terms.{Term, head, with_steps}
-use Rattle.swreq_param.specs.Terms.Term.{Generic}
-use Rattle.swreq_param.specs.ComparisonLaws.{as_steps, steps_of}
+use Rattle.swreq_lexicon.specs.swreq_param.declared.ids.NameId.{NameId}
+use Rattle.swreq_lexicon.specs.swreq_param.declared.ids.ParamId.{ParamId}
+use Rattle.swreq_lexicon.specs.swreq_param.declared.ids.ProtoId.{ProtoId}
+use Rattle.swreq_lexicon.specs.swreq_param.declared.ids.Step.{Step}
+use Rattle.swreq_lexicon.specs.swreq_param.declared.ids.Step.TheVariants.{Bound, Name}
+use Rattle.swreq_lexicon.specs.swreq_param.Terms.{Term, head, with_steps}
+use Rattle.swreq_lexicon.specs.swreq_param.Terms.Term.{Generic}
+use Rattle.swreq_lexicon.specs.swreq_param.ComparisonLaws.{as_steps, steps_of}
 use Rattle.swreq_lexicon.specs.declared.pair.ProtocolName.{ProtocolName}
 use Rattle.swreq_lexicon.specs.Views.{LexiconView, IsName, IsProtocol}
 use Rattle.swreq_print.specs.Names.{Text, protocol_name, name_text, pair_at}

@@ -2,10 +2,10 @@
 use Rattle.std.proofs.Common.{◌≡◌, ◌∙◌, ◌++◌, [], ◌∷◌, List, ap, sym}
 use Rattle.std.specs.List.{AllByRecursion}
 use Rattle.std.proofs.lemmas.List.{append_assoc, append-nil}
-use Rattle.swreq_param.specs.declared.ids.Step.{Step}
-use Rattle.swreq_param.specs.ComparisonLaws.{as_steps, steps_of}
-use Rattle.swreq_param.specs.Terms.{Term, head, with_steps}
-use Rattle.swreq_param.specs.Terms.Term.{Generic, Member}
+use Rattle.swreq_lexicon.specs.swreq_param.declared.ids.Step.{Step}
+use Rattle.swreq_lexicon.specs.swreq_param.ComparisonLaws.{as_steps, steps_of}
+use Rattle.swreq_lexicon.specs.swreq_param.Terms.{Term, head, with_steps}
+use Rattle.swreq_lexicon.specs.swreq_param.Terms.Term.{Generic, Member}
 use Rattle.swreq_lexicon.specs.Views.{LexiconView}
 use Rattle.swreq_print.specs.declared.types.ParamForm.{ParamForm}
 use Rattle.swreq_print.specs.declared.types.ParamForm.TheVariants.{Signature}

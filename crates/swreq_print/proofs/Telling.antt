@@ -8,31 +8,31 @@ use Rattle.std.proofs.lemmas.Bool.{and_parts, ne_eqb}
 use Rattle.std.proofs.lemmas.Cmp.{nat_list_cmp_total}
 use Rattle.std.proofs.lemmas.List.Elements.{Contains-get_or}
 use Rattle.std.proofs.lemmas.Option.{slice_get-get_or, slice_get_within}
-use Rattle.swreq_lex.specs.declared.token.TokenKind.TheVariants as kinds
-use Rattle.swreq_lex.specs.Slices.{IsSpelled, IsSpelledWord}
-use Rattle.swreq_lex.proofs.SliceLemmas.{are_slices}
-use Rattle.swreq_decl.specs.declared.skeleton.AssocDecl.{AssocDecl}
-use Rattle.swreq_decl.specs.declared.skeleton.ProtocolDecl.{ProtocolDecl}
-use Rattle.swreq_decl.specs.declared.skeleton.Skeleton.{Skeleton}
-use Rattle.swreq_decl.specs.Skeletons.{StandsFor}
-use Rattle.swreq_names.specs.Mentioned.{mentioned}
-use Rattle.swreq_names.specs.Spaces.{word}
-use Rattle.swreq_param.specs.declared.ids.NameId.{NameId}
-use Rattle.swreq_param.specs.declared.ids.ProtoId.{ProtoId}
+use Rattle.swreq_lexicon.specs.swreq_lex.declared.token.TokenKind.TheVariants as kinds
+use Rattle.swreq_lexicon.specs.swreq_lex.Slices.{IsSpelled, IsSpelledWord}
+use Rattle.swreq_lexicon.proofs.swreq_lex.SliceLemmas.{are_slices}
+use Rattle.swreq_lexicon.specs.swreq_decl.declared.skeleton.AssocDecl.{AssocDecl}
+use Rattle.swreq_lexicon.specs.swreq_decl.declared.skeleton.ProtocolDecl.{ProtocolDecl}
+use Rattle.swreq_lexicon.specs.swreq_decl.declared.skeleton.Skeleton.{Skeleton}
+use Rattle.swreq_lexicon.specs.swreq_decl.Skeletons.{StandsFor}
+use Rattle.swreq_lexicon.specs.swreq_names.Mentioned.{mentioned}
+use Rattle.swreq_lexicon.specs.swreq_names.Spaces.{word}
+use Rattle.swreq_lexicon.specs.swreq_param.declared.ids.NameId.{NameId}
+use Rattle.swreq_lexicon.specs.swreq_param.declared.ids.ProtoId.{ProtoId}
 use Rattle.swreq_lexicon.specs.declared.pair.ProtocolName.{ProtocolName}
 use Rattle.swreq_lexicon.specs.Lexicons.{name_by, pair, proto_by}
-use Rattle.swreq_rank.specs.Ranks.{bytes_cmp, rank}
+use Rattle.swreq_lexicon.specs.swreq_rank.Ranks.{bytes_cmp, rank}
 use Rattle.swreq_lexicon.specs.Texts.{IsLexiconOf, declared_by, declared_in, protocol_names}
 use Rattle.swreq_lexicon.specs.Views.{LexiconView, IsName, IsProtocol, assoc_cmp, inherits}
 use Rattle.swreq_lexicon.proofs.Declared.{from_pieces, named_within}
 use Rattle.swreq_lexicon.proofs.RankLaws.{assoc_total, rank_is}
-use Rattle.swreq_rank.proofs.Rising.{one_place, rising_from_sorted}
-use Rattle.swreq_names.specs.WordBytes.{HasWordBytes, in_word}
-use Rattle.swreq_names.proofs.Bytes.{word_bytes}
-use Rattle.swreq_names.proofs.Whole.{members_spelled, protocols_spelled}
+use Rattle.swreq_lexicon.proofs.swreq_rank.Rising.{one_place, rising_from_sorted}
+use Rattle.swreq_lexicon.specs.swreq_names.WordBytes.{HasWordBytes, in_word}
+use Rattle.swreq_lexicon.proofs.swreq_names.Bytes.{word_bytes}
+use Rattle.swreq_lexicon.proofs.swreq_names.Whole.{members_spelled, protocols_spelled}
 use Rattle.swreq_print.specs.Names.{Text, name_text, pair_at, protocol_name}
 use Rattle.swreq_print.specs.Reading.{IsPair, IsProper, TellsApart, in_name}
-use Rattle.swreq_lemmas.proofs.Members.{contains_map, no_member, member_cases}
+use Rattle.swreq_rule.proofs.swreq_lemmas.Members.{contains_map, no_member, member_cases}
 
 -- ---- bytes
 

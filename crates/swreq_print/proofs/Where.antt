@@ -1,10 +1,10 @@
 -- The requirements of a signature over the ids of a table.
 use Rattle.std.proofs.Common.{◌≡◌, ◌++◌, ◌<◌, [], ◌∷◌, List, length, map, codes, ap, arith}
 use Rattle.std.proofs.lemmas.Simd.{map-map}
-use Rattle.swreq_param.specs.Terms.{Term}
+use Rattle.swreq_lexicon.specs.swreq_param.Terms.{Term}
 use Rattle.swreq_text.specs.Joined.{joined}
-use Rattle.swreq_derive.specs.declared.requirements.Requirement.{Requirement}
-use Rattle.swreq_derive.specs.Facts.{requirement_of}
+use Rattle.swreq_lexicon.specs.swreq_derive.declared.requirements.Requirement.{Requirement}
+use Rattle.swreq_lexicon.specs.swreq_derive.Facts.{requirement_of}
 use Rattle.swreq_lexicon.specs.Views.{LexiconView}
 use Rattle.swreq_print.specs.Names.{Text}
 use Rattle.swreq_print.specs.Signatures.{requirement_text, where_text}

@@ -1,8 +1,8 @@
 -- The names of ids. An id that is not of the text has the empty name.
 use Rattle.std.specs.Prelude.{ℕ, List, [], slice_index_or}
-use Rattle.swreq_param.specs.declared.ids.AssocId.{AssocId}
-use Rattle.swreq_param.specs.declared.ids.NameId.{NameId}
-use Rattle.swreq_param.specs.declared.ids.ProtoId.{ProtoId}
+use Rattle.swreq_lexicon.specs.swreq_param.declared.ids.AssocId.{AssocId}
+use Rattle.swreq_lexicon.specs.swreq_param.declared.ids.NameId.{NameId}
+use Rattle.swreq_lexicon.specs.swreq_param.declared.ids.ProtoId.{ProtoId}
 use Rattle.swreq_lexicon.specs.declared.pair.ProtocolName.{ProtocolName}
 use Rattle.swreq_lexicon.specs.Views.{LexiconView}
 

@@ -1,13 +1,13 @@
 -- What a lexicon has to tell for printed texts to be read in one way.
 use Rattle.std.specs.Prelude.{◌≡◌, ◌≢◌, ◌<◌, ◌^◌, ◌||◌, ◌==◌, ℕ, Bool, true, not, List, ◌∷◌, length, codes}
 use Rattle.std.specs.List.{list_all, AllByRecursion}
-use Rattle.swreq_param.specs.declared.ids.AssocId.{AssocId}
-use Rattle.swreq_param.specs.declared.ids.NameId.{NameId}
-use Rattle.swreq_param.specs.declared.ids.ParamId.{ParamId}
-use Rattle.swreq_param.specs.declared.ids.ProtoId.{ProtoId}
-use Rattle.swreq_param.specs.Terms.{Term, head}
-use Rattle.swreq_derive.specs.Derivation.{TermRequirement}
-use Rattle.swreq_derive.specs.Derivation.TermRequirement.{Conforms, IsAnyObject, Equals}
+use Rattle.swreq_lexicon.specs.swreq_param.declared.ids.AssocId.{AssocId}
+use Rattle.swreq_lexicon.specs.swreq_param.declared.ids.NameId.{NameId}
+use Rattle.swreq_lexicon.specs.swreq_param.declared.ids.ParamId.{ParamId}
+use Rattle.swreq_lexicon.specs.swreq_param.declared.ids.ProtoId.{ProtoId}
+use Rattle.swreq_lexicon.specs.swreq_param.Terms.{Term, head}
+use Rattle.swreq_lexicon.specs.swreq_derive.Derivation.{TermRequirement}
+use Rattle.swreq_lexicon.specs.swreq_derive.Derivation.TermRequirement.{Conforms, IsAnyObject, Equals}
 use Rattle.swreq_lexicon.specs.declared.pair.ProtocolName.{ProtocolName}
 use Rattle.swreq_lexicon.specs.Views.{LexiconView, IsProtocol, IsName}
 use Rattle.swreq_lowering.specs.OfText.{IsTermOf}

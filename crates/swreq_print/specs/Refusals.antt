@@ -1,7 +1,7 @@
 -- The lines of refusals, each with its line feed.
 use Rattle.std.specs.Prelude.{ℕ, List, ◌++◌, codes, decimal}
-use Rattle.swreq_decl.specs.declared.kind.Kind.{Kind}
-use Rattle.swreq_decl.specs.declared.kind.Kind.TheVariants as kinds
+use Rattle.swreq_lexicon.specs.swreq_decl.declared.kind.Kind.{Kind}
+use Rattle.swreq_lexicon.specs.swreq_decl.declared.kind.Kind.TheVariants as kinds
 use Rattle.swreq_print.specs.declared.refusal.RefusalKind.{RefusalKind}
 use Rattle.swreq_print.specs.declared.refusal.RefusalKind.TheVariants as refusals
 

@@ -1,9 +1,9 @@
 -- The texts of requirements and of signatures.
 use Rattle.std.specs.Prelude.{List, [], ◌∷◌, ◌++◌, map, codes}
 use Rattle.swreq_text.specs.Joined.{joined}
-use Rattle.swreq_param.specs.declared.ids.ParamId.{ParamId}
-use Rattle.swreq_derive.specs.Derivation.{TermRequirement}
-use Rattle.swreq_derive.specs.Derivation.TermRequirement.{Conforms, IsAnyObject, Equals}
+use Rattle.swreq_lexicon.specs.swreq_param.declared.ids.ParamId.{ParamId}
+use Rattle.swreq_lexicon.specs.swreq_derive.Derivation.{TermRequirement}
+use Rattle.swreq_lexicon.specs.swreq_derive.Derivation.TermRequirement.{Conforms, IsAnyObject, Equals}
 use Rattle.swreq_lexicon.specs.Views.{LexiconView}
 use Rattle.swreq_print.specs.declared.types.ParamForm.{ParamForm}
 use Rattle.swreq_print.specs.declared.types.ParamForm.TheVariants.{Protocol, Signature}

@@ -1,11 +1,11 @@
 -- The texts of type parameters.
 use Rattle.std.specs.Prelude.{List, [], ◌∷◌, ◌++◌, codes, decimal}
 use Rattle.std.specs.List.{flat_map}
-use Rattle.swreq_param.specs.declared.ids.ParamId.{ParamId}
-use Rattle.swreq_param.specs.declared.ids.Step.{Step}
-use Rattle.swreq_param.specs.declared.ids.Step.TheVariants.{Bound, Name}
-use Rattle.swreq_param.specs.Terms.{Term}
-use Rattle.swreq_param.specs.Terms.Term.{Generic, Member}
+use Rattle.swreq_lexicon.specs.swreq_param.declared.ids.ParamId.{ParamId}
+use Rattle.swreq_lexicon.specs.swreq_param.declared.ids.Step.{Step}
+use Rattle.swreq_lexicon.specs.swreq_param.declared.ids.Step.TheVariants.{Bound, Name}
+use Rattle.swreq_lexicon.specs.swreq_param.Terms.{Term}
+use Rattle.swreq_lexicon.specs.swreq_param.Terms.Term.{Generic, Member}
 use Rattle.swreq_lexicon.specs.declared.pair.ProtocolName.{ProtocolName}
 use Rattle.swreq_lexicon.specs.Views.{LexiconView}
 use Rattle.swreq_print.specs.declared.types.ParamForm.{ParamForm}

@@ -1,15 +1,12 @@
 //! Laws on the printed texts, over the definitions alone.
 
 ghost use Rattle.std.specs.Prelude.{◌≡◌, List};
-ghost use Rattle.swreq_decl.specs.declared.skeleton.Skeleton.{Skeleton};
-ghost use Rattle.swreq_decl.specs.Skeletons.{StandsFor};
-ghost use Rattle.swreq_derive.specs.Derivation.{TermRequirement};
-ghost use Rattle.swreq_print.specs.Reading.{IsReadableSignature, TellsApart};
-ghost use Rattle.swreq_print.specs.Signatures.{signature_text};
-ghost use Rattle.swreq_lexicon.specs.Texts.{IsLexiconOf};
-ghost use Rattle.swreq_lexicon.specs.Views.{LexiconView};
+ghost use Rattle.swreq_lexicon.specs.swreq_decl.{declared.skeleton.Skeleton.{Skeleton}, Skeletons.{StandsFor}};
+ghost use Rattle.swreq_lexicon.specs.swreq_derive.Derivation.{TermRequirement};
+ghost use Rattle.swreq_print.specs.{Reading.{IsReadableSignature, TellsApart}, Signatures.{signature_text}};
+ghost use Rattle.swreq_lexicon.specs.{Texts.{IsLexiconOf}, Views.{LexiconView}};
 
-use swreq_param::ParamId;
+use swreq_lexicon::param::ParamId;
 
 /// The text of a signature determines its generic parameters and its requirements: two signatures of one text that print alike are one.
 pub fn texts_tell_signatures_apart()

@@ -4,7 +4,7 @@ ghost use Rattle.std.specs.Prelude.{◌≡◌, ◌++◌, codes, decimal, OnErr, 
 ghost use Rattle.swreq_print.specs.Refusals.{kind_text, placed_line, refusal_line};
 
 use std::alloc::{AllocError, Global};
-use swreq_decl::Kind;
+use swreq_lexicon::decl::Kind;
 use swreq_text::{append_bytes, append_number};
 
 /// The line of a text that is too long.

@@ -2,17 +2,17 @@
 
 ghost use Rattle.std.specs.Prelude.{◌≡◌, ◌++◌, ⊤, OnErr, OnOk};
 ghost use Rattle.swreq_text.specs.Joined.{GrewByPart};
-ghost use Rattle.swreq_word.specs.declared.symbols.Symbol.TheVariants.{Proto};
+ghost use Rattle.swreq_rule.specs.swreq_word.declared.symbols.Symbol.TheVariants.{Proto};
 ghost use Rattle.swreq_print.specs.Rules.{birth_text, member_text, rule_text, symbol_text, trace_line, trace_text, word_text};
 
-use crate::names::{name_text, protocol_name, symbol_at};
+use crate::naming::{name_text, protocol_name, symbol_at};
 use crate::types::put_param;
 use std::alloc::{AllocError, Global};
+use swreq_lexicon::param::{NameId, ParamId, ProtoId};
 use swreq_lexicon::{Lexicon, ProtocolName};
-use swreq_param::{NameId, ParamId, ProtoId};
+use swreq_rule::word::Symbol;
 use swreq_rule::{Birth, Rule};
 use swreq_text::{Print, append_bytes, append_number, put_joined};
-use swreq_word::Symbol;
 
 // `[P]`
 #[tactic(auto, using(swreq_text::proofs::Grown::none_grew, swreq_text::proofs::Grown::grew_next))]

@@ -1,18 +1,16 @@
 //! Requirements and signatures.
 
-ghost use Rattle.std.specs.Prelude.{◌≡◌, ◌++◌, ⊤, map, IfOk, OnErr, OnOk};
-ghost use Rattle.std.specs.List.{All};
-ghost use Rattle.swreq_derive.specs.Facts.{generic_params, params_of_depth, requirement_of};
+ghost use Rattle.std.specs.{Prelude.{◌≡◌, ◌++◌, ⊤, map, IfOk, OnErr, OnOk}, List.{All}};
+ghost use Rattle.swreq_lexicon.specs.swreq_derive.Facts.{generic_params, params_of_depth, requirement_of};
 ghost use Rattle.swreq_lowering.specs.ByTable.{HasIdsOf};
-ghost use Rattle.swreq_print.specs.Types.{param_text};
-ghost use Rattle.swreq_print.specs.Signatures.{requirement_text_in, requirement_text, self_text, signature_text, where_text};
+ghost use Rattle.swreq_print.specs.{Types.{param_text}, Signatures.{requirement_text_in, requirement_text, self_text, signature_text, where_text}};
 
-use crate::names::protocol_name;
+use crate::naming::protocol_name;
 use crate::types::{ParamForm, put_param, put_type};
 use std::alloc::{AllocError, Global};
-use swreq_derive::{Params, Requirement};
 use swreq_lexicon::Lexicon;
-use swreq_param::{ParamId, ParamTable};
+use swreq_lexicon::derive::{Params, Requirement};
+use swreq_lexicon::param::{ParamId, ParamTable};
 use swreq_text::{Print, append_bytes, put_joined};
 
 fn put_requirement(

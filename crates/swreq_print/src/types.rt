@@ -1,15 +1,14 @@
 //! Type parameters.
 
 ghost use Rattle.std.specs.Prelude.{◌≡◌, ◌++◌, codes, OnErr, OnOk};
-ghost use Rattle.swreq_param.specs.Owned.{as_term};
-ghost use Rattle.swreq_param.specs.Tables.{IsOf, term_at};
+ghost use Rattle.swreq_lexicon.specs.swreq_param.{Owned.{as_term}, Tables.{IsOf, term_at}};
 ghost use Rattle.swreq_text.specs.Joined.{GrewByPart};
 ghost use Rattle.swreq_print.specs.Types.{bound_text, head_text, param_text, step_text, steps_text, type_text_in, type_text};
 
-use crate::names::{name_text, pair_at, protocol_name};
+use crate::naming::{name_text, pair_at, protocol_name};
 use std::alloc::{AllocError, Global};
+use swreq_lexicon::param::{ParamId, ParamTable, Step, TermId, TypeParam};
 use swreq_lexicon::{Lexicon, ProtocolName};
-use swreq_param::{ParamId, ParamTable, Step, TermId, TypeParam};
 use swreq_text::{append_bytes, append_number};
 
 /// How a generic parameter is printed, by where it stands.

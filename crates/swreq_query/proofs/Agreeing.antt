@@ -1,28 +1,28 @@
 -- Lists with one minimised list are equivalent, where it is decided what they derive. A goal that is decided holds where it is not refuted.
 use Rattle.std.proofs.Common.{List, [], ◌∷◌, Contains, inl, inr, subst, sym}
-use Rattle.swreq_lemmas.specs.WellFounded.{IsAccessible}
-use Rattle.swreq_lemmas.specs.WellFounded.IsAccessible.{reached}
-use Rattle.swreq_param.specs.declared.ids.ParamId.{ParamId}
-use Rattle.swreq_derive.specs.Derivation.{Derivable, Source, TermFacts, TermRequirement, TermStatement}
-use Rattle.swreq_derive.specs.Derivation.Source.{Written}
-use Rattle.swreq_derive.specs.Derivation.TermRequirement.{Conforms, IsAnyObject, Equals}
-use Rattle.swreq_derive.specs.Derivation.TermStatement.{Requires}
-use Rattle.swreq_derive.specs.Equivalence.{AreEquivalent}
-use Rattle.swreq_lemmas.proofs.Members.{first_member, later_member, member_cases, no_member}
-use Rattle.swreq_correspondence.specs.Symbols.{Symbols}
-use Rattle.swreq_canonical.specs.Canonical.{HasReducedTypes, IsCanonical, principal}
-use Rattle.swreq_canonical.specs.CanonicalOrder.{RequirementBefore}
-use Rattle.swreq_canonical.specs.Generators.{Follows, IsEarlier, IsGeneratorList}
-use Rattle.swreq_canonical.specs.Minimised.{IsMinimised}
-use Rattle.swreq_canonical.proofs.Agreement.{minimised_canonical}
-use Rattle.swreq_canonical.proofs.Covering.{derived_by_list}
-use Rattle.swreq_canonical.proofs.Dropping.{same_left}
-use Rattle.swreq_canonical.proofs.Following.{HasFollowingSides, by_members, cut, itself}
-use Rattle.swreq_canonical.proofs.Ordered.{requirements_founded}
-use Rattle.swreq_canonical.proofs.Sides.{IsOfEarlierType, sides_by_earlier}
-use Rattle.swreq_canonical.proofs.Sufficing.{suffice}
-use Rattle.swreq_candidates.specs.Completed.{IsCompleted}
-use Rattle.swreq_candidates.proofs.Completions.{derivable_here, reduced_here}
+use Rattle.swreq_print.specs.swreq_lemmas.WellFounded.{IsAccessible}
+use Rattle.swreq_print.specs.swreq_lemmas.WellFounded.IsAccessible.{reached}
+use Rattle.swreq_print.specs.swreq_param.declared.ids.ParamId.{ParamId}
+use Rattle.swreq_print.specs.swreq_derive.Derivation.{Derivable, Source, TermFacts, TermRequirement, TermStatement}
+use Rattle.swreq_print.specs.swreq_derive.Derivation.Source.{Written}
+use Rattle.swreq_print.specs.swreq_derive.Derivation.TermRequirement.{Conforms, IsAnyObject, Equals}
+use Rattle.swreq_print.specs.swreq_derive.Derivation.TermStatement.{Requires}
+use Rattle.swreq_print.specs.swreq_derive.Equivalence.{AreEquivalent}
+use Rattle.swreq_print.proofs.swreq_lemmas.Members.{first_member, later_member, member_cases, no_member}
+use Rattle.swreq_machine.specs.swreq_correspondence.Symbols.{Symbols}
+use Rattle.swreq_minimal.specs.swreq_canonical.Canonical.{HasReducedTypes, IsCanonical, principal}
+use Rattle.swreq_minimal.specs.swreq_canonical.CanonicalOrder.{RequirementBefore}
+use Rattle.swreq_minimal.specs.swreq_canonical.Generators.{Follows, IsEarlier, IsGeneratorList}
+use Rattle.swreq_minimal.specs.swreq_canonical.Minimised.{IsMinimised}
+use Rattle.swreq_minimal.proofs.swreq_canonical.Agreement.{minimised_canonical}
+use Rattle.swreq_minimal.proofs.swreq_canonical.Covering.{derived_by_list}
+use Rattle.swreq_minimal.proofs.swreq_canonical.Dropping.{same_left}
+use Rattle.swreq_minimal.proofs.swreq_canonical.Following.{HasFollowingSides, by_members, cut, itself}
+use Rattle.swreq_minimal.proofs.swreq_canonical.Ordered.{requirements_founded}
+use Rattle.swreq_minimal.proofs.swreq_canonical.Sides.{IsOfEarlierType, sides_by_earlier}
+use Rattle.swreq_minimal.proofs.swreq_canonical.Sufficing.{suffice}
+use Rattle.swreq_minimal.specs.swreq_candidates.Completed.{IsCompleted}
+use Rattle.swreq_minimal.proofs.swreq_candidates.Completions.{derivable_here, reduced_here}
 
 -- It is not refuted.
 abbrev Maybe : Type 0 → Type 0

@@ -1,30 +1,30 @@
 -- The rounds of the protocols and of a list have ended: what their rules give.
 use Rattle.std.proofs.Common.{List, [], sym, subst, length}
-use Rattle.swreq_derive.specs.Derivation.Source.{Written}
-use Rattle.swreq_derive.specs.Facts.{generic_params}
-use Rattle.swreq_rule.specs.declared.rules.Rule.{Rule}
-use Rattle.swreq_watch.specs.declared.events.Event.{Event}
-use Rattle.swreq_pair.specs.CriticalPairs.{PairsMeet}
-use Rattle.swreq_complete.specs.declared.limit.Limits.{Limits}
-use Rattle.swreq_complete.proofs.Ended.{pairs_meet}
-use Rattle.swreq_correspondence.specs.Equations.{UsableEquation}
-use Rattle.swreq_correspondence.specs.Symbols.{IsInText}
-use Rattle.swreq_rounds.specs.Plan.{Item, Plan, given}
-use Rattle.swreq_rounds.specs.Presents.{AreListRules, AreProtocolRules, ProtocolEquation}
-use Rattle.swreq_rounds.specs.Rounds.{IsLastRound}
-use Rattle.swreq_rounds.proofs.LastRound.{list_law, protocols_law}
-use Rattle.swreq_candidates.specs.Completed.{IsCompleted}
-use Rattle.swreq_candidates.proofs.RulesGive.{least_words}
-use Rattle.swreq_lowering.specs.Requirements.{PlacedRequirement}
-use Rattle.swreq_world.specs.Closed.{IsClosed}
-use Rattle.swreq_world.specs.Worlds.{SignatureOver, TextWorld}
-use Rattle.swreq_symbols.specs.Meaning.{facts_of, symbols_of}
-use Rattle.swreq_symbols.proofs.Symbols.{ranks_law, symbols_law, text_law}
+use Rattle.swreq_print.specs.swreq_derive.Derivation.Source.{Written}
+use Rattle.swreq_print.specs.swreq_derive.Facts.{generic_params}
+use Rattle.swreq_print.specs.swreq_rule.declared.rules.Rule.{Rule}
+use Rattle.swreq_machine.specs.swreq_watch.declared.events.Event.{Event}
+use Rattle.swreq_machine.specs.swreq_pair.CriticalPairs.{PairsMeet}
+use Rattle.swreq_machine.specs.swreq_complete.declared.limit.Limits.{Limits}
+use Rattle.swreq_machine.proofs.swreq_complete.Ended.{pairs_meet}
+use Rattle.swreq_machine.specs.swreq_correspondence.Equations.{UsableEquation}
+use Rattle.swreq_machine.specs.swreq_correspondence.Symbols.{IsInText}
+use Rattle.swreq_machine.specs.swreq_rounds.Plan.{Item, Plan, given}
+use Rattle.swreq_machine.specs.swreq_rounds.Presents.{AreListRules, AreProtocolRules, ProtocolEquation}
+use Rattle.swreq_machine.specs.swreq_rounds.Rounds.{IsLastRound}
+use Rattle.swreq_machine.proofs.swreq_rounds.LastRound.{list_law, protocols_law}
+use Rattle.swreq_minimal.specs.swreq_candidates.Completed.{IsCompleted}
+use Rattle.swreq_minimal.proofs.swreq_candidates.RulesGive.{least_words}
+use Rattle.swreq_print.specs.swreq_lowering.Requirements.{PlacedRequirement}
+use Rattle.swreq_machine.specs.swreq_world.Closed.{IsClosed}
+use Rattle.swreq_machine.specs.swreq_world.Worlds.{SignatureOver, TextWorld}
+use Rattle.swreq_machine.specs.swreq_symbols.Meaning.{facts_of, symbols_of}
+use Rattle.swreq_machine.proofs.swreq_symbols.Symbols.{ranks_law, symbols_law, text_law}
 use Rattle.swreq_machine.specs.Machines.{list_of}
-use Rattle.swreq_valid.specs.Protocols.{protocols_of}
+use Rattle.swreq_machine.specs.swreq_valid.Protocols.{protocols_of}
 use Rattle.swreq_minimal.proofs.Named.{members_named}
 use Rattle.swreq_query.specs.Ended.{HasEnded}
-use Rattle.swreq_world.specs.FactsAt.{written_list}
+use Rattle.swreq_machine.specs.swreq_world.FactsAt.{written_list}
 
 -- no rules have pairs
 none_meet : PairsMeet []

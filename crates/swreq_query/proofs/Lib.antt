@@ -1,3 +1,4 @@
+pub use Rattle.swreq_minimal.proofs.swreq_canonical as swreq_canonical
 pub mod Along
 pub mod Appending
 pub mod Judging

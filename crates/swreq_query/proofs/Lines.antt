@@ -1,31 +1,31 @@
 -- What the lines of a signature are made of.
 use Rattle.std.proofs.Common.{◌≡◌, ◌∙◌, refl, sym, subst, ℕ, List, ◌++◌}
 use Rattle.std.specs.Prelude.{codes}
-use Rattle.swreq_param.specs.Terms.{Term}
-use Rattle.swreq_derive.specs.declared.known.Params.{Params}
-use Rattle.swreq_derive.specs.declared.requirements.Requirement.{Requirement}
-use Rattle.swreq_derive.specs.Derivation.{TermRequirement}
-use Rattle.swreq_derive.specs.Derivation.Source.{Written as WrittenList}
-use Rattle.swreq_derive.specs.Equivalence.{AreEquivalent}
-use Rattle.swreq_derive.specs.Facts.{generic_params}
-use Rattle.swreq_word.specs.Relations.{Linked}
-use Rattle.swreq_rule.specs.declared.rules.Rule.{Rule}
-use Rattle.swreq_rule.specs.Steps.{Step}
-use Rattle.swreq_complete.specs.Reduced.{IsReducedSystem}
-use Rattle.swreq_lowering.specs.declared.ids.FuncId.{FuncId}
-use Rattle.swreq_lowering.specs.Requirements.{PlacedRequirement}
-use Rattle.swreq_world.specs.ByTable.{world_by}
-use Rattle.swreq_world.specs.Worlds.{IdWorld, SignatureOver, TextWorld, signature_at}
-use Rattle.swreq_correspondence.specs.Equations.{AreCongruent, UsableEquation}
-use Rattle.swreq_canonical.specs.Minimised.{IsMinimised}
-use Rattle.swreq_candidates.proofs.RulesGive.{reduced_system}
-use Rattle.swreq_symbols.specs.Meaning.{facts_of, symbols_of}
+use Rattle.swreq_print.specs.swreq_param.Terms.{Term}
+use Rattle.swreq_print.specs.swreq_derive.declared.known.Params.{Params}
+use Rattle.swreq_print.specs.swreq_derive.declared.requirements.Requirement.{Requirement}
+use Rattle.swreq_print.specs.swreq_derive.Derivation.{TermRequirement}
+use Rattle.swreq_print.specs.swreq_derive.Derivation.Source.{Written as WrittenList}
+use Rattle.swreq_print.specs.swreq_derive.Equivalence.{AreEquivalent}
+use Rattle.swreq_print.specs.swreq_derive.Facts.{generic_params}
+use Rattle.swreq_print.specs.swreq_word.Relations.{Linked}
+use Rattle.swreq_print.specs.swreq_rule.declared.rules.Rule.{Rule}
+use Rattle.swreq_print.specs.swreq_rule.Steps.{Step}
+use Rattle.swreq_machine.specs.swreq_complete.Reduced.{IsReducedSystem}
+use Rattle.swreq_print.specs.swreq_lowering.declared.ids.FuncId.{FuncId}
+use Rattle.swreq_print.specs.swreq_lowering.Requirements.{PlacedRequirement}
+use Rattle.swreq_machine.specs.swreq_world.ByTable.{world_by}
+use Rattle.swreq_machine.specs.swreq_world.Worlds.{IdWorld, SignatureOver, TextWorld, signature_at}
+use Rattle.swreq_machine.specs.swreq_correspondence.Equations.{AreCongruent, UsableEquation}
+use Rattle.swreq_minimal.specs.swreq_canonical.Minimised.{IsMinimised}
+use Rattle.swreq_minimal.proofs.swreq_candidates.RulesGive.{reduced_system}
+use Rattle.swreq_machine.specs.swreq_symbols.Meaning.{facts_of, symbols_of}
 use Rattle.swreq_machine.specs.Machines.{IsMachineOf, MachineView}
-use Rattle.swreq_valid.specs.Plans.{listed}
-use Rattle.swreq_valid.specs.Rounds.{last_rules}
+use Rattle.swreq_machine.specs.swreq_valid.Plans.{listed}
+use Rattle.swreq_machine.specs.swreq_valid.Rounds.{last_rules}
 use Rattle.swreq_print.specs.Signatures.{signature_text}
 use Rattle.swreq_query.specs.Signatures.{IsMinimisedLine}
-use Rattle.swreq_world.specs.FactsAt.{written_list}
+use Rattle.swreq_machine.specs.swreq_world.FactsAt.{written_list}
 use Rattle.swreq_query.specs.Systems.{IsSystemText, system_text}
 use Rattle.swreq_query.proofs.Reading.{params_are}
 

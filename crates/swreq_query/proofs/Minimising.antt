@@ -1,23 +1,23 @@
 -- What minimising a signature tells, by what minimising its machine's list tells.
 use Rattle.std.proofs.Common.{◌≡◌, sym, subst, List, Option}
-use Rattle.swreq_derive.specs.declared.known.Params.{Params}
-use Rattle.swreq_derive.specs.Derivation.{TermRequirement}
-use Rattle.swreq_derive.specs.Facts.{generic_params}
-use Rattle.swreq_rule.specs.declared.rules.Rule.{Rule}
-use Rattle.swreq_watch.specs.declared.events.Event.{Event}
-use Rattle.swreq_watch.specs.Told.{GrewBy}
-use Rattle.swreq_complete.specs.declared.limit.Limits.{Limits}
-use Rattle.swreq_complete.specs.declared.limit.Failed.{Failed}
-use Rattle.swreq_complete.specs.declared.limit.Failed.TheVariants.{Memory}
-use Rattle.swreq_lowering.specs.Requirements.{PlacedRequirement}
-use Rattle.swreq_world.specs.Worlds.{SignatureOver, TextWorld}
-use Rattle.swreq_symbols.specs.Meaning.{facts_of, symbols_of}
+use Rattle.swreq_print.specs.swreq_derive.declared.known.Params.{Params}
+use Rattle.swreq_print.specs.swreq_derive.Derivation.{TermRequirement}
+use Rattle.swreq_print.specs.swreq_derive.Facts.{generic_params}
+use Rattle.swreq_print.specs.swreq_rule.declared.rules.Rule.{Rule}
+use Rattle.swreq_machine.specs.swreq_watch.declared.events.Event.{Event}
+use Rattle.swreq_machine.specs.swreq_watch.Told.{GrewBy}
+use Rattle.swreq_machine.specs.swreq_complete.declared.limit.Limits.{Limits}
+use Rattle.swreq_machine.specs.swreq_complete.declared.limit.Failed.{Failed}
+use Rattle.swreq_machine.specs.swreq_complete.declared.limit.Failed.TheVariants.{Memory}
+use Rattle.swreq_print.specs.swreq_lowering.Requirements.{PlacedRequirement}
+use Rattle.swreq_machine.specs.swreq_world.Worlds.{SignatureOver, TextWorld}
+use Rattle.swreq_machine.specs.swreq_symbols.Meaning.{facts_of, symbols_of}
 use Rattle.swreq_machine.specs.Machines.{list_of}
 use Rattle.swreq_minimal.specs.Passed.{IsPassedOf}
 use Rattle.swreq_minimal.specs.Told.{TellsFailure, TellsParts}
 use Rattle.swreq_minimal.proofs.Telling.{wants_memory}
 use Rattle.swreq_query.specs.Minimising.{MinimisingFails, MinimisingTells}
-use Rattle.swreq_world.specs.FactsAt.{written_list}
+use Rattle.swreq_machine.specs.swreq_world.FactsAt.{written_list}
 
 module _ (limits : Limits) (w : TextWorld) (rules : List Rule) (g : SignatureOver PlacedRequirement) (old new : Option (List Event)) where
   -- the lists that minimising may complete, with these generic parameters

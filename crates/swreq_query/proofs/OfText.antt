@@ -5,27 +5,27 @@ use Rattle.std.proofs.lemmas.List.Elements.{All-contains, All-get_or, All-map, A
 use Rattle.std.proofs.lemmas.Bool.{cases_lt}
 use Rattle.std.proofs.lemmas.List.{get_or_past}
 use Rattle.std.proofs.lemmas.Option.{slice_get_within}
-use Rattle.swreq_param.specs.declared.ids.AssocId.{AssocId}
-use Rattle.swreq_param.specs.declared.ids.NameId.{NameId}
-use Rattle.swreq_param.specs.declared.ids.ParamId.{ParamId}
-use Rattle.swreq_param.specs.declared.ids.ProtoId.{ProtoId}
-use Rattle.swreq_param.specs.Terms.{Term, head}
-use Rattle.swreq_param.specs.Terms.Term.{Generic, Member}
-use Rattle.swreq_derive.specs.Derivation.{Derivable, TermRequirement, TermStatement, Declares, for_self}
-use Rattle.swreq_derive.specs.Derivation.Derives.{generic, conf, same, layout, assoc_name, assoc_decl, assoc_bind, assoc_conf, assoc_same, assoc_layout, reflex, symm, trans, same_conf, same_layout, same_name, same_decl}
-use Rattle.swreq_derive.specs.Derivation.Source.{Written}
-use Rattle.swreq_derive.specs.Derivation.TermRequirement.{Conforms, IsAnyObject, Equals}
-use Rattle.swreq_derive.specs.Derivation.TermStatement.{IsValid, Requires}
-use Rattle.swreq_lemmas.proofs.Members.{first_member, later_member, no_member, each_by_recursion}
-use Rattle.swreq_lexicon.specs.Lexicons.{pair}
-use Rattle.swreq_lexicon.specs.Views.{LexiconView, IsName}
-use Rattle.swreq_lowering.specs.Heads.{IsOver}
-use Rattle.swreq_lowering.specs.OfText.{IsRequirementOf, IsTermOf}
-use Rattle.swreq_lowering.specs.Requirements.{PlacedRequirement}
-use Rattle.swreq_world.specs.Closed.{IsClosed, IsOfProtocol}
-use Rattle.swreq_world.specs.Worlds.{TextWorld, requirements_of}
-use Rattle.swreq_symbols.specs.Meaning.{facts_of}
-use Rattle.swreq_symbols.proofs.Declared.{at_rank, of_text}
+use Rattle.swreq_print.specs.swreq_param.declared.ids.AssocId.{AssocId}
+use Rattle.swreq_print.specs.swreq_param.declared.ids.NameId.{NameId}
+use Rattle.swreq_print.specs.swreq_param.declared.ids.ParamId.{ParamId}
+use Rattle.swreq_print.specs.swreq_param.declared.ids.ProtoId.{ProtoId}
+use Rattle.swreq_print.specs.swreq_param.Terms.{Term, head}
+use Rattle.swreq_print.specs.swreq_param.Terms.Term.{Generic, Member}
+use Rattle.swreq_print.specs.swreq_derive.Derivation.{Derivable, TermRequirement, TermStatement, Declares, for_self}
+use Rattle.swreq_print.specs.swreq_derive.Derivation.Derives.{generic, conf, same, layout, assoc_name, assoc_decl, assoc_bind, assoc_conf, assoc_same, assoc_layout, reflex, symm, trans, same_conf, same_layout, same_name, same_decl}
+use Rattle.swreq_print.specs.swreq_derive.Derivation.Source.{Written}
+use Rattle.swreq_print.specs.swreq_derive.Derivation.TermRequirement.{Conforms, IsAnyObject, Equals}
+use Rattle.swreq_print.specs.swreq_derive.Derivation.TermStatement.{IsValid, Requires}
+use Rattle.swreq_print.proofs.swreq_lemmas.Members.{first_member, later_member, no_member, each_by_recursion}
+use Rattle.swreq_print.specs.swreq_lexicon.Lexicons.{pair}
+use Rattle.swreq_print.specs.swreq_lexicon.Views.{LexiconView, IsName}
+use Rattle.swreq_print.specs.swreq_lowering.Heads.{IsOver}
+use Rattle.swreq_print.specs.swreq_lowering.OfText.{IsRequirementOf, IsTermOf}
+use Rattle.swreq_print.specs.swreq_lowering.Requirements.{PlacedRequirement}
+use Rattle.swreq_machine.specs.swreq_world.Closed.{IsClosed, IsOfProtocol}
+use Rattle.swreq_machine.specs.swreq_world.Worlds.{TextWorld, requirements_of}
+use Rattle.swreq_machine.specs.swreq_symbols.Meaning.{facts_of}
+use Rattle.swreq_machine.proofs.swreq_symbols.Declared.{at_rank, of_text}
 use Rattle.swreq_print.specs.Reading.{HasNumbers, IsAssociated, IsReadableRequirement, IsReadableType}
 
 -- ---- type parameters

@@ -6,46 +6,46 @@ use Rattle.std.specs.Str.{chars}
 use Rattle.std.proofs.lemmas.Bool.{cases_lt}
 use Rattle.std.proofs.lemmas.List.{append_cancel_right}
 use Rattle.std.proofs.lemmas.List.Elements.{All-contains, All-map, All-weaker}
-use Rattle.swreq_lex.specs.Tokens.{first_offset}
-use Rattle.swreq_lex.proofs.SliceLemmas.{are_slices}
-use Rattle.swreq_decl.specs.declared.skeleton.ParamDecl.{ParamDecl}
-use Rattle.swreq_decl.specs.declared.skeleton.Skeleton.{Skeleton}
-use Rattle.swreq_param.specs.declared.ids.ParamId.{ParamId}
-use Rattle.swreq_derive.specs.declared.known.Params.{Params}
-use Rattle.swreq_derive.specs.Derivation.{TermRequirement}
-use Rattle.swreq_derive.specs.Derivation.Source.{Written}
-use Rattle.swreq_derive.specs.Equivalence.{AreEquivalent}
-use Rattle.swreq_derive.specs.Facts.{generic_params}
-use Rattle.swreq_derive.proofs.TwoDepths.{two_depths}
-use Rattle.swreq_complete.specs.declared.limit.Limits.{Limits}
-use Rattle.swreq_candidates.specs.Completed.{IsCompleted}
-use Rattle.swreq_canonical.specs.Minimised.{IsMinimised}
-use Rattle.swreq_canonical.proofs.Agreement.{minimised_canonical, same_minimised}
-use Rattle.swreq_names.specs.declared.signature.Signature.{Signature}
-use Rattle.swreq_correspondence.specs.Symbols.{IsInText}
-use Rattle.swreq_lowering.specs.OfText.{IsRequirementOf}
-use Rattle.swreq_lowering.specs.Requirements.{PlacedRequirement}
-use Rattle.swreq_lowering.specs.Short.{HasShortLists}
-use Rattle.swreq_lowering.proofs.Shorter.{short_lists}
-use Rattle.swreq_lowering.specs.Signatures.{counts, in_order, own_param_decls, outer_param_decls, params_of}
-use Rattle.swreq_world.specs.Closed.{HasOwn, IsClosed, IsOfSignature}
-use Rattle.swreq_world.specs.Text.{signature_in, signatures}
-use Rattle.swreq_world.specs.WorldOf.{IsWorldOf, words_of}
-use Rattle.swreq_world.specs.Worlds.{SignatureOver, TextWorld}
-use Rattle.swreq_world.proofs.Closing.{closed}
-use Rattle.swreq_world.proofs.Offsets.{protocols_rising}
-use Rattle.swreq_symbols.specs.Meaning.{facts_of, symbols_of}
-use Rattle.swreq_symbols.proofs.Symbols.{list_law}
+use Rattle.swreq_print.specs.swreq_lex.Tokens.{first_offset}
+use Rattle.swreq_print.proofs.swreq_lex.SliceLemmas.{are_slices}
+use Rattle.swreq_print.specs.swreq_decl.declared.skeleton.ParamDecl.{ParamDecl}
+use Rattle.swreq_print.specs.swreq_decl.declared.skeleton.Skeleton.{Skeleton}
+use Rattle.swreq_print.specs.swreq_param.declared.ids.ParamId.{ParamId}
+use Rattle.swreq_print.specs.swreq_derive.declared.known.Params.{Params}
+use Rattle.swreq_print.specs.swreq_derive.Derivation.{TermRequirement}
+use Rattle.swreq_print.specs.swreq_derive.Derivation.Source.{Written}
+use Rattle.swreq_print.specs.swreq_derive.Equivalence.{AreEquivalent}
+use Rattle.swreq_print.specs.swreq_derive.Facts.{generic_params}
+use Rattle.swreq_machine.proofs.swreq_derive.TwoDepths.{two_depths}
+use Rattle.swreq_machine.specs.swreq_complete.declared.limit.Limits.{Limits}
+use Rattle.swreq_minimal.specs.swreq_candidates.Completed.{IsCompleted}
+use Rattle.swreq_minimal.specs.swreq_canonical.Minimised.{IsMinimised}
+use Rattle.swreq_minimal.proofs.swreq_canonical.Agreement.{minimised_canonical, same_minimised}
+use Rattle.swreq_print.specs.swreq_names.declared.signature.Signature.{Signature}
+use Rattle.swreq_machine.specs.swreq_correspondence.Symbols.{IsInText}
+use Rattle.swreq_print.specs.swreq_lowering.OfText.{IsRequirementOf}
+use Rattle.swreq_print.specs.swreq_lowering.Requirements.{PlacedRequirement}
+use Rattle.swreq_print.specs.swreq_lowering.Short.{HasShortLists}
+use Rattle.swreq_print.proofs.swreq_lowering.Shorter.{short_lists}
+use Rattle.swreq_print.specs.swreq_lowering.Signatures.{counts, in_order, own_param_decls, outer_param_decls, params_of}
+use Rattle.swreq_machine.specs.swreq_world.Closed.{HasOwn, IsClosed, IsOfSignature}
+use Rattle.swreq_machine.specs.swreq_world.Text.{signature_in, signatures}
+use Rattle.swreq_machine.specs.swreq_world.WorldOf.{IsWorldOf, words_of}
+use Rattle.swreq_machine.specs.swreq_world.Worlds.{SignatureOver, TextWorld}
+use Rattle.swreq_machine.proofs.swreq_world.Closing.{closed}
+use Rattle.swreq_machine.proofs.swreq_world.Offsets.{protocols_rising}
+use Rattle.swreq_machine.specs.swreq_symbols.Meaning.{facts_of, symbols_of}
+use Rattle.swreq_machine.proofs.swreq_symbols.Symbols.{list_law}
 use Rattle.swreq_print.specs.Reading.{HasNumbers, IsReadableRequirement, IsReadableSignature, TellsApart}
 use Rattle.swreq_print.specs.Signatures.{signature_text}
 use Rattle.swreq_print.proofs.ReadSignatures.{signature_read}
 use Rattle.swreq_print.proofs.Telling.{names_tell}
 use Rattle.swreq_query.specs.Ended.{HasEnded, IsWorldOfText}
 use Rattle.swreq_query.specs.Signatures.{IsMinimisedLine}
-use Rattle.swreq_world.specs.FactsAt.{written_list}
+use Rattle.swreq_machine.specs.swreq_world.FactsAt.{written_list}
 use Rattle.swreq_query.proofs.Agreeing.{same_by_one}
 use Rattle.swreq_query.proofs.Ended.{completed}
-use Rattle.swreq_lemmas.proofs.Members.{each_by_recursion}
+use Rattle.swreq_print.proofs.swreq_lemmas.Members.{each_by_recursion}
 use Rattle.swreq_query.proofs.OfText.{requirement_is, speaks}
 
 -- ---- generic parameters

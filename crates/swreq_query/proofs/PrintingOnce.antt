@@ -3,22 +3,22 @@ use Rattle.std.proofs.Common.{◌≡◌, ◌∙◌, ◌++◌, ℕ, List, Some, a
 use Rattle.std.specs.List.{slice_get}
 use Rattle.std.proofs.lemmas.List.{length-map}
 use Rattle.std.proofs.lemmas.List.Folds.{flat_map-map}
-use Rattle.swreq_lemmas.proofs.Elements.{get_map, get_of_map}
-use Rattle.swreq_word.specs.declared.symbols.Symbol.{Symbol}
-use Rattle.swreq_word.specs.Order.{WordLess}
-use Rattle.swreq_word.proofs.Chains.{joined}
-use Rattle.swreq_word.proofs.LeastWords.{one_least}
-use Rattle.swreq_rule.specs.declared.rules.Birth.TheVariants.{Given}
-use Rattle.swreq_rule.specs.declared.rules.Rule.{Rule}
-use Rattle.swreq_rule.proofs.Same.{same_rule}
-use Rattle.swreq_complete.specs.Reduced.{IsReducedSystem, IsSorted}
-use Rattle.swreq_complete.proofs.OneReduced.{same_lists}
-use Rattle.swreq_correspondence.specs.Equations.{AreCongruent}
-use Rattle.swreq_correspondence.proofs.Chained.{turn_all}
-use Rattle.swreq_lowering.specs.Requirements.{PlacedRequirement}
-use Rattle.swreq_world.specs.FactsAt.{source_of}
-use Rattle.swreq_world.specs.Worlds.{SignatureOver, TextWorld}
-use Rattle.swreq_symbols.specs.Meaning.{facts_of, symbols_of}
+use Rattle.swreq_print.proofs.swreq_lemmas.Elements.{get_map, get_of_map}
+use Rattle.swreq_print.specs.swreq_word.declared.symbols.Symbol.{Symbol}
+use Rattle.swreq_print.specs.swreq_word.Order.{WordLess}
+use Rattle.swreq_print.proofs.swreq_word.Chains.{joined}
+use Rattle.swreq_print.proofs.swreq_word.LeastWords.{one_least}
+use Rattle.swreq_print.specs.swreq_rule.declared.rules.Birth.TheVariants.{Given}
+use Rattle.swreq_print.specs.swreq_rule.declared.rules.Rule.{Rule}
+use Rattle.swreq_print.proofs.swreq_rule.Same.{same_rule}
+use Rattle.swreq_machine.specs.swreq_complete.Reduced.{IsReducedSystem, IsSorted}
+use Rattle.swreq_machine.proofs.swreq_complete.OneReduced.{same_lists}
+use Rattle.swreq_machine.specs.swreq_correspondence.Equations.{AreCongruent}
+use Rattle.swreq_machine.proofs.swreq_correspondence.Chained.{turn_all}
+use Rattle.swreq_print.specs.swreq_lowering.Requirements.{PlacedRequirement}
+use Rattle.swreq_machine.specs.swreq_world.FactsAt.{source_of}
+use Rattle.swreq_machine.specs.swreq_world.Worlds.{SignatureOver, TextWorld}
+use Rattle.swreq_machine.specs.swreq_symbols.Meaning.{facts_of, symbols_of}
 use Rattle.swreq_query.specs.Signatures.{IsMinimisedLine, IsNamedLine, full_name}
 use Rattle.swreq_query.specs.Systems.{IsSystemText, rule_line, system_text}
 use Rattle.swreq_query.proofs.PrintingAlike.{lines_alike}

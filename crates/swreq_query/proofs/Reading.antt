@@ -2,14 +2,14 @@
 use Rattle.std.proofs.Common.{◌≡◌, ◌∙◌, refl, sym, ap, append_assoc, subst, ℕ, List, [], ◌++◌, Option, Some, None}
 use Rattle.std.specs.Option.{option_map_or}
 use Rattle.std.specs.Prelude.{codes}
-use Rattle.swreq_param.specs.Terms.{Term}
+use Rattle.swreq_print.specs.swreq_param.Terms.{Term}
 use Rattle.swreq_text.specs.Joined.{GrewByPart}
-use Rattle.swreq_lowering.specs.declared.ids.FuncId.{FuncId}
-use Rattle.swreq_world.proofs.Finding.{outer_by}
-use Rattle.swreq_world.specs.ByTable.{signature_by, world_by}
-use Rattle.swreq_world.specs.Lookups.{outer_name}
-use Rattle.swreq_world.specs.Worlds.{IdWorld, signature_at}
-use Rattle.swreq_symbols.proofs.OfText.{signature_is}
+use Rattle.swreq_print.specs.swreq_lowering.declared.ids.FuncId.{FuncId}
+use Rattle.swreq_machine.proofs.swreq_world.Finding.{outer_by}
+use Rattle.swreq_machine.specs.swreq_world.ByTable.{signature_by, world_by}
+use Rattle.swreq_machine.specs.swreq_world.Lookups.{outer_name}
+use Rattle.swreq_machine.specs.swreq_world.Worlds.{IdWorld, signature_at}
+use Rattle.swreq_machine.proofs.swreq_symbols.OfText.{signature_is}
 use Rattle.swreq_query.specs.Signatures.{full_name}
 
 module _ (terms : List Term) (w : IdWorld) where

@@ -5,10 +5,10 @@ use Rattle.std.proofs.lemmas.List.Concat.{flat_map-cons}
 use Rattle.std.specs.List.{flat_map}
 use Rattle.swreq_text.specs.Joined.{GrewByPart}
 use Rattle.swreq_text.proofs.Grown.{grew_first, grew_on, piece_grew}
-use Rattle.swreq_lexicon.specs.Views.{LexiconView}
-use Rattle.swreq_rule.specs.declared.rules.Rule.{Rule}
-use Rattle.swreq_lowering.specs.Requirements.{PlacedRequirement}
-use Rattle.swreq_world.specs.Worlds.{SignatureOver, TextWorld}
+use Rattle.swreq_print.specs.swreq_lexicon.Views.{LexiconView}
+use Rattle.swreq_print.specs.swreq_rule.declared.rules.Rule.{Rule}
+use Rattle.swreq_print.specs.swreq_lowering.Requirements.{PlacedRequirement}
+use Rattle.swreq_machine.specs.swreq_world.Worlds.{SignatureOver, TextWorld}
 use Rattle.swreq_query.specs.Signatures.{full_name}
 use Rattle.swreq_query.specs.Systems.{rule_line, system_text}
 

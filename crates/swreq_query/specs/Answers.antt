@@ -1,34 +1,29 @@
 -- The answers of queries, by what is derivable.
-use Rattle.std.specs.Prelude.{◌≡◌, ◌⊎◌, ◌++◌, Option, Some, None, codes}
-use Rattle.swreq_param.specs.Order.{TermBefore}
-use Rattle.swreq_param.specs.Terms.{Term}
-use Rattle.swreq_derive.specs.Derivation.{TermRequirement, TermStatement}
-use Rattle.swreq_derive.specs.Derivation.TermRequirement.{Conforms, IsAnyObject, Equals}
-use Rattle.swreq_derive.specs.Derivation.TermStatement.{IsValid, Requires}
+use Rattle.std.specs.Prelude.{◌≡◌, ◌⊎◌, ◌++◌, codes}
+use Rattle.swreq_print.specs.swreq_param.Order.{TermBefore}
+use Rattle.swreq_print.specs.swreq_param.Terms.{Term}
+use Rattle.swreq_print.specs.swreq_derive.Derivation.{TermRequirement, TermStatement}
+use Rattle.swreq_print.specs.swreq_derive.Derivation.TermRequirement.{Conforms, IsAnyObject, Equals}
+use Rattle.swreq_print.specs.swreq_derive.Derivation.TermStatement.{IsValid, Requires}
 use Rattle.swreq_print.specs.Names.{Text}
 use Rattle.swreq_print.specs.Types.{type_text}
-use Rattle.swreq_lexicon.specs.Views.{LexiconView}
-use Rattle.swreq_lowering.specs.Queries.{TermQuery}
-use Rattle.swreq_lowering.specs.Queries.TermQuery.{AsksSignature, AsksReduced, AsksConforms, AsksAnyObject, AsksEquals}
-use Rattle.swreq_lowering.specs.declared.ids.FuncId.{FuncId}
+use Rattle.swreq_print.specs.swreq_lexicon.Views.{LexiconView}
+use Rattle.swreq_print.specs.swreq_lowering.Queries.{TermAsks}
+use Rattle.swreq_print.specs.swreq_lowering.Queries.TermAsks.{AsksSignature, AsksReduced, AsksRequirement}
 
--- ---- what a query names
+-- ---- what is asked
 
--- the requirement that a query asks
-abbrev pub asked : TermQuery → Option TermRequirement
-asked (AsksSignature f) = None
-asked (AsksReduced f t) = None
-asked (AsksConforms f t p) = Some (Conforms t p)
-asked (AsksAnyObject f t) = Some (IsAnyObject t)
-asked (AsksEquals f t u) = Some (Equals t u)
+-- S is a side of the requirement.
+abbrev pub IsSideOf : TermRequirement → Term → Type 0
+IsSideOf (Conforms t p) s = s ≡ t
+IsSideOf (IsAnyObject t) s = s ≡ t
+IsSideOf (Equals t u) s = (s ≡ t) ⊎ (s ≡ u)
 
--- S is a side of the query, one of the type parameters that it names.
-abbrev pub IsSide : TermQuery → Term → Type 0
-IsSide (AsksSignature f) s = ⊥
-IsSide (AsksReduced f t) s = s ≡ t
-IsSide (AsksConforms f t p) s = s ≡ t
-IsSide (AsksAnyObject f t) s = s ≡ t
-IsSide (AsksEquals f t u) s = (s ≡ t) ⊎ (s ≡ u)
+-- S is a side of what is asked, one of the type parameters that it names.
+abbrev pub IsSide : TermAsks → Term → Type 0
+IsSide AsksSignature s = ⊥
+IsSide (AsksReduced t) s = s ≡ t
+IsSide (AsksRequirement r) s = IsSideOf r s
 
 -- ---- answers
 
@@ -41,8 +36,8 @@ pub data Answer : Type 0 where
 
 module _ (derivable : TermStatement → Type 0) where
   -- Each side is valid.
-  abbrev pub HasOnlyValidSides : TermQuery → Type 0
-  HasOnlyValidSides q = (s : Term) → IsSide q s → derivable (IsValid s)
+  abbrev pub HasOnlyValidSides : TermAsks → Type 0
+  HasOnlyValidSides asks = (s : Term) → IsSide asks s → derivable (IsValid s)
 
   -- R is the reduced type of T: [T == R] is derivable, and no U that is derivably equal to T comes before R.
   abbrev pub IsLeastEqual : Term → Term → Type 0
@@ -50,11 +45,15 @@ module _ (derivable : TermStatement → Type 0) where
 
   -- The answer is `invalid` where a side is not valid. Where each is, it is `yes` if the requirement that is asked is derivable, `no` if
   -- it is not, and to a query of a type the reduced type.
-  abbrev pub IsAnswer : TermQuery → Answer → Type 0
-  IsAnswer q Invalid = (s : Term) × IsSide q s × (derivable (IsValid s) → ⊥)
-  IsAnswer q Yes = HasOnlyValidSides q × ((r : TermRequirement) × (asked q ≡ Some r) × derivable (Requires r))
-  IsAnswer q No = HasOnlyValidSides q × ((r : TermRequirement) × (asked q ≡ Some r) × (derivable (Requires r) → ⊥))
-  IsAnswer q (Reduced u) = HasOnlyValidSides q × ((f : FuncId) × (t : Term) × (q ≡ AsksReduced f t) × IsLeastEqual t u)
+  abbrev pub IsAnswer : TermAsks → Answer → Type 0
+  IsAnswer asks Invalid = (s : Term) × IsSide asks s × (derivable (IsValid s) → ⊥)
+  IsAnswer asks Yes = HasOnlyValidSides asks × ((r : TermRequirement) × (asks ≡ AsksRequirement r) × derivable (Requires r))
+  IsAnswer asks No = HasOnlyValidSides asks × ((r : TermRequirement) × (asks ≡ AsksRequirement r) × (derivable (Requires r) → ⊥))
+  IsAnswer asks (Reduced u) = HasOnlyValidSides asks × ((t : Term) × (asks ≡ AsksReduced t) × IsLeastEqual t u)
+
+  -- This is the answer where the requirement is asked.
+  abbrev pub IsAnswered : TermRequirement → Answer → Type 0
+  IsAnswered r a = IsAnswer (AsksRequirement r) a
 
 -- ---- lines
 
@@ -69,5 +68,5 @@ abbrev pub answer_line : LexiconView → Answer → Text
 answer_line x a = answer_text x a ++ codes "\n"
 
 -- The line is that of the answer.
-abbrev pub IsAnswerLine : LexiconView → (TermStatement → Type 0) → TermQuery → Text → Type 0
-IsAnswerLine x derivable q line = (a : Answer) × IsAnswer derivable q a × (line ≡ answer_line x a)
+abbrev pub IsAnswerLine : LexiconView → (TermStatement → Type 0) → TermAsks → Text → Type 0
+IsAnswerLine x derivable asks line = (a : Answer) × IsAnswer derivable asks a × (line ≡ answer_line x a)

@@ -1,18 +1,18 @@
 -- Signatures of a text whose rounds have ended.
 use Rattle.std.specs.Prelude.{◌≤◌, ℕ, List, Ok, length}
-use Rattle.swreq_decl.specs.declared.skeleton.Skeleton.{Skeleton}
-use Rattle.swreq_decl.specs.Skeletons.{StandsFor}
-use Rattle.swreq_resolve.specs.Resolving.{Resolve}
-use Rattle.swreq_rule.specs.declared.rules.Rule.{Rule}
-use Rattle.swreq_watch.specs.declared.events.Event.{Event}
-use Rattle.swreq_complete.specs.declared.limit.Limits.{Limits}
-use Rattle.swreq_rounds.specs.Rounds.{IsOutcome}
-use Rattle.swreq_lowering.specs.Requirements.{PlacedRequirement}
-use Rattle.swreq_world.specs.WorldOf.{IsWorldOf}
-use Rattle.swreq_world.specs.Worlds.{SignatureOver, TextWorld}
+use Rattle.swreq_print.specs.swreq_decl.declared.skeleton.Skeleton.{Skeleton}
+use Rattle.swreq_print.specs.swreq_decl.Skeletons.{StandsFor}
+use Rattle.swreq_machine.specs.swreq_resolve.Resolving.{Resolve}
+use Rattle.swreq_print.specs.swreq_rule.declared.rules.Rule.{Rule}
+use Rattle.swreq_machine.specs.swreq_watch.declared.events.Event.{Event}
+use Rattle.swreq_machine.specs.swreq_complete.declared.limit.Limits.{Limits}
+use Rattle.swreq_machine.specs.swreq_rounds.Rounds.{IsOutcome}
+use Rattle.swreq_print.specs.swreq_lowering.Requirements.{PlacedRequirement}
+use Rattle.swreq_machine.specs.swreq_world.WorldOf.{IsWorldOf}
+use Rattle.swreq_machine.specs.swreq_world.Worlds.{SignatureOver, TextWorld}
 use Rattle.swreq_machine.specs.Machines.{list_of}
-use Rattle.swreq_valid.specs.Protocols.{protocols_of}
-use Rattle.swreq_world.specs.FactsAt.{written_list}
+use Rattle.swreq_machine.specs.swreq_valid.Protocols.{protocols_of}
+use Rattle.swreq_machine.specs.swreq_world.FactsAt.{written_list}
 
 -- The rounds of the protocols come to rules within the limits, and over these the rounds of the signature's list do.
 pub record HasEnded (limits : Limits) (w : TextWorld) (g : SignatureOver PlacedRequirement) : Type 0 where

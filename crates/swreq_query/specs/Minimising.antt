@@ -1,18 +1,18 @@
 -- What a watcher is told of minimising a signature.
 use Rattle.std.specs.Prelude.{List}
-use Rattle.swreq_derive.specs.Derivation.{TermRequirement}
-use Rattle.swreq_derive.specs.Facts.{generic_params}
-use Rattle.swreq_rule.specs.declared.rules.Rule.{Rule}
-use Rattle.swreq_watch.specs.declared.events.Event.{Event}
-use Rattle.swreq_complete.specs.declared.limit.Limits.{Limits}
-use Rattle.swreq_complete.specs.declared.limit.Failed.{Failed}
-use Rattle.swreq_lowering.specs.Requirements.{PlacedRequirement}
-use Rattle.swreq_world.specs.Worlds.{SignatureOver, TextWorld}
-use Rattle.swreq_symbols.specs.Meaning.{facts_of, symbols_of}
+use Rattle.swreq_print.specs.swreq_derive.Derivation.{TermRequirement}
+use Rattle.swreq_print.specs.swreq_derive.Facts.{generic_params}
+use Rattle.swreq_print.specs.swreq_rule.declared.rules.Rule.{Rule}
+use Rattle.swreq_machine.specs.swreq_watch.declared.events.Event.{Event}
+use Rattle.swreq_machine.specs.swreq_complete.declared.limit.Limits.{Limits}
+use Rattle.swreq_machine.specs.swreq_complete.declared.limit.Failed.{Failed}
+use Rattle.swreq_print.specs.swreq_lowering.Requirements.{PlacedRequirement}
+use Rattle.swreq_machine.specs.swreq_world.Worlds.{SignatureOver, TextWorld}
+use Rattle.swreq_machine.specs.swreq_symbols.Meaning.{facts_of, symbols_of}
 use Rattle.swreq_machine.specs.Machines.{list_of}
 use Rattle.swreq_minimal.specs.Passed.{IsPassedOf}
 use Rattle.swreq_minimal.specs.Told.{AreParts, FailsBy}
-use Rattle.swreq_world.specs.FactsAt.{written_list}
+use Rattle.swreq_machine.specs.swreq_world.FactsAt.{written_list}
 
 -- a list that minimising the signature may complete
 abbrev pub IsMet : TextWorld → SignatureOver PlacedRequirement → List TermRequirement → Type 0

@@ -1,15 +1,15 @@
 -- What is printed of a signature: its name, and its minimised list.
 use Rattle.std.specs.Prelude.{◌≡◌, ◌++◌, List, [], codes}
 use Rattle.std.specs.Option.{option_map_or}
-use Rattle.swreq_derive.specs.Derivation.{TermRequirement}
-use Rattle.swreq_derive.specs.Equivalence.{AreEquivalent}
-use Rattle.swreq_derive.specs.Facts.{generic_params}
-use Rattle.swreq_lowering.specs.Requirements.{PlacedRequirement}
-use Rattle.swreq_world.specs.FactsAt.{written_list}
-use Rattle.swreq_world.specs.Lookups.{outer_name}
-use Rattle.swreq_world.specs.Worlds.{SignatureOver, TextWorld}
-use Rattle.swreq_symbols.specs.Meaning.{facts_of}
-use Rattle.swreq_canonical.specs.Minimised.{IsMinimised}
+use Rattle.swreq_print.specs.swreq_derive.Derivation.{TermRequirement}
+use Rattle.swreq_print.specs.swreq_derive.Equivalence.{AreEquivalent}
+use Rattle.swreq_print.specs.swreq_derive.Facts.{generic_params}
+use Rattle.swreq_print.specs.swreq_lowering.Requirements.{PlacedRequirement}
+use Rattle.swreq_machine.specs.swreq_world.FactsAt.{written_list}
+use Rattle.swreq_machine.specs.swreq_world.Lookups.{outer_name}
+use Rattle.swreq_machine.specs.swreq_world.Worlds.{SignatureOver, TextWorld}
+use Rattle.swreq_machine.specs.swreq_symbols.Meaning.{facts_of}
+use Rattle.swreq_minimal.specs.swreq_canonical.Minimised.{IsMinimised}
 use Rattle.swreq_print.specs.Names.{Text}
 use Rattle.swreq_print.specs.Signatures.{signature_text}
 

@@ -1,17 +1,17 @@
 -- The reduced rewriting system of a signature, as it is printed.
 use Rattle.std.specs.Prelude.{◌≡◌, ◌++◌, List, length, codes, decimal}
 use Rattle.std.specs.List.{flat_map}
-use Rattle.swreq_rule.specs.declared.rules.Rule.{Rule}
-use Rattle.swreq_complete.specs.Reduced.{IsReducedSystem}
-use Rattle.swreq_lexicon.specs.Views.{LexiconView}
-use Rattle.swreq_lowering.specs.Requirements.{PlacedRequirement}
-use Rattle.swreq_world.specs.Worlds.{SignatureOver, TextWorld}
-use Rattle.swreq_correspondence.specs.Equations.{AreCongruent}
-use Rattle.swreq_symbols.specs.Meaning.{facts_of, symbols_of}
+use Rattle.swreq_print.specs.swreq_rule.declared.rules.Rule.{Rule}
+use Rattle.swreq_machine.specs.swreq_complete.Reduced.{IsReducedSystem}
+use Rattle.swreq_print.specs.swreq_lexicon.Views.{LexiconView}
+use Rattle.swreq_print.specs.swreq_lowering.Requirements.{PlacedRequirement}
+use Rattle.swreq_machine.specs.swreq_world.Worlds.{SignatureOver, TextWorld}
+use Rattle.swreq_machine.specs.swreq_correspondence.Equations.{AreCongruent}
+use Rattle.swreq_machine.specs.swreq_symbols.Meaning.{facts_of, symbols_of}
 use Rattle.swreq_print.specs.Names.{Text}
 use Rattle.swreq_print.specs.Rules.{rule_text}
 use Rattle.swreq_query.specs.Signatures.{full_name}
-use Rattle.swreq_world.specs.FactsAt.{source_of}
+use Rattle.swreq_machine.specs.swreq_world.FactsAt.{source_of}
 
 -- a rule, after two spaces
 abbrev pub rule_line : LexiconView → Rule → Text

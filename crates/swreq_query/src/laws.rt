@@ -1,37 +1,28 @@
 //! Laws on the lines of signatures and of their queries, over the definitions alone.
 ghost use Rattle.std.specs.Prelude.{◌≡◌, ◌↔◌, Bool, List, Contains, ℕ};
-ghost use Rattle.swreq_param.specs.Terms.{Term};
-ghost use Rattle.swreq_derive.specs.Derivation.{BookDerivable, Derivable, Derives, Source, TermFacts};
-ghost use Rattle.swreq_derive.specs.Reduced.{IsReducedTypeOf};
-ghost use Rattle.swreq_derive.specs.WellFormed.{IsWellFormed};
+ghost use Rattle.swreq_print.specs.swreq_param.Terms.{Term};
+ghost use Rattle.swreq_print.specs.swreq_derive.{Derivation.{BookDerivable, Derivable, Derives, Source, TermFacts}, Reduced.{IsReducedTypeOf}, WellFormed.{IsWellFormed}, Equivalence.{AreEquivalent}, Facts.{generic_params}};
 ghost use Rattle.swreq_print.specs.Names.{Text};
-ghost use Rattle.swreq_lexicon.specs.Views.{LexiconView};
-ghost use Rattle.swreq_lowering.specs.Queries.{TermQuery};
-ghost use Rattle.swreq_query.specs.Answers.{Answer, IsAnswer, IsAnswerLine, IsLeastEqual};
-ghost use Rattle.swreq_derive.specs.Equivalence.{AreEquivalent};
-ghost use Rattle.swreq_derive.specs.Facts.{generic_params};
-ghost use Rattle.swreq_complete.specs.declared.limit.Limits.{Limits};
-ghost use Rattle.swreq_lowering.specs.Requirements.{PlacedRequirement};
-ghost use Rattle.swreq_world.specs.Worlds.{SignatureOver, TextWorld};
-ghost use Rattle.swreq_symbols.specs.Meaning.{facts_of};
-ghost use Rattle.swreq_query.specs.Ended.{HasEnded, IsWorldOfText};
-ghost use Rattle.swreq_query.specs.Signatures.{IsMinimisedLine, IsNamedLine};
-ghost use Rattle.swreq_query.specs.Systems.{IsSystemText};
-ghost use Rattle.swreq_world.specs.FactsAt.{written_list};
+ghost use Rattle.swreq_print.specs.swreq_lexicon.Views.{LexiconView};
+ghost use Rattle.swreq_print.specs.swreq_lowering.{Queries.{TermAsks}, Requirements.{PlacedRequirement}};
+ghost use Rattle.swreq_query.specs.{Answers.{Answer, IsAnswer, IsAnswerLine, IsLeastEqual}, Ended.{HasEnded, IsWorldOfText}, Signatures.{IsMinimisedLine, IsNamedLine}, Systems.{IsSystemText}};
+ghost use Rattle.swreq_machine.specs.swreq_complete.declared.limit.Limits.{Limits};
+ghost use Rattle.swreq_machine.specs.swreq_world.{Worlds.{SignatureOver, TextWorld}, FactsAt.{written_list}};
+ghost use Rattle.swreq_machine.specs.swreq_symbols.Meaning.{facts_of};
 
 /// A query has at most one answer, and so one line, by the rules with the guard and by those without it.
 pub fn answer_is_one()
-    ensures answer { (f : TermFacts) (guarded : Bool) (s : Source) (q : TermQuery) (a b : Answer)
+    ensures answer { (f : TermFacts) (guarded : Bool) (s : Source) (q : TermAsks) (a b : Answer)
         → IsAnswer (Derives f guarded s) q a → IsAnswer (Derives f guarded s) q b → a ≡ b }
     ensures line { (x : LexiconView) (f : TermFacts) (guarded : Bool) (s : Source)
-        (q : TermQuery) (l m : Text)
+        (q : TermAsks) (l m : Text)
         → IsAnswerLine x (Derives f guarded s) q l
         → IsAnswerLine x (Derives f guarded s) q m → l ≡ m }
 {}
 
 /// On a well formed text a query of a list has the same answer by the book's rules and by the rules with the guard.
 pub fn guard_changes_no_answer()
-    ensures { (f : TermFacts) (lists : List Source) (s : Source) (q : TermQuery) (a : Answer)
+    ensures { (f : TermFacts) (lists : List Source) (s : Source) (q : TermAsks) (a : Answer)
         → IsWellFormed f lists → Contains lists s
         → IsAnswer (BookDerivable f s) q a ↔ IsAnswer (Derivable f s) q a }
 {}

@@ -10,7 +10,7 @@ mod reduced;
 mod system;
 mod verdict;
 
-pub use answers::answer;
+pub use answers::{answer, room_for};
 pub use minimised::minimised_line;
 pub use names::full_name;
 pub use system::system_text;

@@ -1,35 +1,29 @@
 //! The line of a minimised signature.
 ghost use Rattle.std.specs.Prelude.{◌≡◌, ◌≢◌, ◌⊎◌, ◌<◌, ◌++◌, List, ℕ, codes, length, IfErr, OnErr, OnOk};
-ghost use Rattle.swreq_param.specs.Tables.{Extends};
+ghost use Rattle.swreq_print.specs.swreq_param.Tables.{Extends};
 ghost use Rattle.swreq_text.specs.Joined.{GrewByPart};
-ghost use Rattle.swreq_derive.specs.Facts.{generic_params};
-ghost use Rattle.swreq_complete.specs.declared.limit.Failed.TheVariants.{Memory};
-ghost use Rattle.swreq_complete.specs.Limits.{AreInRange};
-ghost use Rattle.swreq_symbols.specs.Known.{IsTextOver};
-ghost use Rattle.swreq_valid.specs.Protocols.{AreRulesOf};
+ghost use Rattle.swreq_print.specs.swreq_derive.Facts.{generic_params};
+ghost use Rattle.swreq_machine.specs.swreq_complete.{declared.limit.Failed.TheVariants.{Memory}, Limits.{AreInRange}};
+ghost use Rattle.swreq_machine.specs.swreq_symbols.Known.{IsTextOver};
+ghost use Rattle.swreq_machine.specs.swreq_valid.{Protocols.{AreRulesOf}, Plans.{AreKnown, listed}, Rounds.{last_rules}};
 ghost use Rattle.swreq_machine.specs.Machines.{IsMachineOf};
-ghost use Rattle.swreq_valid.specs.Plans.{AreKnown, listed};
-ghost use Rattle.swreq_valid.specs.Rounds.{last_rules};
-ghost use Rattle.swreq_watch.specs.declared.events.Event.{Event};
-ghost use Rattle.swreq_watch.specs.Told.{GrewBy};
-ghost use Rattle.swreq_world.specs.ByTable.{world_by};
-ghost use Rattle.swreq_world.specs.Worlds.{signature_at};
+ghost use Rattle.swreq_machine.specs.swreq_watch.{declared.events.Event.{Event}, Told.{GrewBy}};
+ghost use Rattle.swreq_machine.specs.swreq_world.{ByTable.{world_by}, Worlds.{signature_at}, FactsAt.{written_list}};
 ghost use Rattle.swreq_print.specs.Signatures.{signature_text};
-ghost use Rattle.swreq_query.specs.Minimising.{MinimisingFails, MinimisingTells};
-ghost use Rattle.swreq_query.specs.Signatures.{IsMinimisedLine};
-ghost use Rattle.swreq_world.specs.FactsAt.{written_list};
+ghost use Rattle.swreq_query.specs.{Minimising.{MinimisingFails, MinimisingTells}, Signatures.{IsMinimisedLine}};
 
 use std::alloc::{AllocError, Global};
-use swreq_complete::{Failed, Limits};
-use swreq_derive::{Params, Requirement};
 use swreq_machine::Machine;
+use swreq_machine::complete::{Failed, Limits};
+use swreq_machine::valid::Protocols;
+use swreq_machine::watch::Watch;
+use swreq_machine::world::World;
 use swreq_minimal::minimise;
-use swreq_param::ParamTable;
+use swreq_print::derive::{Params, Requirement};
+use swreq_print::lowering::FuncId;
+use swreq_print::param::ParamTable;
 use swreq_print::signature_text;
 use swreq_text::append_bytes;
-use swreq_valid::Protocols;
-use swreq_watch::Watch;
-use swreq_world::{FuncId, World};
 
 /// Writes the signature with these generic parameters and requirements as a line.
 #[tactic(auto, using(swreq_text::proofs::Grown::none_grew))]

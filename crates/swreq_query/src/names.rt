@@ -1,16 +1,14 @@
 //! The name of a signature.
-ghost use Rattle.std.specs.Prelude.{◌≡◌, ◌<◌, ◌++◌, [], codes, length, OnErr, OnOk};
-ghost use Rattle.std.specs.Option.{option_map_or};
+ghost use Rattle.std.specs.{Prelude.{◌≡◌, ◌<◌, ◌++◌, [], codes, length, OnErr, OnOk}, Option.{option_map_or}};
 ghost use Rattle.swreq_text.specs.Joined.{GrewByPart};
-ghost use Rattle.swreq_world.specs.ByTable.{world_by};
-ghost use Rattle.swreq_world.specs.Lookups.{outer_name};
-ghost use Rattle.swreq_world.specs.Worlds.{signature_at};
+ghost use Rattle.swreq_machine.specs.swreq_world.{ByTable.{world_by}, Lookups.{outer_name}, Worlds.{signature_at}};
 ghost use Rattle.swreq_query.specs.Signatures.{full_name};
 
 use std::alloc::AllocError;
-use swreq_param::ParamTable;
+use swreq_machine::world::World;
+use swreq_print::lowering::FuncId;
+use swreq_print::param::ParamTable;
 use swreq_text::append_bytes;
-use swreq_world::{FuncId, World};
 
 /// Writes `S.` for a function of a struct S, and otherwise nothing.
 #[tactic(auto, using(swreq_text::proofs::Grown::none_grew, swreq_text::proofs::Grown::grew_next))]

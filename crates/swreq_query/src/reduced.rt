@@ -1,25 +1,20 @@
-//! The line of a query of a type.
+//! The line of a reduced type.
 ghost use Rattle.std.specs.Prelude.{◌≡◌, ◌+◌, ◌*◌, ◌≤◌, ◌++◌, List, codes, IfOk, OnErr, OnOk};
-ghost use Rattle.swreq_param.specs.Tables.{term_at};
-ghost use Rattle.swreq_param.specs.Terms.{member_count, with_steps};
-ghost use Rattle.swreq_param.specs.Terms.Term.{Generic};
-ghost use Rattle.swreq_derive.specs.Derivation.{TermRequirement};
+ghost use Rattle.swreq_print.specs.swreq_param.{Tables.{term_at}, Terms.{member_count, with_steps}, Terms.Term.{Generic}};
+ghost use Rattle.swreq_print.specs.swreq_derive.Derivation.{TermRequirement};
 ghost use Rattle.swreq_print.specs.Types.{type_text};
-ghost use Rattle.swreq_symbols.specs.Known.{IsTypeIn};
-ghost use Rattle.swreq_symbols.specs.Texts.{BelongTogether, world_of};
-ghost use Rattle.swreq_machine.specs.Asked.{IsDerivable};
-ghost use Rattle.swreq_machine.specs.Machines.{IsMachineOf};
-ghost use Rattle.swreq_lowering.specs.Queries.TermQuery.{AsksReduced};
-ghost use Rattle.swreq_lowering.specs.declared.ids.FuncId.{FuncId};
+ghost use Rattle.swreq_machine.specs.swreq_symbols.{Known.{IsTypeIn}, Texts.{BelongTogether, world_of}};
+ghost use Rattle.swreq_machine.specs.{Asked.{IsDerivable}, Machines.{IsMachineOf}};
+ghost use Rattle.swreq_print.specs.swreq_lowering.Queries.TermAsks.{AsksReduced};
 ghost use Rattle.swreq_query.specs.Asked.{AppendsAnswer, IsVerdictOf};
 
 use crate::verdict::Verdict;
 use std::alloc::{AllocError, Global};
-use swreq_lexicon::Lexicon;
+use swreq_machine::symbols::Text;
 use swreq_machine::{Machine, Scratch};
-use swreq_param::{ParamId, Step, TermId};
+use swreq_print::lexicon::Lexicon;
+use swreq_print::param::{ParamId, Step, TermId};
 use swreq_print::steps_text;
-use swreq_symbols::Text;
 use swreq_text::append_bytes;
 
 /// Appends the line of the type parameter with this generic parameter and these steps.
@@ -53,15 +48,15 @@ pub(crate) fn reduced_line(
     requires text { BelongTogether text.now }
     requires t { IsTypeIn text.now.table.now text.now.world.now.lexicon t }
     requires room { 4 * (member_count (term_at text.now.table.now t) + 2) ≤ scratch.old.room }
-    ensures ok { OnOk result ((f : FuncId) (list : List TermRequirement)
+    ensures ok { OnOk result ((list : List TermRequirement)
         → IsMachineOf (world_of text.now) list machine.now
         → AppendsAnswer text.now.world.now.lexicon
         (IsDerivable (world_of text.now) machine.now list)
-        (AsksReduced f (term_at text.now.table.now t)) out.old.items out.new.items) }
-    ensures verdict { IfOk result (λ verdict. (f : FuncId) (list : List TermRequirement)
+        (AsksReduced (term_at text.now.table.now t)) out.old.items out.new.items) }
+    ensures verdict { IfOk result (λ verdict. (list : List TermRequirement)
         → IsMachineOf (world_of text.now) list machine.now
         → IsVerdictOf (IsDerivable (world_of text.now) machine.now list)
-        (AsksReduced f (term_at text.now.table.now t)) verdict) }
+        (AsksReduced (term_at text.now.table.now t)) verdict) }
     ensures err { OnErr result (out.new.items ≡ out.old.items) }
     ensures room { scratch.new.room ≡ scratch.old.room }
 {

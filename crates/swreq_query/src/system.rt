@@ -1,24 +1,21 @@
 //! The reduced rewriting system of a signature.
-ghost use Rattle.std.specs.Prelude.{◌≡◌, ◌⊎◌, ◌<◌, ◌++◌, List, ℕ, codes, decimal, length, OnErr, OnOk};
-ghost use Rattle.std.specs.List.{flat_map};
+ghost use Rattle.std.specs.{Prelude.{◌≡◌, ◌⊎◌, ◌<◌, ◌++◌, List, ℕ, codes, decimal, length, OnErr, OnOk}, List.{flat_map}};
 ghost use Rattle.swreq_text.specs.Joined.{GrewByPart};
-ghost use Rattle.swreq_symbols.specs.Known.{IsTextOver};
+ghost use Rattle.swreq_machine.specs.swreq_symbols.Known.{IsTextOver};
 ghost use Rattle.swreq_machine.specs.Machines.{IsMachineOf};
-ghost use Rattle.swreq_world.specs.ByTable.{world_by};
-ghost use Rattle.swreq_world.specs.Worlds.{signature_at};
-ghost use Rattle.swreq_query.specs.Signatures.{full_name};
-ghost use Rattle.swreq_world.specs.FactsAt.{written_list};
-ghost use Rattle.swreq_query.specs.Systems.{IsSystemText, rule_line, system_text};
+ghost use Rattle.swreq_machine.specs.swreq_world.{ByTable.{world_by}, Worlds.{signature_at}, FactsAt.{written_list}};
+ghost use Rattle.swreq_query.specs.{Signatures.{full_name}, Systems.{IsSystemText, rule_line, system_text}};
 
 use crate::names::full_name;
 use std::alloc::{AllocError, Global};
-use swreq_lexicon::Lexicon;
 use swreq_machine::Machine;
-use swreq_param::ParamTable;
+use swreq_machine::rule::Rule;
+use swreq_machine::world::World;
+use swreq_print::lexicon::Lexicon;
+use swreq_print::lowering::FuncId;
+use swreq_print::param::ParamTable;
 use swreq_print::rule_text;
-use swreq_rule::Rule;
 use swreq_text::{append_bytes, append_number};
-use swreq_world::{FuncId, World};
 
 /// Writes the line above this many rules of a signature.
 #[tactic(auto, using(swreq_text::proofs::Grown::none_grew, swreq_text::proofs::Grown::grew_first, swreq_text::proofs::Grown::grew_next))]

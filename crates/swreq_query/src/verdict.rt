@@ -1,29 +1,19 @@
-//! Whether the requirement that a query asks is derivable.
+//! Whether a requirement is derivable.
 ghost use Rattle.std.specs.Prelude.{◌≡◌, ◌+◌, ◌*◌, ◌≤◌, List, length};
-ghost use Rattle.swreq_param.specs.Tables.{term_at};
-ghost use Rattle.swreq_param.specs.Terms.{member_count};
-ghost use Rattle.swreq_derive.specs.Derivation.{TermRequirement};
-ghost use Rattle.swreq_map.specs.Follows.{IsMapOf};
-ghost use Rattle.swreq_lexicon.specs.Views.{LexiconView};
-ghost use Rattle.swreq_symbols.specs.Known.{IsTextOver, IsTypeIn};
-ghost use Rattle.swreq_symbols.specs.Texts.{BelongTogether, world_of};
-ghost use Rattle.swreq_machine.specs.Asked.{IsDerivable};
-ghost use Rattle.swreq_machine.specs.Having.{IsBelow};
-ghost use Rattle.swreq_machine.specs.Machines.{IsMachineOf};
-ghost use Rattle.swreq_valid.specs.Rounds.{last_rules};
-ghost use Rattle.swreq_world.specs.ByTable.{world_by};
-ghost use Rattle.swreq_lowering.specs.Queries.TermQuery.{AsksEquals};
-ghost use Rattle.swreq_lowering.specs.declared.ids.FuncId.{FuncId};
-ghost use Rattle.swreq_query.specs.Answers.{IsAnswer, answer_line};
-ghost use Rattle.swreq_lowering.specs.ByTable.{query_by};
-ghost use Rattle.swreq_query.specs.Asked.{AsksRequirement, IsQueryIn, IsRoomFor, answer_of, asks, verdict_of};
+ghost use Rattle.swreq_print.specs.swreq_param.{Tables.{term_at}, Terms.{member_count}};
+ghost use Rattle.swreq_print.specs.swreq_derive.{Derivation.{TermRequirement}, Derivation.TermRequirement.{Equals}, Facts.{requirement_of}};
+ghost use Rattle.swreq_machine.specs.swreq_map.Follows.{IsMapOf};
+ghost use Rattle.swreq_print.specs.swreq_lexicon.Views.{LexiconView};
+ghost use Rattle.swreq_machine.specs.swreq_symbols.{Known.{IsRequirementIn, IsTypeIn}, Texts.{BelongTogether, world_of}};
+ghost use Rattle.swreq_machine.specs.{Asked.{IsDerivable}, Having.{IsBelow, has}, Machines.{IsMachineOf}};
+ghost use Rattle.swreq_machine.specs.swreq_valid.Rounds.{last_rules};
+ghost use Rattle.swreq_query.specs.{Answers.{IsAnswered, answer_line}, Asked.{IsRoomForSides, answer_of, verdict_of}};
 
-use swreq_lowering::Query;
+use swreq_machine::map::PropertyMap;
+use swreq_machine::symbols::Text;
 use swreq_machine::{Machine, Property, Scratch};
-use swreq_map::PropertyMap;
-use swreq_param::{ParamTable, TermId};
-use swreq_symbols::Text;
-use swreq_world::World;
+use swreq_print::derive::Requirement;
+use swreq_print::param::TermId;
 
 /// The answer to a query of a requirement.
 #[derive(Clone, Copy, Debug, PartialEq, Eq)]
@@ -74,10 +64,10 @@ fn judge_property(
     requires map { IsMapOf (last_rules machine.now.rounds) map.now }
     requires property { IsBelow map.now.protocols property }
     requires room { 4 * (member_count (term_at text.now.table.now t) + 2) ≤ scratch.old.room }
-    ensures answer { (f : FuncId) (list : List TermRequirement)
+    ensures answer { (list : List TermRequirement)
         → IsMachineOf (world_of text.now) list machine.now
-        → IsAnswer (IsDerivable (world_of text.now) machine.now list)
-        (asks f (term_at text.now.table.now t) property) (answer_of result) }
+        → IsAnswered (IsDerivable (world_of text.now) machine.now list)
+        (has (term_at text.now.table.now t) property) (answer_of result) }
     ensures room { scratch.new.room ≡ scratch.old.room }
 {
     verdict_of(machine.has(text, map, t, property, scratch))
@@ -96,53 +86,56 @@ fn judge_equality(
     requires b { IsTypeIn text.now.table.now text.now.world.now.lexicon b }
     requires room_a { 4 * (member_count (term_at text.now.table.now a) + 2) ≤ scratch.old.room }
     requires room_b { 4 * (member_count (term_at text.now.table.now b) + 2) ≤ scratch.old.room }
-    ensures answer { (f : FuncId) (list : List TermRequirement)
+    ensures answer { (list : List TermRequirement)
         → IsMachineOf (world_of text.now) list machine.now
-        → IsAnswer (IsDerivable (world_of text.now) machine.now list)
-        (AsksEquals f (term_at text.now.table.now a) (term_at text.now.table.now b))
+        → IsAnswered (IsDerivable (world_of text.now) machine.now list)
+        (Equals (term_at text.now.table.now a) (term_at text.now.table.now b))
         (answer_of result) }
     ensures room { scratch.new.room ≡ scratch.old.room }
 {
     verdict_of(machine.are_equal(text, a, b, scratch))
 }
 
-/// The verdict on a query of a requirement, from every list of which m is the machine.
+/// The verdict on a requirement, from every list of which m is the machine.
 ///
 /// The map is that of the rules of m, and the scratch has room for each side.
 pub fn judge(
-    world: &World,
-    table: &ParamTable,
+    text: &Text<'_>,
     machine: &Machine,
     map: &PropertyMap,
-    query: &Query,
+    requirement: Requirement,
     scratch: &mut Scratch,
 ) -> Verdict
-    requires text { IsTextOver table.now world.now }
-    requires query { IsQueryIn table.now world.now query.now }
-    requires asks { AsksRequirement (query_by table.now query.now) }
+    requires text { BelongTogether text.now }
+    requires requirement { IsRequirementIn text.now.table.now text.now.world.now.lexicon
+        requirement }
     requires map { IsMapOf (last_rules machine.now.rounds) map.now }
-    requires protocols { map.now.protocols ≡ length world.now.lexicon.protocols }
-    requires room { IsRoomFor (query_by table.now query.now) scratch.old.room }
+    requires protocols { map.now.protocols ≡ length text.now.world.now.lexicon.protocols }
+    requires room { IsRoomForSides (requirement_of text.now.table.now requirement)
+        scratch.old.room }
     ensures answer { (list : List TermRequirement)
-        → IsMachineOf (world_by table.now world.now) list machine.now
-        → IsAnswer (IsDerivable (world_by table.now world.now) machine.now list)
-        (query_by table.now query.now) (answer_of result) }
+        → IsMachineOf (world_of text.now) list machine.now
+        → IsAnswered (IsDerivable (world_of text.now) machine.now list)
+        (requirement_of text.now.table.now requirement) (answer_of result) }
     ensures room { scratch.new.room ≡ scratch.old.room }
 {
-    let text = Text { world, table };
-    match *query {
-        Query::Conf { t, p, .. } => {
-            judge_property(&text, machine, map, t, Property::Protocol(p), scratch)
-        }
-        Query::Layout { t, .. } => judge_property(
-            &text,
+    match requirement {
+        Requirement::Conf { subject, proto } => judge_property(
+            text,
             machine,
             map,
-            t,
+            subject,
+            Property::Protocol(proto),
+            scratch,
+        ),
+        Requirement::Layout { subject } => judge_property(
+            text,
+            machine,
+            map,
+            subject,
             Property::Layout,
             scratch,
         ),
-        Query::Same { a, b, .. } => judge_equality(&text, machine, a, b, scratch),
-        Query::Signature { .. } | Query::Reduced { .. } => unreachable!(),
+        Requirement::Same { left, right } => judge_equality(text, machine, left, right, scratch),
     }
 }

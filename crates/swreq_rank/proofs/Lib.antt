@@ -1,3 +1,4 @@
+pub use Rattle.swreq_lemmas.proofs as swreq_lemmas
 pub mod Rising
 pub mod Names
 pub mod Pushed

@@ -9,7 +9,7 @@ use Rattle.std.proofs.lemmas.Bool.{cases_lt, cases_eq}
 use Rattle.std.proofs.lemmas.Cmp.{tied_itself}
 use Rattle.std.proofs.lemmas.Map.Keys.{Less-from_sorted}
 use Rattle.std.proofs.lemmas.Option.{slice_get_within, get_or_from_slice_get}
-use Rattle.swreq_lemmas.proofs.Members.{each_by_recursion}
+use Rattle.swreq_lemmas.proofs.Members.{each_append, each_by_recursion}
 use Rattle.swreq_lemmas.proofs.Numbers.{above}
 
 -- Each item stands before those after it.
@@ -49,15 +49,11 @@ module _ {K : Type 0} (cmp : K → K → Ordering) (total : IsTotalOrder cmp) (x
 -- ---- parts
 
 module _ {K : Type 0} (cmp : K → K → Ordering) where
-  all_append : (P : K → Type 0) (xs ys : List K) → AllByRecursion P xs → AllByRecursion P ys → AllByRecursion P (xs ++ ys)
-  all_append P [] ys a b = b
-  all_append P (x ∷ xs) ys a b = (a.0, all_append P xs ys a.1 b)
-
   pub sorted_append : (xs ys : List K) → IsStrictlySortedBy cmp xs → IsStrictlySortedBy cmp ys
       → AllByRecursion (λ x. AllByRecursion (λ y. cmp x y ≡ Less) ys) xs → IsStrictlySortedBy cmp (xs ++ ys)
   unfolding IsStrictlySortedBy
   sorted_append [] ys s t a = t
-  sorted_append (x ∷ xs) ys s t a = (all_append (λ y. cmp x y ≡ Less) xs ys s.0 a.0, sorted_append xs ys s.1 t a.1)
+  sorted_append (x ∷ xs) ys s t a = (each_append (λ y. cmp x y ≡ Less) xs ys s.0 a.0, sorted_append xs ys s.1 t a.1)
 
 module _ {K A : Type 0} (cmp : K → K → Ordering) (order : A → A → Ordering) (f : K → A)
     (keeps : (x y : K) → cmp x y ≡ Less → order (f x) (f y) ≡ Less) where

@@ -1,6 +1,5 @@
 // The items of a list, each once, in their order.
-ghost use Rattle.std.specs.Prelude.{◌≡◌, ◌≤◌, ◌↔◌, List, IfOk, MatchOption, Contains, Some, slice_get, length};
-ghost use Rattle.std.specs.List.Sorted.{IsStrictlySortedBy};
+ghost use Rattle.std.specs.{Prelude.{◌≡◌, ◌≤◌, ◌↔◌, List, IfOk, MatchOption, Contains, Some, slice_get, length}, List.Sorted.{IsStrictlySortedBy}};
 ghost use Rattle.swreq_rank.specs.Ranks.{TellsApart};
 
 use std::marker::Model;
@@ -12,8 +11,7 @@ pub struct Ranked<T: Ord> {
 }
 
 impl<T: Ord> Model for Ranked<T> {
-    ghost use Rattle.std.specs.Prelude.{List};
-    ghost use Rattle.std.specs.List.Sorted.{IsStrictlySortedBy};
+    ghost use Rattle.std.specs.{Prelude.{List}, List.Sorted.{IsStrictlySortedBy}};
 
     ghost Value = { List T };
 

@@ -1,6 +1,5 @@
 // Names in the order of their bytes.
-ghost use Rattle.std.specs.Prelude.{◌≡◌, ◌<◌, ◌≤◌, ◌↔◌, Contains, MatchOption, Some, slice_get, length};
-ghost use Rattle.std.specs.List.Sorted.{IsStrictlySortedBy};
+ghost use Rattle.std.specs.{Prelude.{◌≡◌, ◌<◌, ◌≤◌, ◌↔◌, Contains, MatchOption, Some, slice_get, length}, List.Sorted.{IsStrictlySortedBy}};
 ghost use Rattle.swreq_rank.specs.Ranks.{Bytes, bytes_cmp};
 
 use crate::ranked::Ranked;

@@ -4,22 +4,23 @@ use Rattle.std.proofs.Common.{arith, Option, Some, None, MatchOption, true, fals
 use Rattle.std.specs.Bool.{Decides}
 use Rattle.std.proofs.lemmas.List.{drop_all, drop_more, take_more}
 use Rattle.std.proofs.lemmas.Option.{MatchOption-at_some, same_Some}
-use Rattle.swreq_param.specs.declared.ids.ProtoId.{ProtoId}
+use Rattle.swreq_derive.specs.swreq_param.declared.ids.ProtoId.{ProtoId}
 use Rattle.swreq_derive.specs.Derivation.TermRequirement.{Conforms, IsAnyObject}
 use Rattle.swreq_derive.specs.Derivation.TermStatement.{Requires}
-use Rattle.swreq_param.specs.declared.ids.NameId.{NameId}
-use Rattle.swreq_param.specs.declared.ids.TermId.{TermId}
-use Rattle.swreq_param.specs.Tables.{IsOf, term_at}
-use Rattle.swreq_param.specs.Terms.{Term}
-use Rattle.swreq_param.specs.declared.ids.Step.{Step}
-use Rattle.swreq_param.specs.declared.ids.Step.TheVariants.{Name as NameStep}
+use Rattle.swreq_derive.specs.swreq_param.declared.ids.NameId.{NameId}
+use Rattle.swreq_derive.specs.swreq_param.declared.ids.TermId.{TermId}
+use Rattle.swreq_derive.specs.swreq_param.Tables.{IsOf, term_at}
+use Rattle.swreq_derive.specs.swreq_param.Terms.{Term}
+use Rattle.swreq_derive.specs.swreq_param.declared.ids.Step.{Step}
+use Rattle.swreq_derive.specs.swreq_param.declared.ids.Step.TheVariants.{Name as NameStep}
 use Rattle.swreq_word.specs.declared.symbols.Symbol.{Symbol}
 use Rattle.swreq_word.specs.declared.symbols.Symbol.TheVariants.{Proto, Member, Param, Name, Layout}
 use Rattle.swreq_derivation.specs.declared.derivation.Derivation.{Derivation}
 use Rattle.swreq_derivation.specs.UnderWay.{AddsLines, AreEqualIds, AreStatedEqual, States}
 use Rattle.swreq_derivation.proofs.DerivationLemmas as derivations
 use Rattle.swreq_readings.specs.declared.alphabet.Alphabet.{Alphabet}
-use Rattle.swreq_readings.specs.declared.alphabet.Named.{Named}
+use Rattle.swreq_world.specs.swreq_lexicon.declared.pair.ProtocolName.{ProtocolName}
+use Rattle.swreq_readings.specs.Alphabets.{lexicon}
 use Rattle.swreq_readings.specs.Readable.{read_symbol, read_word, IsGiven, IsGivenAt, IsOfStep, IsReadAs, AreReadEqual, AllowsName, AllowsSymbol, AllowsWord}
 
 module _ (g : Alphabet) (s u : Derivation) (grows : AddsLines s u) where
@@ -37,7 +38,7 @@ module _ (g : Alphabet) (s u : Derivation) (grows : AddsLines s u) where
   symbol_still t (Name a) w = name_still t _ w
   symbol_still t Layout w = grows.stays _ w
 
-  pub given_still : (t : Term) (x : Step) (n : Named) → IsGiven g s t x n → IsGiven g u t x n
+  pub given_still : (t : Term) (x : Step) (n : ProtocolName) → IsGiven g s t x n → IsGiven g u t x n
   given_still t x n w = (w.0, (w.1.0, w.1.1, grows.stays _ w.1.2))
 
   pub word_still : (t : Term) (w : List Symbol) → AllowsWord g s t w → AllowsWord g u t w
@@ -87,34 +88,34 @@ read_step g t v u w k d h e f = ap (λ z. read_word g z (drop (k + 1) w)) e ∙ 
 
 module _ (g : Alphabet) (s : Derivation) (t : Term) (a : NameId) where
   -- an associated type that the unbound step A names, and a protocol that declares A
-  pub named_given : (n : Named) → IsGiven g s t (NameStep a) n → AllowsName g s t a
+  pub named_given : (n : ProtocolName) → IsGiven g s t (NameStep a) n → AllowsName g s t a
   named_given n w = (
     n.proto,
     (
       w.0,
-      subst (λ z. slice_get g.associated w.0 ≡ Some
+      subst (λ z. slice_get (lexicon g).associated w.0 ≡ Some
           (record { proto = n.proto; name = z })) w.1.1 w.1.0,
     ),
     w.1.2,
   )
 
-  pub given_named : AllowsName g s t a → (n : Named) × IsGiven g s t (NameStep a) n
+  pub given_named : AllowsName g s t a → (n : ProtocolName) × IsGiven g s t (NameStep a) n
   given_named w = (record { proto = w.0; name = a }, (w.1.0, (w.1.1, refl, w.2)))
 
   -- a search finds such an associated type if and only if lines allow the name
-  pub name_told : (o : Option Named) (b : Bool) → MatchOption o ((n : Named) → IsGiven g s t (NameStep a) n → ⊥)
+  pub name_told : (o : Option ProtocolName) (b : Bool) → MatchOption o ((n : ProtocolName) → IsGiven g s t (NameStep a) n → ⊥)
       (IsGiven g s t (NameStep a))
       → MatchOption o (b ≡ false) (λ n. b ≡ true) → Decides b (AllowsName g s t a)
   name_told (Some n) b h e = ((λ i. named_given n h), λ w. e)
   name_told None b h e = ((λ i. absurd cc), λ w. absurd (let m = given_named w in h m.0 m.1))
 
 -- what is said of the associated type with a rank, of the pair that stands there
-pub given_at : (g : Alphabet) (s : Derivation) (t : Term) (x : Step) (k : ℕ) (n m : Named) → slice_get g.associated k ≡ Some n
-    → IsGivenAt g s t x k m
+pub given_at : (g : Alphabet) (s : Derivation) (t : Term) (x : Step) (k : ℕ) (n m : ProtocolName)
+    → slice_get (lexicon g).associated k ≡ Some n → IsGivenAt g s t x k m
     → IsOfStep x k n × States s (Requires (Conforms t n.proto))
 given_at g s t x k n m e w =
     let same : m ≡ n = same_Some m n (sym w.0 ∙ e) in
-    subst (λ (z : Named). IsOfStep x k z × States s (Requires (Conforms t z.proto))) same (w.1, w.2)
+    subst (λ (z : ProtocolName). IsOfStep x k z × States s (Requires (Conforms t z.proto))) same (w.1, w.2)
 
 -- ---- ids of a derivation that grows
 

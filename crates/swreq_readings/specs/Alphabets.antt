@@ -1,49 +1,70 @@
--- The names and the inheritance of a text, and the generic parameters of a list.
-use Rattle.std.specs.Prelude.{◌≡◌, ◌⊎◌, ◌<◌, ◌≤◌, ℕ, Some, Contains, get_or, slice_get}
-use Rattle.swreq_param.specs.Terms.{self}
-use Rattle.swreq_param.specs.declared.ids.NameId.{NameId}
-use Rattle.swreq_param.specs.declared.ids.ProtoId.{ProtoId}
+-- What words are read by: the world of a text, and the generic parameters of a list.
+use Rattle.std.specs.Prelude.{◌≡◌, ◌⊎◌, ◌<◌, ◌≤◌, ◌+◌, ◌^◌, ℕ, Some, List, get_or, length, map, slice_get}
+use Rattle.swreq_derive.specs.declared.requirements.Requirement.{Requirement}
+use Rattle.swreq_derive.specs.declared.requirements.Requirement.TheVariants.{Conf}
+use Rattle.swreq_derive.specs.swreq_param.Terms.{self}
+use Rattle.swreq_derive.specs.swreq_param.declared.ids.NameId.{NameId}
+use Rattle.swreq_derive.specs.swreq_param.declared.ids.ProtoId.{ProtoId}
+use Rattle.swreq_derive.specs.swreq_param.declared.ids.TermId.{TermId}
 use Rattle.swreq_derive.specs.Derivation.{Declares}
 use Rattle.swreq_derive.specs.Derivation.TermRequirement.{Conforms}
 use Rattle.swreq_derive.specs.Facts.{generic_params}
 use Rattle.swreq_derive.specs.Instances.{HasNumber}
 use Rattle.swreq_derivation.specs.UnderWay.{Assumptions}
+use Rattle.swreq_world.specs.swreq_lexicon.declared.pair.ProtocolName.{ProtocolName}
+use Rattle.swreq_world.specs.swreq_lexicon.Lexicons.{pair}
+use Rattle.swreq_world.specs.swreq_lexicon.Views.{IsProtocol, LexiconView}
+use Rattle.swreq_world.specs.Worlds.{requirements_of}
 use Rattle.swreq_readings.specs.declared.alphabet.Alphabet.{Alphabet}
-use Rattle.swreq_readings.specs.declared.alphabet.Named.{Named}
-use Rattle.swreq_readings.specs.declared.alphabet.WrittenInheritance.{WrittenInheritance}
+
+abbrev pub lexicon : Alphabet → LexiconView
+lexicon g = g.world.now.lexicon
 
 -- the protocol and the name of a member symbol, by its rank
-abbrev pub member_at : Alphabet → ℕ → Named
-member_at g k = get_or g.members k (record { proto = record { rank = 0 }; name = record { rank = 0 } })
+abbrev pub member_at : Alphabet → ℕ → ProtocolName
+member_at g k = get_or (lexicon g).symbols k (pair (record { rank = 0 }) (record { rank = 0 }))
 
 -- P declares A.
 abbrev pub IsDeclared : Alphabet → ProtoId → NameId → Type 0
-IsDeclared g p a = (k : ℕ) × (slice_get g.associated k ≡ Some (record { proto = p; name = a }))
+IsDeclared g p a = (k : ℕ) × (slice_get (lexicon g).associated k ≡ Some (pair p a))
 
 -- A is a member name of P.
 abbrev pub IsMember : Alphabet → ProtoId → NameId → Type 0
-IsMember g p a = (k : ℕ) × (slice_get g.members k ≡ Some (record { proto = p; name = a }))
+IsMember g p a = (k : ℕ) × (slice_get (lexicon g).symbols k ≡ Some (pair p a))
 
--- P inherits the parent at this place, and A is a member name of the parent.
-abbrev pub IsParentFor : Alphabet → ProtoId → NameId → ℕ → Type 0
-IsParentFor g p a k = (e : WrittenInheritance) × (slice_get g.parents k ≡ Some e) × (e.heir ≡ p) × IsMember g e.proto a
+-- ---- written inheritance
+
+-- the requirements of P, over ids
+abbrev pub written_at : Alphabet → ProtoId → List Requirement
+written_at g p = map (λ r. r.requirement) (requirements_of g.world.now p)
+
+-- The requirement of P at the place k, counted from 0, is `[Self : Q]`.
+abbrev pub IsParentAt : Alphabet → ProtoId → ℕ → ProtoId → Type 0
+IsParentAt g p k q = (s : TermId) × (g.self_id ≡ Some s) × (slice_get (written_at g p) k ≡ Some (Conf s q))
+
+-- At the place k P inherits Q, which has the member name A.
+abbrev pub IsParentFor : Alphabet → ProtoId → NameId → ℕ → ProtoId → Type 0
+IsParentFor g p a k q = IsParentAt g p k q × IsMember g q a
 
 -- A is a member name of P, and P does not declare A.
 abbrev pub IsFromAbove : Alphabet → ProtoId → NameId → Type 0
 IsFromAbove g p a = IsMember g p a × (IsDeclared g p a → ⊥)
 
--- Each protocol has a depth that is at most the number of protocols, and that is greater than the depth of each protocol that it inherits.
--- If A is a member name of P, then P declares A, or A is a member name of a protocol that P is written to inherit.
+-- Numbers of 32 bits count the requirements of each protocol. Each protocol has a depth that is at most the number of protocols, and that
+-- is greater than the depth of each protocol that it inherits. If A is a member name of P, then P is a protocol of the text, and it
+-- declares A, or is written to inherit a protocol with the member name A.
 pub record IsInherited (g : Alphabet) : Type 0 where
+  pub short : (p : ProtoId) → length (written_at g p) < 2 ^ 32
   pub depth : ProtoId → ℕ
-  pub bounded : (p : ProtoId) → depth p ≤ g.protocols
-  pub goes_down : (e : WrittenInheritance) → Contains g.parents e → depth e.proto < depth e.heir
-  pub from : (p : ProtoId) (a : NameId) → IsMember g p a
-      → IsDeclared g p a ⊎ ((e : WrittenInheritance) × Contains g.parents e × (e.heir ≡ p) × IsMember g e.proto a)
+  pub bounded : (p : ProtoId) → depth p ≤ length (lexicon g).protocols
+  pub goes_down : (p q : ProtoId) (k : ℕ) → IsParentAt g p k q → depth q < depth p
+  pub of_text : (p : ProtoId) (a : NameId) → IsMember g p a → IsProtocol (lexicon g) p
+  pub from : (p : ProtoId) (a : NameId) → IsMember g p a → IsDeclared g p a ⊎ ((k : ℕ) × (q : ProtoId) × IsParentFor g p a k q)
 
--- Each associated type is the one of the facts with the same rank. Each parent is a written requirement `[Self : Q]`. The generic
--- parameters are those of the list.
-pub record FitsAssumptions (g : Alphabet) (b : Assumptions) : Type 0 where
-  pub associated : (k : ℕ) (n : Named) → slice_get g.associated k ≡ Some n → Declares b.facts n.proto n.name (record { rank = k })
-  pub parents : (e : WrittenInheritance) → Contains g.parents e → HasNumber e.number (b.facts.of_protocol e.heir) (Conforms self e.proto)
+-- Each associated type is the one of the facts with the same rank. What a protocol is written to inherit is one of its requirements in the
+-- facts. The generic parameters are those of the list.
+pub record Fits (g : Alphabet) (b : Assumptions) : Type 0 where
+  pub associated : (k : ℕ) (n : ProtocolName) → slice_get (lexicon g).associated k ≡ Some n
+      → Declares b.facts n.proto n.name (record { rank = k })
+  pub parents : (p q : ProtoId) (k : ℕ) → IsParentAt g p k q → HasNumber (k + 1) (b.facts.of_protocol p) (Conforms self q)
   pub params : b.params ≡ generic_params g.params

@@ -3,15 +3,15 @@
 -- A generic parameter is read as itself after any type parameter, and the rest of the word is read after it. So a word that begins with one
 -- is read as the same type parameter after every type parameter.
 use Rattle.std.specs.Prelude.{◌≡◌, ◌<◌, ℕ, List, [], ◌∷◌, Some, length, slice_get, Contains}
-use Rattle.swreq_param.specs.declared.ids.AssocId.{AssocId}
-use Rattle.swreq_param.specs.declared.ids.NameId.{NameId}
-use Rattle.swreq_param.specs.declared.ids.ProtoId.{ProtoId}
-use Rattle.swreq_param.specs.declared.ids.Step.{Step}
-use Rattle.swreq_param.specs.declared.ids.Step.TheVariants.{Bound, Name as NameStep}
-use Rattle.swreq_param.specs.declared.ids.TermId.{TermId}
-use Rattle.swreq_param.specs.Tables.{IsOf, term_at}
-use Rattle.swreq_param.specs.Terms.{Term}
-use Rattle.swreq_param.specs.Terms.Term.{Generic, Member as MemberOf}
+use Rattle.swreq_derive.specs.swreq_param.declared.ids.AssocId.{AssocId}
+use Rattle.swreq_derive.specs.swreq_param.declared.ids.NameId.{NameId}
+use Rattle.swreq_derive.specs.swreq_param.declared.ids.ProtoId.{ProtoId}
+use Rattle.swreq_derive.specs.swreq_param.declared.ids.Step.{Step}
+use Rattle.swreq_derive.specs.swreq_param.declared.ids.Step.TheVariants.{Bound, Name as NameStep}
+use Rattle.swreq_derive.specs.swreq_param.declared.ids.TermId.{TermId}
+use Rattle.swreq_derive.specs.swreq_param.Tables.{IsOf, term_at}
+use Rattle.swreq_derive.specs.swreq_param.Terms.{Term}
+use Rattle.swreq_derive.specs.swreq_param.Terms.Term.{Generic, Member as MemberOf}
 use Rattle.swreq_derive.specs.Derivation.TermRequirement.{Conforms, IsAnyObject}
 use Rattle.swreq_derive.specs.Derivation.TermStatement.{Requires}
 use Rattle.swreq_derive.specs.Facts.{generic_params}
@@ -20,9 +20,9 @@ use Rattle.swreq_word.specs.declared.symbols.Symbol.TheVariants.{Proto, Member, 
 use Rattle.swreq_derivation.specs.declared.derivation.Derivation.{Derivation}
 use Rattle.swreq_derivation.specs.UnderWay.{AreEqualIds, AreStatedEqual, IsIdOfMember, States}
 use Rattle.swreq_readings.specs.declared.alphabet.Alphabet.{Alphabet}
-use Rattle.swreq_readings.specs.declared.alphabet.Named.{Named}
+use Rattle.swreq_world.specs.swreq_lexicon.declared.pair.ProtocolName.{ProtocolName}
 use Rattle.swreq_readings.specs.declared.members.Members.{Members}
-use Rattle.swreq_readings.specs.Alphabets.{IsDeclared, member_at}
+use Rattle.swreq_readings.specs.Alphabets.{IsDeclared, lexicon, member_at}
 
 -- the type parameter that a symbol after t is read as
 abbrev pub read_symbol : Alphabet → Term → Symbol → Term
@@ -46,15 +46,15 @@ abbrev pub AllowsName : Alphabet → Derivation → Term → NameId → Type 0
 AllowsName g s t a = (p : ProtoId) × IsDeclared g p a × States s (Requires (Conforms t p))
 
 -- The step names the associated type with this rank.
-abbrev pub IsOfStep : Step → ℕ → Named → Type 0
+abbrev pub IsOfStep : Step → ℕ → ProtocolName → Type 0
 IsOfStep (NameStep a) k n = n.name ≡ a
 IsOfStep (Bound d) k n = d.rank ≡ k
 
 -- The step names the associated type with this rank, and a line states that t conforms to its protocol.
-abbrev pub IsGivenAt : Alphabet → Derivation → Term → Step → ℕ → Named → Type 0
-IsGivenAt g s t x k n = (slice_get g.associated k ≡ Some n) × IsOfStep x k n × States s (Requires (Conforms t n.proto))
+abbrev pub IsGivenAt : Alphabet → Derivation → Term → Step → ℕ → ProtocolName → Type 0
+IsGivenAt g s t x k n = (slice_get (lexicon g).associated k ≡ Some n) × IsOfStep x k n × States s (Requires (Conforms t n.proto))
 
-abbrev pub IsGiven : Alphabet → Derivation → Term → Step → Named → Type 0
+abbrev pub IsGiven : Alphabet → Derivation → Term → Step → ProtocolName → Type 0
 IsGiven g s t x n = (k : ℕ) × IsGivenAt g s t x k n
 
 -- They are the members of t by the bound step and by the unbound step, and a type parameter that equals the member by the unbound step.
@@ -66,7 +66,7 @@ pub record AreMembers (s : Derivation) (t : TermId) (d : AssocId) (a : NameId) (
 -- Lines allow the symbol after t.
 abbrev pub AllowsSymbol : Alphabet → Derivation → Term → Symbol → Type 0
 AllowsSymbol g s t (Proto q) = States s (Requires (Conforms t (record { rank = q })))
-AllowsSymbol g s t (Member k) = (k < length g.members) × States s (Requires (Conforms t (member_at g k).proto)) × AllowsName g s t
+AllowsSymbol g s t (Member k) = (k < length (lexicon g).symbols) × States s (Requires (Conforms t (member_at g k).proto)) × AllowsName g s t
     (member_at g k).name
 AllowsSymbol g s t (Param d i) = Contains (generic_params g.params) (record { depth = d; index = i })
 AllowsSymbol g s t (Name a) = AllowsName g s t (record { rank = a })
@@ -82,6 +82,10 @@ pub record AreReadEqual (g : Alphabet) (s : Derivation) (t : Term) (u v : List S
   pub left : AllowsWord g s t u
   pub right : AllowsWord g s t v
   pub equal : AreStatedEqual s (read_word g t u) (read_word g t v)
+
+-- The two words are read alike after what the id stood for.
+abbrev pub ReadsAlike : Alphabet → Derivation → Derivation → TermId → List Symbol → List Symbol → Type 0
+ReadsAlike g old s t u v = AreReadEqual g s (term_at old.table t) u v
 
 -- Lines allow the word after t, and the id stands for what it is read as.
 abbrev pub IsReadAs : Alphabet → Derivation → Term → List Symbol → TermId → Type 0

@@ -1,19 +1,80 @@
 //! Symbols and words that lines allow after a type parameter are allowed after an equal one.
-ghost use Rattle.std.specs.Prelude.{◌≡◌, ◌<◌, IfOk, OnOk};
-ghost use Rattle.swreq_param.specs.Tables.{IsOf, term_at};
-ghost use Rattle.swreq_param.specs.declared.ids.Step.TheVariants as steps;
+ghost use Rattle.std.specs.Prelude.{OnOk, ◌≡◌, ◌<◌, IfOk};
+ghost use Rattle.swreq_derive.specs.swreq_param.{Tables.{IsOf, term_at}, declared.ids.Step.TheVariants.{Name}};
+ghost use Rattle.swreq_derive.specs.{Derivation.TermRequirement.{IsAnyObject}, Derivation.TermStatement.{Requires}};
+ghost use Rattle.swreq_derivation.specs.UnderWay.{AreEqualIds, Continues, ContinuesFrom, IsIdOfMember, States, StatesConformance, StatesEqual, AreStatedEqual};
+ghost use Rattle.swreq_readings.specs.{Alphabets.{Fits}, Readable.{AllowsName, AllowsSymbol, AllowsWord, IsIdAfter, read_symbol, read_word}};
+ghost use Rattle.swreq_derive.specs.swreq_param.declared.ids.Step.TheVariants as steps;
 ghost use Rattle.swreq_word.specs.declared.symbols.Symbol.TheVariants as symbols;
-ghost use Rattle.swreq_derivation.specs.UnderWay.{AreEqualIds, AreStatedEqual, ContinuesFrom};
-ghost use Rattle.swreq_readings.specs.Alphabets.{FitsAssumptions};
-ghost use Rattle.swreq_readings.specs.Readable.{AllowsSymbol, AllowsWord, IsIdAfter, read_symbol, read_word};
 
 use crate::alphabet::{Alphabet, member_at};
-use crate::carrying::{carry_conf, carry_layout, carry_name};
 use crate::reading::read_symbol;
+use crate::telling::declarer;
 use std::alloc::AllocError;
-use swreq_derivation::Derivation;
-use swreq_param::{NameId, ProtoId, TermId};
+use swreq_derivation::{Derivation, add_same_conf, add_same_layout, add_same_name, add_symm};
+use swreq_derive::param::{NameId, ProtoId, TermId};
 use swreq_word::Symbol;
+
+/// From `[T : P]` and `[T == U]`: `[U : P]`.
+pub fn carry_conf(
+    derivation: &mut Derivation,
+    from: TermId,
+    to: TermId,
+    protocol: ProtoId,
+) -> Result<(), AllocError>
+    requires from { IsOf derivation.old.table from }
+    requires to { IsOf derivation.old.table to }
+    requires conforms { StatesConformance derivation.old derivation.old from protocol }
+    requires equal { StatesEqual derivation.old derivation.old from to }
+    ensures conforms { OnOk result (StatesConformance derivation.old derivation.new to protocol) }
+    ensures continues { Continues derivation.old derivation.new }
+{
+    add_symm(derivation, from, to)?;
+    add_same_conf(derivation, to, from, protocol)?;
+    Ok(())
+}
+
+/// From `[T : AnyObject]` and `[T == U]`: `[U : AnyObject]`.
+pub fn carry_layout(derivation: &mut Derivation, from: TermId, to: TermId) -> Result<(), AllocError>
+    requires from { IsOf derivation.old.table from }
+    requires to { IsOf derivation.old.table to }
+    requires object { States derivation.old
+        (Requires (IsAnyObject (term_at derivation.old.table from))) }
+    requires equal { StatesEqual derivation.old derivation.old from to }
+    ensures object { OnOk result
+        (States derivation.new (Requires (IsAnyObject (term_at derivation.old.table to)))) }
+    ensures continues { Continues derivation.old derivation.new }
+{
+    add_symm(derivation, from, to)?;
+    add_same_layout(derivation, to, from)?;
+    Ok(())
+}
+
+/// If lines allow the name A after T, and state `[T == U]`, then they allow A after U, and state `[T.A == U.A]`. `members` are the ids of
+/// T.A and U.A.
+pub fn carry_name(
+    alphabet: &Alphabet,
+    derivation: &mut Derivation,
+    from: TermId,
+    to: TermId,
+    name: NameId,
+    members: (TermId, TermId),
+) -> Result<(), AllocError>
+    requires name { AllowsName alphabet.now derivation.old
+        (term_at derivation.old.table from) name }
+    requires equal { AreEqualIds derivation.old from to }
+    requires first { IsIdOfMember derivation.old from (Name name) members.0 }
+    requires second { IsIdOfMember derivation.old to (Name name) members.1 }
+    ensures name { OnOk result (AllowsName alphabet.now derivation.new
+        (term_at derivation.old.table to) name) }
+    ensures equal { OnOk result (StatesEqual derivation.old derivation.new members.0 members.1) }
+    ensures continues { ContinuesFrom (Fits alphabet.now) derivation.old derivation.new }
+{
+    let p = declarer(alphabet, derivation, from, name);
+    carry_conf(derivation, from, to, p)?;
+    add_same_name(derivation, from, to, (p, name), members)?;
+    Ok(())
+}
 
 /// If lines allow a member symbol after T, and state `[T == U]`, then they allow it after U, and state that what it is read as after T
 /// equals what it is read as after U. `members` are the ids of the two.
@@ -33,11 +94,8 @@ fn carry_member(
     ensures symbol { OnOk result
         (AllowsSymbol alphabet.now derivation.new (term_at derivation.old.table to)
         (symbols.Member rank)) }
-    ensures equal { OnOk result
-        (AreStatedEqual derivation.new (term_at derivation.old.table members.0)
-        (term_at derivation.old.table members.1)) }
-    ensures continues { ContinuesFrom (FitsAssumptions alphabet.now) derivation.old
-        derivation.new }
+    ensures equal { OnOk result (StatesEqual derivation.old derivation.new members.0 members.1) }
+    ensures continues { ContinuesFrom (Fits alphabet.now) derivation.old derivation.new }
 {
     let named = member_at(alphabet, rank);
     carry_name(alphabet, derivation, from, to, named.name, members)?;
@@ -62,11 +120,8 @@ fn carry_symbol(
     requires second { IsIdAfter alphabet.now derivation.old to symbol members.1 }
     ensures symbol { OnOk result
         (AllowsSymbol alphabet.now derivation.new (term_at derivation.old.table to) symbol) }
-    ensures equal { OnOk result
-        (AreStatedEqual derivation.new (term_at derivation.old.table members.0)
-        (term_at derivation.old.table members.1)) }
-    ensures continues { ContinuesFrom (FitsAssumptions alphabet.now) derivation.old
-        derivation.new }
+    ensures equal { OnOk result (StatesEqual derivation.old derivation.new members.0 members.1) }
+    ensures continues { ContinuesFrom (Fits alphabet.now) derivation.old derivation.new }
 {
     match symbol {
         Symbol::Proto(rank) => {
@@ -101,24 +156,20 @@ fn carry(
     requires to { IsOf derivation.old.table to }
     requires symbol { AllowsSymbol alphabet.now derivation.old
         (term_at derivation.old.table from) symbol }
-    requires equal { AreStatedEqual derivation.old (term_at derivation.old.table from)
-        (term_at derivation.old.table to) }
+    requires equal { StatesEqual derivation.old derivation.old from to }
     ensures first { IfOk result (λ r. IsOf derivation.new.table r.0) }
     ensures second { IfOk result (λ r. IsOf derivation.new.table r.1) }
-    ensures first_is { IfOk result
-        (λ r. term_at derivation.new.table r.0 ≡ read_symbol alphabet.now
-        (term_at derivation.old.table from) symbol) }
-    ensures second_is { IfOk result
-        (λ r. term_at derivation.new.table r.1 ≡ read_symbol alphabet.now
-        (term_at derivation.old.table to) symbol) }
+    ensures first_is { IfOk result (λ r. term_at derivation.new.table r.0 ≡ read_symbol
+        alphabet.now (term_at derivation.old.table from) symbol) }
+    ensures second_is { IfOk result (λ r. term_at derivation.new.table r.1 ≡ read_symbol
+        alphabet.now (term_at derivation.old.table to) symbol) }
     ensures symbol { OnOk result
         (AllowsSymbol alphabet.now derivation.new (term_at derivation.old.table to) symbol) }
     ensures equal { OnOk result
         (AreStatedEqual derivation.new
         (read_symbol alphabet.now (term_at derivation.old.table from) symbol)
         (read_symbol alphabet.now (term_at derivation.old.table to) symbol)) }
-    ensures continues { ContinuesFrom (FitsAssumptions alphabet.now) derivation.old
-        derivation.new }
+    ensures continues { ContinuesFrom (Fits alphabet.now) derivation.old derivation.new }
 {
     let first = read_symbol(alphabet, derivation, from, symbol)?;
     let second = read_symbol(alphabet, derivation, to, symbol)?;
@@ -139,15 +190,12 @@ pub fn carry_all(
     requires to { IsOf derivation.old.table to }
     requires word { AllowsWord alphabet.now derivation.old
         (term_at derivation.old.table from) word.now }
-    requires equal { AreStatedEqual derivation.old (term_at derivation.old.table from)
-        (term_at derivation.old.table to) }
+    requires equal { StatesEqual derivation.old derivation.old from to }
     ensures first { IfOk result (λ r. IsOf derivation.new.table r.0) }
     ensures second { IfOk result (λ r. IsOf derivation.new.table r.1) }
-    ensures first_is { IfOk result
-        (λ r. term_at derivation.new.table r.0 ≡ read_word alphabet.now
+    ensures first_is { IfOk result (λ r. term_at derivation.new.table r.0 ≡ read_word alphabet.now
         (term_at derivation.old.table from) word.now) }
-    ensures second_is { IfOk result
-        (λ r. term_at derivation.new.table r.1 ≡ read_word alphabet.now
+    ensures second_is { IfOk result (λ r. term_at derivation.new.table r.1 ≡ read_word alphabet.now
         (term_at derivation.old.table to) word.now) }
     ensures word { OnOk result
         (AllowsWord alphabet.now derivation.new (term_at derivation.old.table to) word.now) }
@@ -155,8 +203,7 @@ pub fn carry_all(
         (AreStatedEqual derivation.new
         (read_word alphabet.now (term_at derivation.old.table from) word.now)
         (read_word alphabet.now (term_at derivation.old.table to) word.now)) }
-    ensures continues { ContinuesFrom (FitsAssumptions alphabet.now) derivation.old
-        derivation.new }
+    ensures continues { ContinuesFrom (Fits alphabet.now) derivation.old derivation.new }
 {
     let mut first = from;
     let mut second = to;

@@ -1,16 +1,14 @@
 //! Equal type parameters have equal members.
 ghost use Rattle.std.specs.Prelude.{◌≡◌, IfOk, OnOk};
-ghost use Rattle.swreq_param.specs.Tables.{IsOf, term_at};
-ghost use Rattle.swreq_param.specs.declared.ids.Step.TheVariants.{Bound, Name};
-ghost use Rattle.swreq_param.specs.Terms.Term.{Member};
-ghost use Rattle.swreq_derivation.specs.UnderWay.{AreEqualIds, AreStatedEqual, ContinuesFrom};
-ghost use Rattle.swreq_readings.specs.Alphabets.{FitsAssumptions};
-ghost use Rattle.swreq_readings.specs.Readable.{AreMembers, IsGiven};
+ghost use Rattle.swreq_derive.specs.swreq_param.{Tables.{IsOf, term_at}, declared.ids.Step.TheVariants.{Bound, Name}, Terms.Term.{Member}};
+ghost use Rattle.swreq_derivation.specs.UnderWay.{AreEqualIds, AreStatedEqual, ContinuesFrom, StatesEqual};
+ghost use Rattle.swreq_readings.specs.{Alphabets.{Fits}, Readable.{AreMembers, IsGiven}};
 
-use crate::alphabet::{Alphabet, Named};
+use crate::alphabet::Alphabet;
 use std::alloc::AllocError;
 use swreq_derivation::{Derivation, add_assoc_bind, add_same_conf, add_same_name, add_trans};
-use swreq_param::{AssocId, Step, TermId};
+use swreq_derive::param::{AssocId, Step, TermId};
+use swreq_world::lexicon::ProtocolName;
 
 /// The bound member and the unbound member of a type parameter by an associated type, and a type parameter that equals the unbound member.
 #[derive(Clone, Copy, Debug)]
@@ -27,7 +25,7 @@ fn bind(
     derivation: &mut Derivation,
     sides: (TermId, TermId),
     assoc: AssocId,
-    named: Named,
+    named: ProtocolName,
     members: Members,
 ) -> Result<(), AllocError>
     requires equal { AreEqualIds derivation.old sides.0 sides.1 }
@@ -36,10 +34,8 @@ fn bind(
     requires members { AreMembers derivation.old sides.0 assoc named.name members }
     ensures table { derivation.new.table ≡ derivation.old.table }
     ensures equal { OnOk result
-        (AreStatedEqual derivation.new (term_at derivation.old.table members.bound)
-        (term_at derivation.old.table members.last)) }
-    ensures continues { ContinuesFrom (FitsAssumptions alphabet.now) derivation.old
-        derivation.new }
+        (StatesEqual derivation.old derivation.new members.bound members.last) }
+    ensures continues { ContinuesFrom (Fits alphabet.now) derivation.old derivation.new }
 {
     let (t, u) = sides;
     add_same_conf(derivation, t, u, named.proto)?;
@@ -61,22 +57,20 @@ pub fn equal_member(
     left: TermId,
     right: TermId,
     step: Step,
-    named: Named,
+    named: ProtocolName,
 ) -> Result<TermId, AllocError>
     requires left { IsOf derivation.old.table left }
     requires right { IsOf derivation.old.table right }
     requires given { IsGiven alphabet.now derivation.old
         (term_at derivation.old.table right) step named }
-    requires equal { AreStatedEqual derivation.old (term_at derivation.old.table left)
-        (term_at derivation.old.table right) }
+    requires equal { StatesEqual derivation.old derivation.old left right }
     ensures is_of { IfOk result (IsOf derivation.new.table) }
     ensures stands { IfOk result
         (λ v. term_at derivation.new.table v ≡ Member (term_at derivation.old.table left) step) }
     ensures equal { OnOk result
         (AreStatedEqual derivation.new (Member (term_at derivation.old.table left) step)
         (Member (term_at derivation.old.table right) (Name named.name))) }
-    ensures continues { ContinuesFrom (FitsAssumptions alphabet.now) derivation.old
-        derivation.new }
+    ensures continues { ContinuesFrom (Fits alphabet.now) derivation.old derivation.new }
 {
     let plain = derivation.member(left, Step::Name(named.name))?;
     let last = derivation.member(right, Step::Name(named.name))?;

@@ -1,13 +1,13 @@
 //! The type parameters that words are read as.
 ghost use Rattle.std.specs.Prelude.{◌≡◌, IfOk};
-ghost use Rattle.swreq_param.specs.Tables.{IsOf, term_at};
+ghost use Rattle.swreq_derive.specs.swreq_param.Tables.{IsOf, term_at};
 ghost use Rattle.swreq_derivation.specs.UnderWay.{Continues};
 ghost use Rattle.swreq_readings.specs.Readable.{read_symbol, read_word};
 
 use crate::alphabet::{Alphabet, member_at};
 use std::alloc::AllocError;
 use swreq_derivation::Derivation;
-use swreq_param::{NameId, ParamId, Step, TermId};
+use swreq_derive::param::{NameId, ParamId, Step, TermId};
 use swreq_word::Symbol;
 
 /// The type parameter that a symbol after T is read as.
@@ -19,8 +19,7 @@ pub fn read_symbol(
 ) -> Result<TermId, AllocError>
     requires subject { IsOf derivation.old.table subject }
     ensures is_of { IfOk result (IsOf derivation.new.table) }
-    ensures stands { IfOk result
-        (λ u. term_at derivation.new.table u ≡ read_symbol alphabet.now
+    ensures stands { IfOk result (λ u. term_at derivation.new.table u ≡ read_symbol alphabet.now
         (term_at derivation.old.table subject) symbol) }
     ensures continues { Continues derivation.old derivation.new }
 {
@@ -45,8 +44,7 @@ pub fn read_word(
 ) -> Result<TermId, AllocError>
     requires subject { IsOf derivation.old.table subject }
     ensures is_of { IfOk result (IsOf derivation.new.table) }
-    ensures stands { IfOk result
-        (λ u. term_at derivation.new.table u ≡ read_word alphabet.now
+    ensures stands { IfOk result (λ u. term_at derivation.new.table u ≡ read_word alphabet.now
         (term_at derivation.old.table subject) word.now) }
     ensures continues { Continues derivation.old derivation.new }
 {

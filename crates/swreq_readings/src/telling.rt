@@ -1,20 +1,93 @@
-//! Whether lines allow words, and state that they are read alike.
-ghost use Rattle.std.specs.Prelude.{IfOk, MatchOption};
-ghost use Rattle.std.specs.Bool.{Decides};
-ghost use Rattle.swreq_param.specs.Tables.{IsOf, term_at};
+//! The associated types that steps name, whether lines allow words, and whether they state that words are read alike.
+ghost use Rattle.std.specs.{Prelude.{MatchOption, IfOk}, Bool.{Decides}};
+ghost use Rattle.swreq_derive.specs.swreq_param.Tables.{IsOf, term_at};
+ghost use Rattle.swreq_derive.specs.{Derivation.TermRequirement.{Conforms}, Derivation.TermStatement.{Requires}};
+ghost use Rattle.swreq_derivation.specs.UnderWay.{States, AreStatedEqual, Continues};
+ghost use Rattle.swreq_world.specs.swreq_lexicon.declared.pair.ProtocolName.{ProtocolName as PairView};
+ghost use Rattle.swreq_readings.specs.{Alphabets.{IsDeclared}, Readable.{AllowsName, IsGiven, IsOfStep, AllowsSymbol, AllowsWord, IsReadAs, ReadsAlike}};
 ghost use Rattle.swreq_word.specs.declared.symbols.Symbol.TheVariants.{Member};
-ghost use Rattle.swreq_derivation.specs.UnderWay.{AreStatedEqual, Continues};
-ghost use Rattle.swreq_readings.specs.Readable.{AllowsName, AllowsSymbol, AllowsWord, AreReadEqual, IsReadAs};
 
-use crate::alphabet::{Alphabet, member_at};
-use crate::given::given_step;
+use crate::alphabet::{Alphabet, declared_at, member_at};
 use crate::reading::read_symbol;
 use std::alloc::AllocError;
 use swreq_derivation::{
     Derivation, are_one, conf_statement, is_stated, layout_statement, same_statement,
 };
-use swreq_param::{NameId, ParamId, ProtoId, Step, TermId};
+use swreq_derive::param::{NameId, ParamId, ProtoId, Step, TermId};
 use swreq_word::Symbol;
+use swreq_world::lexicon::ProtocolName;
+
+/// Whether the step names the associated type with this rank.
+pub fn is_of_step(step: Step, rank: u32, named: ProtocolName) -> bool
+    ensures { Decides result (IsOfStep step rank named) }
+{
+    match step {
+        Step::Name(a) => named.name.rank == a.rank,
+        Step::Bound(d) => d.rank == rank,
+    }
+}
+
+/// Whether the step names the associated type with this rank, and a line states that T conforms to its protocol.
+fn is_given_at(
+    derivation: &Derivation,
+    subject: TermId,
+    step: Step,
+    rank: u32,
+    named: ProtocolName,
+) -> bool
+    requires subject { IsOf derivation.now.table subject }
+    ensures { Decides result (IsOfStep step rank named
+        × States derivation.now
+        (Requires (Conforms (term_at derivation.now.table subject) named.proto))) }
+{
+    if is_of_step(step, rank, named) {
+        is_stated(derivation, conf_statement(subject, named.proto))
+    } else {
+        false
+    }
+}
+
+/// An associated type that the step names, such that a line states that T conforms to its protocol, or None if there is none.
+pub fn given_step(
+    alphabet: &Alphabet,
+    derivation: &Derivation,
+    subject: TermId,
+    step: Step,
+) -> Option<ProtocolName>
+    requires subject { IsOf derivation.now.table subject }
+    ensures { MatchOption result
+        ((n : PairView) → IsGiven alphabet.now derivation.now
+        (term_at derivation.now.table subject) step n → ⊥)
+        (IsGiven alphabet.now derivation.now (term_at derivation.now.table subject) step) }
+{
+    for k in 0..alphabet.world.lexicon().associated() {
+        let named = declared_at(alphabet, k);
+        if is_given_at(derivation, subject, step, k, named) {
+            return Some(named);
+        }
+    }
+    None
+}
+
+/// A protocol that declares the name, such that a line states that T conforms to it. Lines allow the name after T.
+pub(crate) fn declarer(
+    alphabet: &Alphabet,
+    derivation: &Derivation,
+    subject: TermId,
+    name: NameId,
+) -> ProtoId
+    requires subject { IsOf derivation.now.table subject }
+    requires name { AllowsName alphabet.now derivation.now
+        (term_at derivation.now.table subject) name }
+    ensures declares { IsDeclared alphabet.now result name }
+    ensures conforms { States derivation.now
+        (Requires (Conforms (term_at derivation.now.table subject) result)) }
+{
+    match given_step(alphabet, derivation, subject, Step::Name(name)) {
+        Some(named) => named.proto,
+        None => unreachable!(),
+    }
+}
 
 /// Whether lines allow the name after T.
 fn allows_name(alphabet: &Alphabet, derivation: &Derivation, subject: TermId, name: NameId) -> bool
@@ -35,7 +108,7 @@ fn allows_member(alphabet: &Alphabet, derivation: &Derivation, subject: TermId, 
         (AllowsSymbol alphabet.now derivation.now
         (term_at derivation.now.table subject) (Member rank)) }
 {
-    if rank >= alphabet.members.items().len() as u64 {
+    if rank >= alphabet.world.lexicon().members() {
         return false;
     }
     let named = member_at(alphabet, rank);
@@ -73,9 +146,9 @@ fn read_if_allowed(
     word: &[Symbol],
 ) -> Result<Option<TermId>, AllocError>
     requires subject { IsOf derivation.old.table subject }
-    ensures told { IfOk result (λ o. MatchOption o
-        (AllowsWord alphabet.now derivation.new (term_at derivation.old.table subject) word.now → ⊥)
-        (IsReadAs alphabet.now derivation.new (term_at derivation.old.table subject) word.now)) }
+    ensures told { IfOk result (λ o. MatchOption o (AllowsWord alphabet.now derivation.new (term_at
+        derivation.old.table subject) word.now → ⊥) (IsReadAs alphabet.now derivation.new (term_at
+        derivation.old.table subject) word.now)) }
     ensures continues { Continues derivation.old derivation.new }
 {
     let mut at = subject;
@@ -92,8 +165,7 @@ fn read_if_allowed(
 fn are_equal(derivation: &Derivation, left: TermId, right: TermId) -> bool
     requires left { IsOf derivation.now.table left }
     requires right { IsOf derivation.now.table right }
-    ensures { Decides result
-        (AreStatedEqual derivation.now (term_at derivation.now.table left)
+    ensures { Decides result (AreStatedEqual derivation.now (term_at derivation.now.table left)
         (term_at derivation.now.table right)) }
 {
     if are_one(derivation, left, right) {
@@ -111,9 +183,8 @@ pub fn are_read_equal(
     to: &[Symbol],
 ) -> Result<bool, AllocError>
     requires subject { IsOf derivation.old.table subject }
-    ensures told { IfOk result (λ yes.
-        Decides yes (AreReadEqual alphabet.now derivation.new
-        (term_at derivation.old.table subject) from.now to.now)) }
+    ensures told { IfOk result (λ yes. Decides yes (ReadsAlike alphabet.now derivation.old
+        derivation.new subject from.now to.now)) }
     ensures continues { Continues derivation.old derivation.new }
 {
     let first = read_if_allowed(alphabet, derivation, subject, from)?;

@@ -1,20 +1,20 @@
 -- What is answered with the guard is answered by the book's rules.
 use Rattle.std.proofs.Common.{◌↔◌, ℕ, true, false, List, [], ◌∷◌, map, Contains}
 use Rattle.std.proofs.lemmas.List.Elements.{All-contains, Contains-get_or}
-use Rattle.swreq_derive.specs.Derivation.{BookDerivable, Derivable, TermStatement}
-use Rattle.swreq_derive.specs.WellFormed.{IsWellFormed}
-use Rattle.swreq_derive.proofs.Guard.{from_function}
-use Rattle.swreq_lemmas.proofs.Members.{first_member, later_member, contains_map}
+use Rattle.swreq_print.specs.swreq_derive.Derivation.{BookDerivable, Derivable, TermStatement}
+use Rattle.swreq_print.specs.swreq_derive.WellFormed.{IsWellFormed}
+use Rattle.swreq_valid.proofs.swreq_derive.Guard.{from_function}
+use Rattle.swreq_print.proofs.swreq_lemmas.Members.{first_member, later_member, contains_map}
 use Rattle.swreq_print.specs.Names.{Text}
-use Rattle.swreq_lowering.specs.Queries.{TermQuery}
-use Rattle.swreq_lowering.specs.Queries.TermQuery.{AsksSignature}
-use Rattle.swreq_world.specs.Closed.{IsClosed, IsQueryOf}
-use Rattle.swreq_world.specs.Worlds.{TextWorld, no_signature, signature_at}
-use Rattle.swreq_symbols.specs.Meaning.{facts_of}
+use Rattle.swreq_print.specs.swreq_lowering.Queries.{TermAsks, TermQuery}
+use Rattle.swreq_print.specs.swreq_lowering.Queries.TermAsks.{AsksSignature}
+use Rattle.swreq_valid.specs.swreq_world.Closed.{IsClosed, IsQueryOf}
+use Rattle.swreq_valid.specs.swreq_world.Worlds.{TextWorld, no_signature, signature_at}
+use Rattle.swreq_valid.specs.swreq_symbols.Meaning.{facts_of}
 use Rattle.swreq_query.specs.Answers.{Answer}
 use Rattle.swreq_query.specs.Answers.Answer.{Invalid, Yes, No}
 use Rattle.swreq_query.proofs.Along.{along}
-use Rattle.swreq_world.specs.FactsAt.{source_of}
+use Rattle.swreq_valid.specs.swreq_world.FactsAt.{source_of}
 use Rattle.swreq_check.specs.Lines.{Counted}
 use Rattle.swreq_check.specs.declared.content.Backing.{Backing}
 use Rattle.swreq_check.specs.declared.content.Backing.TheVariants.{Nothing}
@@ -23,32 +23,37 @@ use Rattle.swreq_check.specs.declared.content.Content.TheVariants.{Answers}
 use Rattle.swreq_check.specs.declared.content.Shown.TheVariants.{Counts, Each}
 use Rattle.swreq_reply.specs.Inputs.{Parts}
 use Rattle.swreq_reply.specs.Outputs.{AnswersLast, ArePrinted, IsOutput}
-use Rattle.swreq_check.specs.QueryLines.{HasAnswer, IsLineOf, signature_of}
+use Rattle.swreq_check.specs.QueryLines.{HasAnswer, IsLineOf, IsLineWhere}
 use Rattle.swreq_reply.proofs.Counted.{counted_by}
-use Rattle.swreq_check.proofs.Lines.{lines_by, query_signature}
+use Rattle.swreq_check.proofs.Lines.{lines_by}
 
 -- ---- by the book's rules
 
 -- and so its list is one of the text
 pub asked_list : (w : TextWorld) (q : TermQuery) → IsQueryOf w q
-    → Contains (map source_of w.signatures) (source_of (signature_at w (signature_of q)))
+    → Contains (map source_of w.signatures) (source_of (signature_at w q.f))
 asked_list w q of =
-    contains_map source_of w.signatures (signature_at w (signature_of q))
-    (Contains-get_or w.signatures (signature_of q).place no_signature (query_signature w q of))
+    contains_map source_of w.signatures (signature_at w q.f) (Contains-get_or w.signatures q.f.place no_signature of.0)
 
 module _ (w : TextWorld) (formed : IsWellFormed (facts_of w) (map source_of w.signatures)) where
   -- with the guard and without it a query has the same answer
   answer_by_book : (q : TermQuery) (a : Answer) → IsQueryOf w q → HasAnswer w true a q ↔ HasAnswer w false a q
-  answer_by_book q a of = (along _ _ (λ st. (same st).1) (λ st. (same st).0) q a, along _ _ (λ st. (same st).0) (λ st. (same st).1) q a)
+  answer_by_book q a of = (
+    along _ _ (λ st. (same st).1) (λ st. (same st).0) q.asks a,
+    along _ _ (λ st. (same st).0) (λ st. (same st).1) q.asks a,
+  )
     where
-      same : (st : TermStatement) → BookDerivable (facts_of w) (source_of (signature_at w (signature_of q))) st
-          ↔ Derivable (facts_of w) (source_of (signature_at w (signature_of q))) st
+      same : (st : TermStatement) → BookDerivable (facts_of w) (source_of (signature_at w q.f)) st
+          ↔ Derivable (facts_of w) (source_of (signature_at w q.f)) st
       same st = from_function (facts_of w) (map source_of w.signatures)
-          (source_of (signature_at w (signature_of q))) st formed (asked_list w q of)
+          (source_of (signature_at w q.f)) st formed (asked_list w q of)
 
   line_by_book : (b : Backing) (q : TermQuery) (piece : Text) → IsQueryOf w q → IsLineOf w true b q piece → IsLineOf w false b q piece
-  line_by_book b (AsksSignature f) piece of h = h
-  line_by_book b q piece of h = (h.0, h.1, (answer_by_book q h.0 of).0 h.2, h.3, h.4)
+  line_by_book b q piece of = by q.asks
+    where
+      by : (a : TermAsks) → IsLineWhere w true a b q piece → IsLineWhere w false a b q piece
+      by AsksSignature h = h
+      by _ h = (h.0, h.1, (answer_by_book q h.0 of).0 h.2, h.3, h.4)
 
   module _ (closed : IsClosed w) where
     of_world : (q : TermQuery) → Contains w.queries q → IsQueryOf w q

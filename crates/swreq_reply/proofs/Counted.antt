@@ -1,7 +1,7 @@
 -- How many of a list have a property.
 use Rattle.std.proofs.Common.{sym, subst, ℕ, suc, ◌+◌, ◌<◌, arith, List, [], ◌∷◌, ◌++◌, take, get_or, length, Contains}
 use Rattle.std.proofs.lemmas.List.{take_more}
-use Rattle.swreq_lemmas.proofs.Members.{first_member, later_member}
+use Rattle.swreq_print.proofs.swreq_lemmas.Members.{first_member, later_member}
 use Rattle.swreq_check.specs.Lines.{Counted}
 use Rattle.swreq_check.specs.Lines.Counted.{nothing, one, other}
 

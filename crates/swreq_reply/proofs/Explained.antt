@@ -5,35 +5,35 @@ use Rattle.std.specs.List.{AllByRecursion}
 use Rattle.std.proofs.lemmas.Bool.{cases_lt}
 use Rattle.std.proofs.lemmas.List.{append-nil, get_or_past, length-map, length-take}
 use Rattle.std.proofs.lemmas.List.Elements.{All-contains}
-use Rattle.std.proofs.lemmas.Option.{same_Some, slice_get-get_or, slice_get_within}
-use Rattle.swreq_lemmas.proofs.Elements.{contains_get, get_contains, get_of_map, same_heads, same_tails}
-use Rattle.swreq_lemmas.proofs.Members.{each_by_recursion}
-use Rattle.swreq_param.specs.declared.ids.AssocId.{AssocId}
-use Rattle.swreq_param.specs.declared.ids.NameId.{NameId}
-use Rattle.swreq_param.specs.declared.ids.ParamId.{ParamId}
-use Rattle.swreq_param.specs.declared.ids.ProtoId.{ProtoId}
-use Rattle.swreq_derive.specs.declared.lines.DerivRule.{DerivRule}
-use Rattle.swreq_derive.specs.declared.lines.DerivRule.TheVariants as Rule
-use Rattle.swreq_derive.specs.Derivation.{Declares, TermFacts, TermRequirement, TermStatement}
-use Rattle.swreq_derive.specs.Derivation.TermRequirement.{Conforms, Equals, IsAnyObject}
-use Rattle.swreq_derive.specs.Facts.{generic_params}
-use Rattle.swreq_derive.specs.Instances.{AreStated, HasNumber, IsDerivation, IsInstance, TermLine, statements_of}
-use Rattle.swreq_derive.proofs.LineLemmas.{get_take}
-use Rattle.swreq_correspondence.specs.Symbols.{AreOfText}
-use Rattle.swreq_lexicon.specs.Views.{IsName, IsProtocol, LexiconView}
-use Rattle.swreq_lowering.specs.OfText.{IsRequirementOf}
-use Rattle.swreq_lowering.specs.Queries.{TermQuery}
-use Rattle.swreq_lowering.specs.Queries.TermQuery.{AsksSignature, AsksReduced, AsksConforms, AsksAnyObject, AsksEquals}
-use Rattle.swreq_lowering.specs.Requirements.{PlacedRequirement}
-use Rattle.swreq_lowering.specs.Short.{HasShortLists}
+use Rattle.std.proofs.lemmas.Option.{slice_get-get_or, slice_get_within}
+use Rattle.swreq_print.proofs.swreq_lemmas.Elements.{contains_get, get_contains, get_of_map, same_heads, same_tails}
+use Rattle.swreq_print.proofs.swreq_lemmas.Members.{each_by_recursion}
+use Rattle.swreq_print.specs.swreq_param.declared.ids.AssocId.{AssocId}
+use Rattle.swreq_print.specs.swreq_param.declared.ids.NameId.{NameId}
+use Rattle.swreq_print.specs.swreq_param.declared.ids.ParamId.{ParamId}
+use Rattle.swreq_print.specs.swreq_param.declared.ids.ProtoId.{ProtoId}
+use Rattle.swreq_print.specs.swreq_derive.declared.lines.DerivRule.{DerivRule}
+use Rattle.swreq_print.specs.swreq_derive.declared.lines.DerivRule.TheVariants as Rule
+use Rattle.swreq_print.specs.swreq_derive.Derivation.{Declares, TermFacts, TermRequirement, TermStatement}
+use Rattle.swreq_print.specs.swreq_derive.Derivation.TermRequirement.{Conforms, Equals, IsAnyObject}
+use Rattle.swreq_print.specs.swreq_derive.Facts.{generic_params}
+use Rattle.swreq_print.specs.swreq_derive.Instances.{AreStated, HasNumber, IsDerivation, IsInstance, TermLine, statements_of}
+use Rattle.swreq_valid.proofs.swreq_derive.LineLemmas.{get_take}
+use Rattle.swreq_valid.specs.swreq_correspondence.Symbols.{AreOfText}
+use Rattle.swreq_print.specs.swreq_lexicon.Views.{IsName, IsProtocol, LexiconView}
+use Rattle.swreq_print.specs.swreq_lowering.OfText.{IsRequirementOf}
+use Rattle.swreq_print.specs.swreq_lowering.Queries.{TermQuery}
+use Rattle.swreq_print.specs.swreq_lowering.Queries.TermAsks.{AsksRequirement}
+use Rattle.swreq_print.specs.swreq_lowering.Requirements.{PlacedRequirement}
+use Rattle.swreq_print.specs.swreq_lowering.Short.{HasShortLists}
 use Rattle.swreq_text.specs.Lines.{lines}
-use Rattle.swreq_world.specs.Closed.{IsClosed, IsQueryOf, IsSignature}
-use Rattle.swreq_world.specs.FactsAt.{facts_of, written_list}
-use Rattle.swreq_world.specs.Short.{IsShort}
-use Rattle.swreq_world.specs.Worlds.{SignatureOver, TextWorld, no_signature, requirements_of, signature_at}
-use Rattle.swreq_symbols.specs.Meaning.{symbols_of}
-use Rattle.swreq_symbols.proofs.Declared.{of_text}
-use Rattle.swreq_symbols.proofs.Symbols.{text_law}
+use Rattle.swreq_valid.specs.swreq_world.Closed.{IsClosed, IsQueryOf, IsSignature}
+use Rattle.swreq_valid.specs.swreq_world.FactsAt.{facts_of, written_list}
+use Rattle.swreq_valid.specs.swreq_world.Short.{IsShort}
+use Rattle.swreq_valid.specs.swreq_world.Worlds.{SignatureOver, TextWorld, no_signature, requirements_of, signature_at}
+use Rattle.swreq_valid.specs.swreq_symbols.Meaning.{symbols_of}
+use Rattle.swreq_valid.proofs.swreq_symbols.Declared.{of_text}
+use Rattle.swreq_valid.proofs.swreq_symbols.Symbols.{text_law}
 use Rattle.swreq_print.specs.Names.{Text}
 use Rattle.swreq_print.specs.Reading.{HasNumbers, IsReadableRequirement, TellsApart}
 use Rattle.swreq_lines.specs.GoodLines.{HasReadableFields, IsReadableLine, IsReadableStatement}
@@ -45,7 +45,7 @@ use Rattle.swreq_query.specs.Ended.{IsWorldOfText}
 use Rattle.swreq_query.proofs.OfText.{declared_assoc, for_self_of, of_protocol}
 use Rattle.swreq_query.proofs.PrintingAlike.{few_params, numbers, own}
 use Rattle.swreq_verify.specs.declared.judging.Judgement.TheVariants.{Derived}
-use Rattle.swreq_verify.specs.Judgements.{Asked, IsJudged, asked, yes}
+use Rattle.swreq_verify.specs.Judgements.{IsJudged, yes}
 use Rattle.swreq_verify.specs.SecondParts.{TermSection}
 use Rattle.swreq_verify.proofs.OneOutput.{derivation_one}
 use Rattle.swreq_reply.specs.Explained.{IsLaidUnderYes}
@@ -177,50 +177,39 @@ module _ (w : TextWorld) (is : IsClosed w) (short : IsShort w) (gs : List ParamI
 
 -- ---- under a `yes`
 
--- the signature that is asked is of the world
-signature_within : (w : TextWorld) (q : TermQuery) (a : Asked) → asked q ≡ Some a → IsQueryOf w q → IsSignature w a.signature
-signature_within w (AsksSignature f) a e h = absurd cc
-signature_within w (AsksReduced f t) a e h = absurd cc
-signature_within w (AsksConforms f t p) a e h = subst (IsSignature w) (ap (λ (z : Asked). z.signature) (same_Some _ _ e)) h.0
-signature_within w (AsksAnyObject f t) a e h = subst (IsSignature w) (ap (λ (z : Asked). z.signature) (same_Some _ _ e)) h.0
-signature_within w (AsksEquals f t u) a e h = subst (IsSignature w) (ap (λ (z : Asked). z.signature) (same_Some _ _ e)) h.0
-
 module _ (text : List ℕ) (w : TextWorld) (of : IsWorldOfText text w) (lists : HasShortLists text of.skeleton)
     (is : IsClosed w) (short : IsShort w) (tells : TellsApart w.lexicon) (names : AreNamesOfOneLine w.lexicon) where
-  module _ (q : TermQuery) (asks : Contains w.queries q) (behind : Text) (d : IsDerivationText w q behind)
-      (limit : length behind ≤ 1048576) where
-    abbrev a : Asked
-    a = d.0
-
+  module _ (q : TermQuery) (in_text : Contains w.queries q) (r : TermRequirement) (asks : q.asks ≡ AsksRequirement r) (behind : Text)
+      (d : IsDerivationText w q.f r behind) (limit : length behind ≤ 1048576) where
     abbrev ls : List TermLine
-    ls = d.2
+    ls = d.0
 
-    within : IsSignature w a.signature
-    within = signature_within w q a d.1 (All-contains (IsQueryOf w) w.queries q is.queries asks)
+    within : IsSignature w q.f
+    within = (All-contains (IsQueryOf w) w.queries q is.queries in_text).0
 
     abbrev g : SignatureOver PlacedRequirement
-    g = signature_at w a.signature
+    g = signature_at w q.f
 
     of_world : Contains w.signatures g
-    of_world = get_contains w.signatures a.signature.place g (slice_get-get_or w.signatures a.signature.place no_signature within)
+    of_world = get_contains w.signatures q.f.place g (slice_get-get_or w.signatures q.f.place no_signature within)
 
     -- There are no more lines than bytes.
     many : length ls ≤ 1048576
     many =
         let more = as_long w.lexicon 1 ls in
-        let same : length behind ≡ length (lines_from w.lexicon 1 ls) = ap length d.5 in omega (arith, more, same, limit)
+        let same : length behind ≡ length (lines_from w.lexicon 1 ls) = ap length d.3 in omega (arith, more, same, limit)
 
     readable : AllByRecursion (IsReadableLine w.lexicon) ls
     readable =
-        let few : length g.requirements < 2 ^ 32 = short.lists a.signature.place no_signature within in
+        let few : length g.requirements < 2 ^ 32 = short.lists q.f.place no_signature within in
         let count : length (written_list g) ≡ length g.requirements
         = length-map g.requirements (λ (r : PlacedRequirement). r.requirement) in
         derived_readable w is short (generic_params g.params) (written_list g)
         (numbers g.params (few_params text of.skeleton w of.world lists g of_world))
-        (own text of.skeleton w of.world lists is g of_world) (omega (arith, few, count)) ls d.3 (omega (arith, many))
+        (own text of.skeleton w of.world lists is g of_world) (omega (arith, few, count)) ls d.1 (omega (arith, many))
 
     written : lines behind ≡ texts_from w.lexicon 1 ls
-    written = ap lines d.5 ∙ lines_are w.lexicon tells names 1 ls readable (omega (arith, many))
+    written = ap lines d.3 ∙ lines_are w.lexicon tells names 1 ls readable (omega (arith, many))
 
     abbrev under : TermSection
     under = record { heading = yes; derivation = ls }
@@ -232,7 +221,7 @@ module _ (text : List ℕ) (w : TextWorld) (of : IsWorldOfText text w) (lists : 
     }
 
     judged : IsJudged w q under Derived
-    judged = (a, record { asks = d.1; heading = refl }, d.3, d.4)
+    judged = (r, record { asks = asks; heading = refl }, d.1, d.2)
 
     pub judged_ok : (s : TermSection) → IsLaidUnderYes w behind s → IsJudged w q s Derived
     judged_ok s h =

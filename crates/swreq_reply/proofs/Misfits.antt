@@ -1,7 +1,7 @@
 -- A second part first does not fit the queries at one line.
 use Rattle.std.proofs.Common.{◌≡◌, ◌∙◌, inl, inr, refl, sym, ap₂, subst, ℕ, ◌<◌, arith, List, [], ◌∷◌, ◌++◌, append-nil, append_assoc, length}
 use Rattle.std.proofs.lemmas.Bool.{cases_lt}
-use Rattle.swreq_lexicon.specs.Views.{LexiconView}
+use Rattle.swreq_print.specs.swreq_lexicon.Views.{LexiconView}
 use Rattle.swreq_print.specs.Names.{Text}
 use Rattle.swreq_verify.specs.SecondParts.{AreSections, Begin, IsFirstMisfit, IsStuck, TermSection}
 

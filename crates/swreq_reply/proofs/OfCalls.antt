@@ -1,20 +1,20 @@
 -- Where a second part stands for none or a name of its calls is refused.
 use Rattle.std.proofs.Common.{◌≡◌, ◌≢◌, ◌∙◌, refl, sym, ap, subst, ℕ, List, Contains}
-use Rattle.swreq_lex.specs.declared.refusal.LexErr.{LexErr}
-use Rattle.swreq_lex.specs.declared.token.Token as lexed
-use Rattle.swreq_lex.specs.Refusals.{HasRefusalFrom}
-use Rattle.swreq_lex.specs.Tokens.{HasTokensFrom}
-use Rattle.swreq_decl.specs.declared.refusal.ParseErr.{ParseErr}
-use Rattle.swreq_decl.specs.declared.refusal.ParseErr.TheVariants as grammar
-use Rattle.swreq_decl.specs.declared.skeleton.CallDecl.{CallDecl}
-use Rattle.swreq_decl.specs.Calls.{IsReason, RefusedAt, StandsFor}
-use Rattle.swreq_lemmas.proofs.Members.{no_member}
-use Rattle.swreq_resolve.specs.declared.refusal.NameErr.{NameErr}
-use Rattle.swreq_resolve.specs.declared.refusal.Refusal.{Refusal}
-use Rattle.swreq_resolve.specs.Errors.{error_of}
-use Rattle.swreq_resolve.proofs.Order.{one_first}
+use Rattle.swreq_print.specs.swreq_lex.declared.refusal.LexErr.{LexErr}
+use Rattle.swreq_print.specs.swreq_lex.declared.token.Token as lexed
+use Rattle.swreq_print.specs.swreq_lex.Refusals.{HasRefusalFrom}
+use Rattle.swreq_print.specs.swreq_lex.Tokens.{HasTokensFrom}
+use Rattle.swreq_print.specs.swreq_decl.declared.refusal.ParseErr.{ParseErr}
+use Rattle.swreq_print.specs.swreq_decl.declared.refusal.ParseErr.TheVariants as grammar
+use Rattle.swreq_print.specs.swreq_decl.declared.skeleton.CallDecl.{CallDecl}
+use Rattle.swreq_print.specs.swreq_decl.Calls.{IsReason, RefusedAt, StandsFor}
+use Rattle.swreq_print.proofs.swreq_lemmas.Members.{no_member}
+use Rattle.swreq_valid.specs.swreq_resolve.declared.refusal.NameErr.{NameErr}
+use Rattle.swreq_valid.specs.swreq_resolve.declared.refusal.Refusal.{Refusal}
+use Rattle.swreq_valid.specs.swreq_resolve.Errors.{error_of}
+use Rattle.swreq_valid.proofs.swreq_resolve.Order.{one_first}
 use Rattle.swreq_print.specs.declared.refusal.RefusalKind.{RefusalKind}
-use Rattle.swreq_world.specs.Worlds.{TextWorld}
+use Rattle.swreq_valid.specs.swreq_world.Worlds.{TextWorld}
 use Rattle.swreq_subst.specs.Refusals.{RefusesCalls, refusals}
 use Rattle.swreq_reply.specs.Outputs.{HasCalls}
 use Rattle.swreq_reply.specs.Inputs.{Parts, second_at}

@@ -1,33 +1,34 @@
 -- What a command prints of a world is one, but for the derivations after its answers.
 use Rattle.std.proofs.Common.{◌≡◌, ◌≢◌, ◌⊎◌, ◌∙◌, arith, false, inl, inr, refl, sym, ap, ap₂, subst, ℕ, suc, List, [], ◌∷◌, ◌++◌, codes}
 use Rattle.std.specs.List.{concat}
-use Rattle.swreq_decl.specs.declared.skeleton.Skeleton.{Skeleton}
-use Rattle.swreq_decl.specs.Skeletons as decl
-use Rattle.swreq_decl.specs.declared.skeleton.CallDecl.{CallDecl}
-use Rattle.swreq_decl.specs.Calls.{StandsFor}
-use Rattle.swreq_param.specs.declared.ids.ProtoId.{ProtoId}
-use Rattle.swreq_param.specs.Terms.{Term}
-use Rattle.swreq_derive.specs.Derivation.{Derives}
-use Rattle.swreq_derive.specs.Facts.{generic_params}
-use Rattle.swreq_derive.proofs.PathLemmas.{given_once}
+use Rattle.swreq_print.specs.swreq_decl.declared.skeleton.Skeleton.{Skeleton}
+use Rattle.swreq_print.specs.swreq_decl.Skeletons as decl
+use Rattle.swreq_print.specs.swreq_decl.declared.skeleton.CallDecl.{CallDecl}
+use Rattle.swreq_print.specs.swreq_decl.Calls.{StandsFor}
+use Rattle.swreq_print.specs.swreq_param.declared.ids.ProtoId.{ProtoId}
+use Rattle.swreq_print.specs.swreq_param.Terms.{Term}
+use Rattle.swreq_print.specs.swreq_derive.Derivation.{Derives, TermRequirement}
+use Rattle.swreq_print.specs.swreq_derive.Derivation.TermRequirement.{Conforms}
+use Rattle.swreq_print.specs.swreq_derive.Facts.{generic_params}
+use Rattle.swreq_valid.proofs.swreq_derive.PathLemmas.{given_once}
 use Rattle.swreq_print.specs.Names.{Text}
 use Rattle.swreq_print.specs.Reading.{TellsApart}
-use Rattle.swreq_watch.specs.declared.events.Event.{Event}
+use Rattle.swreq_valid.specs.swreq_watch.declared.events.Event.{Event}
 use Rattle.swreq_words.specs.declared.command.CommandLine.{CommandLine}
-use Rattle.swreq_resolve.specs.Resolving.{Resolve}
-use Rattle.swreq_lexicon.specs.Texts.{IsLexiconOf}
-use Rattle.swreq_lexicon.specs.Views.{LexiconView}
-use Rattle.swreq_lowering.specs.declared.ids.FuncId.{FuncId}
-use Rattle.swreq_lowering.specs.Queries.{TermQuery}
-use Rattle.swreq_lowering.specs.Queries.TermQuery.{AsksSignature, AsksConforms}
-use Rattle.swreq_world.specs.FactsAt.{source_of, written_list}
-use Rattle.swreq_world.specs.WorldOf.{IsWorldOf}
-use Rattle.swreq_world.specs.Worlds.{TextWorld, signature_at}
-use Rattle.swreq_symbols.specs.Meaning.{facts_of}
+use Rattle.swreq_valid.specs.swreq_resolve.Resolving.{Resolve}
+use Rattle.swreq_print.specs.swreq_lexicon.Texts.{IsLexiconOf}
+use Rattle.swreq_print.specs.swreq_lexicon.Views.{LexiconView}
+use Rattle.swreq_print.specs.swreq_lowering.declared.ids.FuncId.{FuncId}
+use Rattle.swreq_print.specs.swreq_lowering.Queries.{TermAsks, TermQuery}
+use Rattle.swreq_print.specs.swreq_lowering.Queries.TermAsks.{AsksRequirement, AsksSignature}
+use Rattle.swreq_valid.specs.swreq_world.FactsAt.{source_of, written_list}
+use Rattle.swreq_valid.specs.swreq_world.WorldOf.{IsWorldOf}
+use Rattle.swreq_valid.specs.swreq_world.Worlds.{TextWorld, signature_at}
+use Rattle.swreq_valid.specs.swreq_symbols.Meaning.{facts_of}
 use Rattle.swreq_query.specs.Answers.{Answer, answer_line}
 use Rattle.swreq_query.specs.Answers.Answer.{Invalid, Yes, No}
 use Rattle.swreq_query.proofs.OneAnswer.{one_answer}
-use Rattle.swreq_confpath.specs.Numbers.{path_text}
+use Rattle.swreq_check.specs.swreq_confpath.Numbers.{path_text}
 use Rattle.swreq_reqsig.specs.Texts.{family_text}
 use Rattle.swreq_reqsig.proofs.Signatures.{given_one}
 use Rattle.swreq_subst.specs.Calls.{TermCall}
@@ -50,7 +51,7 @@ use Rattle.swreq_reply.specs.Inputs.{AreParts, Parts, second_at}
 use Rattle.swreq_check.specs.Lines.{AreLines, Counted}
 use Rattle.swreq_check.specs.Lines.AreLines.{none as no_line, more}
 use Rattle.swreq_check.specs.Lines.Counted.{nothing, one as one_more, other as no_more}
-use Rattle.swreq_check.specs.QueryLines.{AnswersByTypes, Backs, BacksYes, HasAnswer, IsLineOf, IsPathLine, signature_of}
+use Rattle.swreq_check.specs.QueryLines.{AnswersByTypes, Backs, BacksYes, HasAnswer, IsLineOf, IsLineWhere, IsPathLine}
 use Rattle.swreq_reply.specs.Outputs.{AnswersLast, AreCounts, ArePrinted, IsOutput, counts_text}
 use Rattle.swreq_valid.specs.declared.refused.Refused.TheVariants.{Limit}
 use Rattle.swreq_reply.specs.Verdict.{HasWorld, IsRefused, IsVerdict}
@@ -82,25 +83,31 @@ module _ (w : TextWorld) where
       let one = given_once (facts_of w) (generic_params (signature_at w f).params) list t p first other steps others given too in
       is ∙ ap₂ (λ (n : ℕ) (ns : List ℕ). codes "  " ++ (path_text w.lexicon (facts_of w) list n ns ++ codes "\n")) one.0 one.1 ∙ sym same
 
-  yes_once : (b : Backing) → b ≢ Derivation → (q : TermQuery) (l m : Text) → BacksYes w b q l → BacksYes w b q m → l ≡ m
-  yes_once Derivation real q l m h k = absurd (real refl)
-  yes_once Path real (AsksConforms f t p) l m h k = path_once f t p l m h k
-  yes_once _ real _ l m h k = h ∙ sym k
+  yes_once : (b : Backing) → b ≢ Derivation → (f : FuncId) (r : TermRequirement) (l m : Text) → BacksYes w b f r l → BacksYes w b f r m
+      → l ≡ m
+  yes_once Derivation real f r l m h k = absurd (real refl)
+  yes_once Path real f (Conforms t p) l m h k = path_once f t p l m h k
+  yes_once _ real f _ l m h k = h ∙ sym k
 
   module _ (b : Backing) (real : b ≢ Derivation) where
     behind_once : (q : TermQuery) (a : Answer) (l m : Text) → Backs w b q a l → Backs w b q a m → l ≡ m
-    behind_once q Yes l m h k = yes_once b real q l m h k
+    behind_once q Yes l m (r, asks, h) (p, also, k) =
+        let e : AsksRequirement p ≡ AsksRequirement r = sym also ∙ asks in
+        let same : p ≡ r = cc in yes_once b real q.f r l m h (subst (λ (z : TermRequirement). BacksYes w b q.f z m) same k)
     behind_once q _ l m h k = h ∙ sym k
 
     by_types_once : (q : TermQuery) (l m : Text) → AnswersByTypes w false b q l → AnswersByTypes w false b q m → l ≡ m
     by_types_once q l m (a, behind, answers, backs, is) (c, other, too, also, same) =
-        let one : a ≡ c = one_answer (Derives (facts_of w) false (source_of (signature_at w (signature_of q)))) q a c answers too in
+        let one : a ≡ c = one_answer (Derives (facts_of w) false (source_of (signature_at w q.f))) q.asks a c answers too in
         is ∙ ap₂ (λ (z : Answer) (t : Text). answer_line w.lexicon z ++ t) one
         (behind_once q c behind other (subst (λ (z : Answer). Backs w b q z behind) one backs) also) ∙ sym same
 
     query_once : (q : TermQuery) (l m : Text) → IsLineOf w false b q l → IsLineOf w false b q m → l ≡ m
-    query_once (AsksSignature f) l m h k = line_once w (signature_at w f) l m h k
-    query_once q l m h k = by_types_once q l m h k
+    query_once q l m = by q.asks
+      where
+        by : (a : TermAsks) → IsLineWhere w false a b q l → IsLineWhere w false a b q m → l ≡ m
+        by AsksSignature h k = line_once w (signature_at w q.f) l m h k
+        by _ h k = by_types_once q l m h k
 
   last_once : (qs : List TermQuery) (l m : Text) → AnswersLast w false qs l → AnswersLast w false qs m → l ≡ m
   last_once [] l m h k = h ∙ sym k

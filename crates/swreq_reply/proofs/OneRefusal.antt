@@ -1,32 +1,32 @@
 -- Each text is read in one way and has one world, and so an input has one verdict where it is refused.
 use Rattle.std.proofs.Common.{false, ◌≡◌, ◌≢◌, ◌⊎◌, ℕ, ◌<◌, ◌≤◌, List, ◌∷◌, length, Option, Some, None, Result, Ok, Err, Contains, refl, sym, ◌∙◌, ap, ap₂, inl, inr, subst, arith, length-append}
-use Rattle.swreq_lex.specs.declared.refusal.LexErr.{LexErr}
-use Rattle.swreq_lex.specs.declared.refusal.LexErr.TheVariants as lexical
-use Rattle.swreq_lex.specs.declared.token.Token as lexed
-use Rattle.swreq_lex.specs.Refusals.{HasRefusal}
-use Rattle.swreq_lex.specs.Tokens.{HasTokens}
-use Rattle.swreq_decl.specs.declared.kind.Kind.{Kind}
-use Rattle.swreq_decl.specs.declared.skeleton.Skeleton.{Skeleton}
-use Rattle.swreq_decl.specs.declared.refusal.ParseErr.{ParseErr}
-use Rattle.swreq_decl.specs.declared.refusal.ParseErr.TheVariants as grammar
-use Rattle.swreq_decl.specs.Skeletons.{StandsFor, RefusedFor, refused}
-use Rattle.swreq_resolve.specs.declared.refusal.NameErr.{NameErr}
-use Rattle.swreq_resolve.specs.declared.refusal.NameErr.TheVariants as names
-use Rattle.swreq_resolve.specs.Resolving.{RefusesSkeleton, Resolve}
-use Rattle.swreq_resolve.proofs.Answers.{not_refused, one_refusal as one_name}
+use Rattle.swreq_print.specs.swreq_lex.declared.refusal.LexErr.{LexErr}
+use Rattle.swreq_print.specs.swreq_lex.declared.refusal.LexErr.TheVariants as lexical
+use Rattle.swreq_print.specs.swreq_lex.declared.token.Token as lexed
+use Rattle.swreq_print.specs.swreq_lex.Refusals.{HasRefusal}
+use Rattle.swreq_print.specs.swreq_lex.Tokens.{HasTokens}
+use Rattle.swreq_print.specs.swreq_decl.declared.kind.Kind.{Kind}
+use Rattle.swreq_print.specs.swreq_decl.declared.skeleton.Skeleton.{Skeleton}
+use Rattle.swreq_print.specs.swreq_decl.declared.refusal.ParseErr.{ParseErr}
+use Rattle.swreq_print.specs.swreq_decl.declared.refusal.ParseErr.TheVariants as grammar
+use Rattle.swreq_print.specs.swreq_decl.Skeletons.{StandsFor, RefusedFor, refused}
+use Rattle.swreq_valid.specs.swreq_resolve.declared.refusal.NameErr.{NameErr}
+use Rattle.swreq_valid.specs.swreq_resolve.declared.refusal.NameErr.TheVariants as names
+use Rattle.swreq_valid.specs.swreq_resolve.Resolving.{RefusesSkeleton, Resolve}
+use Rattle.swreq_valid.proofs.swreq_resolve.Answers.{not_refused, one_refusal as one_name}
 use Rattle.swreq_print.specs.declared.refusal.RefusalKind.{RefusalKind}
 use Rattle.swreq_print.specs.declared.refusal.RefusalKind.TheVariants as refusals
-use Rattle.swreq_watch.specs.declared.events.Event.{Event}
-use Rattle.swreq_world.specs.WorldOf.{IsWorldOf}
-use Rattle.swreq_world.specs.Worlds.{TextWorld}
+use Rattle.swreq_valid.specs.swreq_watch.declared.events.Event.{Event}
+use Rattle.swreq_valid.specs.swreq_world.WorldOf.{IsWorldOf}
+use Rattle.swreq_valid.specs.swreq_world.Worlds.{TextWorld}
 use Rattle.swreq_valid.specs.declared.refused.Refused.{Refused}
 use Rattle.swreq_words.specs.declared.command.Command.{Command}
 use Rattle.swreq_words.specs.declared.command.CommandLine.{CommandLine}
 use Rattle.swreq_words.specs.declared.command.Input.{Input}
 use Rattle.swreq_words.specs.declared.command.Input.TheVariants as inputs
 use Rattle.swreq_words.specs.Commands.{input as reads}
-use Rattle.swreq_complete.specs.declared.limit.Failed.{Failed}
-use Rattle.swreq_complete.specs.declared.limit.Failed.TheVariants as failed
+use Rattle.swreq_valid.specs.swreq_complete.declared.limit.Failed.{Failed}
+use Rattle.swreq_valid.specs.swreq_complete.declared.limit.Failed.TheVariants as failed
 use Rattle.swreq_text.specs.Lines.{line_feed, lines}
 use Rattle.swreq_text.specs.Divided.{Divides, divider}
 use Rattle.swreq_text.proofs.Divided.{has_divider as divided_line, same_parts as one_division}

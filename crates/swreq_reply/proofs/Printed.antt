@@ -1,31 +1,33 @@
 -- What stands at the place of a query or of a signature is what is printed there.
 use Rattle.std.proofs.Common.{◌≡◌, ◌∙◌, refl, sym, ap, subst, ℕ, ◌<◌, arith, Bool, true, true≢false, List, get_or, length, Option, Some, None}
-use Rattle.std.proofs.lemmas.List.{get_or-map, get_or_default, length-map}
+use Rattle.std.proofs.lemmas.List.{get_or-map, length-map}
 use Rattle.std.proofs.lemmas.List.Elements.{Contains-get_or}
-use Rattle.std.proofs.lemmas.Option.{none-some, same_Some, slice_get-get_or}
+use Rattle.std.proofs.lemmas.Option.{none-some, slice_get-get_or}
 use Rattle.swreq_print.specs.Names.{Text}
-use Rattle.swreq_lowering.specs.declared.ids.FuncId.{FuncId}
-use Rattle.swreq_lowering.specs.declared.ids.Query.{Query}
-use Rattle.swreq_lowering.specs.declared.ids.Query.TheVariants as queries
-use Rattle.swreq_lowering.specs.ByTable.{query_by}
-use Rattle.swreq_lowering.specs.Queries.{TermQuery}
-use Rattle.swreq_lowering.specs.Queries.TermQuery.{AsksSignature}
+use Rattle.swreq_print.specs.swreq_lowering.declared.ids.FuncId.{FuncId}
+use Rattle.swreq_print.specs.swreq_lowering.declared.ids.Asks.{Asks}
+use Rattle.swreq_print.specs.swreq_lowering.declared.ids.Asks.TheVariants as ids
+use Rattle.swreq_print.specs.swreq_lowering.declared.ids.Query.{Query}
+use Rattle.swreq_print.specs.swreq_lowering.ByTable.{asks_by, query_by, no_query}
+use Rattle.swreq_print.specs.swreq_lowering.Queries.{TermAsks, TermQuery}
+use Rattle.swreq_print.specs.swreq_lowering.Queries.TermAsks.{AsksSignature}
 use Rattle.swreq_query.specs.Signatures.{IsMinimisedLine}
 use Rattle.swreq_query.specs.Systems.{IsSystemText}
 use Rattle.swreq_query.specs.Answers.{Answer}
 use Rattle.swreq_query.specs.Answers.Answer.{Invalid, Reduced}
 use Rattle.swreq_query.specs.Asked.{answer_of}
-use Rattle.swreq_world.specs.Worlds.{TextWorld, signature_at}
+use Rattle.swreq_valid.specs.swreq_world.Worlds.{TextWorld, signature_at}
 use Rattle.swreq_check.specs.declared.content.Made.{Made}
 use Rattle.swreq_check.specs.declared.content.Made.TheVariants.{Lines, Lists, Systems}
 use Rattle.swreq_check.specs.declared.piece.Piece.{Piece}
 use Rattle.swreq_reply.specs.declared.printing.MadePieces.{MadePieces}
 use Rattle.swreq_check.specs.Contents.{AreAnswers, AreSignatures, AreSystems, backing_of, makes}
 use Rattle.swreq_check.specs.Made.{AreLinesKept, AreMade, IsLineKept, IsMadeAt, line_at, line_or_none, text_at, text_or_none, verdict_at, verdict_or_none}
-use Rattle.swreq_check.specs.QueryLines.{HasAnswer, HasVerdict, IsLineOf, IsPieceOf}
+use Rattle.swreq_check.specs.QueryLines.{HasAnswer, HasVerdict, IsLineOf, IsLineWhere, IsPieceOf}
 use Rattle.swreq_reply.specs.Pieces.{IsWhole, query_at, world_of}
-use Rattle.swreq_check.specs.Wanted.{function_of, is_list_made, list_asked, machine_asked, machine_asked_at, made_by, places_of}
-use Rattle.swreq_check.proofs.Flags.{asked_within, is_listed}
+use Rattle.swreq_check.specs.Wanted.{is_list_made, list_asked, list_where, machine_asked, machine_asked_at, machine_where, made_by, places_of}
+use Rattle.swreq_check.proofs.Asking.{is_listed, listed_function}
+use Rattle.swreq_check.proofs.Flags.{query_in}
 
 -- ---- one piece
 
@@ -41,15 +43,20 @@ kept_line w wants lists f kept l wanted =
     by None h = absurd (true≢false (sym wanted ∙ h))
 
 -- a query that asks for no minimised list is answered by the machine of its signature
-asks_machine : (q : Query) → list_asked q ≡ None → machine_asked q ≡ Some (function_of q)
-asks_machine (queries.Signature f) e = absurd (none-some f (sym e))
-asks_machine _ e = refl
+asks_machine : (a : Asks) (f : FuncId) → list_where a f ≡ None → machine_where a f ≡ Some f
+asks_machine ids.Signature f e = absurd (none-some f (sym e))
+asks_machine _ f e = refl
+
+-- and one that asks for a minimised list asks for that of its signature
+asks_list : (a : Asks) (f g : FuncId) → list_where a f ≡ Some g → a ≡ ids.Signature
+asks_list ids.Signature f g e = refl
+asks_list _ f g e = absurd (none-some g e)
 
 -- a query for a minimised list has no answer
-no_answer : (w : TextWorld) (f : FuncId) (a : Answer) → HasAnswer w true a (AsksSignature f) → ⊥
+no_answer : (w : TextWorld) (f : FuncId) (a : Answer) → HasAnswer w true a (record { f = f; asks = AsksSignature }) → ⊥
 no_answer w f Invalid h = h.1
-no_answer w f (Reduced u) h = let clash = h.1.2 in cc
-no_answer w f _ h = none-some h.1.0 h.1.1
+no_answer w f (Reduced u) h = let clash = h.1.1 in cc
+no_answer w f _ h = let clash = h.1.1 in cc
 
 module _ (m : MadePieces) (whole : IsWhole m) where
   -- what is made, where it is this
@@ -79,38 +86,32 @@ module _ (m : MadePieces) (whole : IsWhole m) where
 
   module _ (e : AreAnswers m.content) (k : ℕ) (below : k < length m.world.now.queries) where
     abbrev pub asked : Query
-    asked = get_or m.world.now.queries k (queries.Signature (record { place = 0 }))
+    asked = get_or m.world.now.queries k no_query
 
-    in_world : (function_of asked).place < length m.world.now.signatures
-    in_world = asked_within m.world.now m.table.now whole.text.closed asked (Contains-get_or m.world.now.queries k _ below)
+    in_world : asked.f.place < length m.world.now.signatures
+    in_world = (query_in m.world.now m.table.now whole.text asked (Contains-get_or m.world.now.queries k _ below)).0
+
+    -- over type parameters
+    over_types : query_at m k ≡ query_by m.table.now asked
+    over_types = get_or-map (query_by m.table.now) m.world.now.queries k _ _ below
 
     -- by the minimised list for which it asks
     pub by_list : (f : FuncId) → list_asked asked ≡ Some f
         → (f.place < length m.lists.now) × IsLineOf (world_of m) true (backing_of m.content) (query_at m k) (line_at m.lists.now f.place)
-    by_list f asks = by asked refl asks
-      where
-        by : (q : Query) → asked ≡ q → list_asked q ≡ Some f
-            → (f.place < length m.lists.now)
-            × IsLineOf (world_of m) true (backing_of m.content) (query_at m k) (line_at m.lists.now f.place)
-        by (queries.Signature g) is here =
-            let same : query_at m k ≡ AsksSignature f =
-            get_or-map (query_by m.table.now) m.world.now.queries k _ _ below ∙ ap (query_by m.table.now) is
-            ∙ ap AsksSignature (same_Some g f here) in
-            let within : f.place < length m.lists.now =
-            omega (
-              arith,
-              in_world,
-              whole.counted,
-              ap (λ (q : Query). (function_of q).place) is,
-              ap (λ (h : FuncId). h.place) (same_Some g f here),
-            ) in (
-              within,
-              subst (λ (q : TermQuery). IsLineOf (world_of m) true (backing_of m.content) q (line_at m.lists.now f.place)) (sym same)
-                  (kept_line (world_of m) (is_list_made Lines m.world.now.queries) m.lists.now f (lists_of Lines e) within
-                  (is_listed m.world.now.queries f
-                  (k, below, get_or_default m.world.now.queries k _ _ below ∙ is ∙ ap queries.Signature (same_Some g f here)))),
-            )
-        by _ is here = absurd (none-some f here)
+    by_list f asks =
+        let same : asked.f ≡ f = listed_function asked f asks in
+        let is : asked.asks ≡ ids.Signature = asks_list asked.asks asked.f f asks in
+        let within : f.place < length m.lists.now = omega (arith, in_world, whole.counted, ap (λ (h : FuncId). h.place) same) in
+        let line = kept_line (world_of m) (is_list_made Lines m.world.now.queries) m.lists.now f (lists_of Lines e) within
+        (ap (λ (h : FuncId). is_list_made Lines m.world.now.queries h.place) (sym same)
+        ∙ is_listed m.world.now.queries asked (Contains-get_or m.world.now.queries k _ below) is) in (
+          within,
+          subst (λ (q : TermQuery). IsLineOf (world_of m) true (backing_of m.content) q (line_at m.lists.now f.place)) (sym over_types)
+              (subst (λ (a : Asks). IsLineWhere (world_of m) true (asks_by m.table.now a) (backing_of m.content)
+              (query_by m.table.now asked) (line_at m.lists.now f.place)) (sym is)
+              (subst (λ (h : FuncId). IsMinimisedLine (world_of m) (signature_at (world_of m) h) (line_at m.lists.now f.place))
+              (sym same) line)),
+        )
 
     -- there is a place for a piece
     pub has_place : k < length m.pieces.now
@@ -126,8 +127,8 @@ module _ (m : MadePieces) (whole : IsWhole m) where
     -- and there is one where no minimised list is asked for
     filled : list_asked asked ≡ None → (piece : Piece) × (get_or m.pieces.now k None ≡ Some piece)
     filled no_list =
-        (pieces_of Lines e).filled k (function_of asked) below
-        (ap machine_asked_at (slice_get-get_or m.world.now.queries k _ below) ∙ asks_machine asked no_list) in_world
+        (pieces_of Lines e).filled k asked.f below
+        (ap machine_asked_at (slice_get-get_or m.world.now.queries k _ below) ∙ asks_machine asked.asks asked.f no_list) in_world
 
     -- by the piece of a machine
     pub by_piece : list_asked asked ≡ None
@@ -138,13 +139,13 @@ module _ (m : MadePieces) (whole : IsWhole m) where
 
     -- the query that has an answer is answered by a machine
     by_machine : (a : Answer) → HasAnswer (world_of m) true a (query_at m k) → list_asked asked ≡ None
-    by_machine a has = of asked refl
+    by_machine a has = of asked.asks refl
       where
-        of : (q : Query) → asked ≡ q → list_asked q ≡ None
-        of (queries.Signature f) is =
-            let same : query_at m k ≡ AsksSignature f =
-            get_or-map (query_by m.table.now) m.world.now.queries k _ _ below ∙ ap (query_by m.table.now) is in
-            absurd (no_answer (world_of m) f a (subst (HasAnswer (world_of m) true a) same has))
+        of : (b : Asks) → asked.asks ≡ b → list_where b asked.f ≡ None
+        of ids.Signature is =
+            let same : query_at m k ≡ record { f = asked.f; asks = AsksSignature } =
+            over_types ∙ ap (λ (b : Asks). let q : TermQuery = record { f = asked.f; asks = asks_by m.table.now b } in q) is in
+            absurd (no_answer (world_of m) asked.f a (subst (HasAnswer (world_of m) true a) same has))
         of _ is = refl
 
     -- the verdict of the piece is that of the query

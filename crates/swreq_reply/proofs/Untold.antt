@@ -1,6 +1,6 @@
 -- Of a command that judges derivations nothing is told.
 use Rattle.std.proofs.Common.{◌≡◌, inl, inr, ℕ, List, []}
-use Rattle.swreq_watch.specs.declared.events.Event.{Event}
+use Rattle.swreq_valid.specs.swreq_watch.declared.events.Event.{Event}
 use Rattle.swreq_words.specs.declared.command.CommandLine.{CommandLine}
 use Rattle.swreq_reply.specs.declared.outcome.Outcome.{Outcome}
 use Rattle.swreq_check.specs.Contents.{AreJudgements}

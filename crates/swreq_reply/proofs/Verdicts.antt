@@ -2,36 +2,36 @@
 use Rattle.std.proofs.Common.{false, ◌≡◌, ◌≢◌, ◌⊎◌, ℕ, suc, ◌≤◌, List, [], ◌∷◌, ◌++◌, append-nil, ap, length, Option, Some, None, IfOk, OnErr, Result, Ok, Err, refl, true, sym, ◌∙◌, inl, inr, subst}
 use Rattle.std.specs.declared.alloc.AllocError.{AllocError}
 use Rattle.std.proofs.lemmas.Result.{IfOk-weaker}
-use Rattle.swreq_lex.specs.declared.refusal.LexErr.{LexErr}
-use Rattle.swreq_lex.specs.declared.refusal.LexErr.TheVariants as lexical
-use Rattle.swreq_lex.specs.Refusals.{HasRefusal}
-use Rattle.swreq_decl.specs.declared.kind.Kind.{Kind}
-use Rattle.swreq_decl.specs.declared.skeleton.Skeleton.{Skeleton}
-use Rattle.swreq_decl.specs.declared.refusal.ParseErr.{ParseErr}
-use Rattle.swreq_decl.specs.declared.refusal.ParseErr.TheVariants as grammar
-use Rattle.swreq_decl.specs.Skeletons.{StandsFor, RefusedFor, Exactly}
-use Rattle.swreq_decl.specs.declared.skeleton.CallDecl.{CallDecl}
-use Rattle.swreq_decl.specs.Calls as calls
-use Rattle.swreq_resolve.specs.declared.refusal.NameErr.{NameErr}
-use Rattle.swreq_resolve.specs.declared.refusal.NameErr.TheVariants as names
-use Rattle.swreq_resolve.specs.Resolving.{RefusesSkeleton}
+use Rattle.swreq_print.specs.swreq_lex.declared.refusal.LexErr.{LexErr}
+use Rattle.swreq_print.specs.swreq_lex.declared.refusal.LexErr.TheVariants as lexical
+use Rattle.swreq_print.specs.swreq_lex.Refusals.{HasRefusal}
+use Rattle.swreq_print.specs.swreq_decl.declared.kind.Kind.{Kind}
+use Rattle.swreq_print.specs.swreq_decl.declared.skeleton.Skeleton.{Skeleton}
+use Rattle.swreq_print.specs.swreq_decl.declared.refusal.ParseErr.{ParseErr}
+use Rattle.swreq_print.specs.swreq_decl.declared.refusal.ParseErr.TheVariants as grammar
+use Rattle.swreq_print.specs.swreq_decl.Skeletons.{StandsFor, RefusedFor, Exactly}
+use Rattle.swreq_print.specs.swreq_decl.declared.skeleton.CallDecl.{CallDecl}
+use Rattle.swreq_print.specs.swreq_decl.Calls as calls
+use Rattle.swreq_valid.specs.swreq_resolve.declared.refusal.NameErr.{NameErr}
+use Rattle.swreq_valid.specs.swreq_resolve.declared.refusal.NameErr.TheVariants as names
+use Rattle.swreq_valid.specs.swreq_resolve.Resolving.{RefusesSkeleton}
 use Rattle.swreq_print.specs.declared.refusal.RefusalKind.{RefusalKind}
 use Rattle.swreq_print.specs.declared.refusal.RefusalKind.TheVariants as refusals
-use Rattle.swreq_complete.specs.declared.limit.Failed.{Failed}
-use Rattle.swreq_complete.specs.declared.limit.Failed.TheVariants as failed
-use Rattle.swreq_complete.specs.declared.limit.Limits.{Limits}
-use Rattle.swreq_rule.specs.declared.rules.Rule.{Rule}
-use Rattle.swreq_watch.specs.declared.events.Event.{Event}
-use Rattle.swreq_watch.specs.Told.{GrewBy}
-use Rattle.swreq_watch.proofs.Told.{grew_none, grew_on}
+use Rattle.swreq_valid.specs.swreq_complete.declared.limit.Failed.{Failed}
+use Rattle.swreq_valid.specs.swreq_complete.declared.limit.Failed.TheVariants as failed
+use Rattle.swreq_valid.specs.swreq_complete.declared.limit.Limits.{Limits}
+use Rattle.swreq_print.specs.swreq_rule.declared.rules.Rule.{Rule}
+use Rattle.swreq_valid.specs.swreq_watch.declared.events.Event.{Event}
+use Rattle.swreq_valid.specs.swreq_watch.Told.{GrewBy}
+use Rattle.swreq_valid.proofs.swreq_watch.Told.{grew_none, grew_on}
 use Rattle.swreq_words.specs.declared.command.Command.{Command}
 use Rattle.swreq_words.specs.declared.command.Command.TheVariants as command
 use Rattle.swreq_words.specs.declared.command.CommandLine.{CommandLine}
 use Rattle.swreq_words.specs.declared.command.Input.{Input}
 use Rattle.swreq_words.specs.declared.command.Input.TheVariants as inputs
 use Rattle.swreq_words.specs.Commands.{input as reads}
-use Rattle.swreq_world.specs.Closed.{IsClosed}
-use Rattle.swreq_world.specs.Worlds.{TextWorld}
+use Rattle.swreq_valid.specs.swreq_world.Closed.{IsClosed}
+use Rattle.swreq_valid.specs.swreq_world.Worlds.{TextWorld}
 use Rattle.swreq_valid.specs.Rounds.{last_rules}
 use Rattle.swreq_valid.specs.declared.refused.Refused.{Refused}
 use Rattle.swreq_valid.specs.declared.refused.Refused.TheVariants.{Memory}
@@ -67,7 +67,7 @@ use Rattle.swreq_check.specs.Told.MinimisingAllTells.{nothing}
 use Rattle.swreq_reply.specs.Verdict.{ChecksMachines, HasNoWorld, HasWorld, IsStopOf, IsVerdict, PassesCheck, RefusesSecond, limits_of, machine_outcome, refused_with, text_for}
 use Rattle.swreq_reply.specs.Verdict.IsRefused.{bad_calls, misfit, past_a_limit_of_families, unchecked, without_world}
 use Rattle.swreq_reply.specs.Verdict.IsVerdict.{answered as is_answered, cut_short as is_cut_short, judged as is_judged, refused as is_refused}
-use Rattle.swreq_rounds.proofs.Turning.{stopped_comes}
+use Rattle.swreq_valid.proofs.swreq_rounds.Turning.{stopped_comes}
 use Rattle.swreq_check.proofs.OfChecks.{check_tells, is_formed}
 use Rattle.swreq_reply.proofs.ByBook.{by_book}
 

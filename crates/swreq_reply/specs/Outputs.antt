@@ -2,10 +2,10 @@
 use Rattle.std.specs.Prelude.{◌≡◌, ℕ, ◌+◌, ◌*◌, Bool, List, [], ◌∷◌, ◌++◌, codes, decimal}
 use Rattle.std.specs.List.{concat}
 use Rattle.swreq_print.specs.Names.{Text}
-use Rattle.swreq_decl.specs.declared.skeleton.CallDecl.{CallDecl}
-use Rattle.swreq_decl.specs.Calls.{StandsFor}
-use Rattle.swreq_lowering.specs.Queries.{TermQuery}
-use Rattle.swreq_world.specs.Worlds.{TextWorld}
+use Rattle.swreq_print.specs.swreq_decl.declared.skeleton.CallDecl.{CallDecl}
+use Rattle.swreq_print.specs.swreq_decl.Calls.{StandsFor}
+use Rattle.swreq_print.specs.swreq_lowering.Queries.{TermQuery}
+use Rattle.swreq_valid.specs.swreq_world.Worlds.{TextWorld}
 use Rattle.swreq_query.specs.Answers.Answer.{Invalid, Yes, No}
 use Rattle.swreq_verify.specs.Outputs as verified
 use Rattle.swreq_reqsig.specs.Families.{IsGivenFamily}

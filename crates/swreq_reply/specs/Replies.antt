@@ -1,12 +1,12 @@
 -- What a reply is.
 use Rattle.std.specs.Prelude.{◌≡◌, ◌⊎◌, List, [], ◌++◌, Option, Result, Ok, Err}
 use Rattle.std.specs.declared.alloc.AllocError.{AllocError}
-use Rattle.swreq_watch.specs.declared.events.Event.{Event}
-use Rattle.swreq_watch.specs.Told.{GrewBy}
+use Rattle.swreq_valid.specs.swreq_watch.declared.events.Event.{Event}
+use Rattle.swreq_valid.specs.swreq_watch.Told.{GrewBy}
 use Rattle.swreq_print.specs.Names.{Text}
-use Rattle.swreq_rule.specs.declared.rules.Rule.{Rule}
+use Rattle.swreq_print.specs.swreq_rule.declared.rules.Rule.{Rule}
 use Rattle.swreq_words.specs.declared.command.CommandLine.{CommandLine}
-use Rattle.swreq_world.specs.Worlds.{TextWorld}
+use Rattle.swreq_valid.specs.swreq_world.Worlds.{TextWorld}
 use Rattle.swreq_reply.specs.declared.outcome.Outcome.{Outcome}
 use Rattle.swreq_check.specs.Contents.{AreFamilies}
 use Rattle.swreq_reply.specs.Commands.{content_of}

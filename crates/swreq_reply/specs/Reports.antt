@@ -1,13 +1,13 @@
 -- The refusals of the crates below, as refusals of a text.
-use Rattle.swreq_lex.specs.declared.refusal.LexErr.{LexErr}
-use Rattle.swreq_lex.specs.declared.refusal.LexErr.TheVariants as lexical
-use Rattle.swreq_decl.specs.declared.refusal.ParseErr.{ParseErr}
-use Rattle.swreq_decl.specs.declared.refusal.ParseErr.TheVariants as grammar
-use Rattle.swreq_resolve.specs.declared.refusal.NameErr.{NameErr}
-use Rattle.swreq_resolve.specs.declared.refusal.NameErr.TheVariants as names
-use Rattle.swreq_complete.specs.declared.limit.Limits.{Limits}
-use Rattle.swreq_complete.specs.declared.limit.Which.{Which}
-use Rattle.swreq_complete.specs.declared.limit.Which.TheVariants.{Rules, Length}
+use Rattle.swreq_print.specs.swreq_lex.declared.refusal.LexErr.{LexErr}
+use Rattle.swreq_print.specs.swreq_lex.declared.refusal.LexErr.TheVariants as lexical
+use Rattle.swreq_print.specs.swreq_decl.declared.refusal.ParseErr.{ParseErr}
+use Rattle.swreq_print.specs.swreq_decl.declared.refusal.ParseErr.TheVariants as grammar
+use Rattle.swreq_valid.specs.swreq_resolve.declared.refusal.NameErr.{NameErr}
+use Rattle.swreq_valid.specs.swreq_resolve.declared.refusal.NameErr.TheVariants as names
+use Rattle.swreq_valid.specs.swreq_complete.declared.limit.Limits.{Limits}
+use Rattle.swreq_valid.specs.swreq_complete.declared.limit.Which.{Which}
+use Rattle.swreq_valid.specs.swreq_complete.declared.limit.Which.TheVariants.{Rules, Length}
 use Rattle.swreq_print.specs.declared.refusal.RefusalKind.{RefusalKind}
 use Rattle.swreq_print.specs.declared.refusal.RefusalKind.TheVariants as refusals
 

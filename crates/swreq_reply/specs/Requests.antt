@@ -1,6 +1,6 @@
 -- A command, and the parts of the input that it reads.
-use Rattle.swreq_complete.specs.Limits.{AreInRange}
-use Rattle.swreq_complete.specs.declared.limit.Limits.{Limits}
+use Rattle.swreq_valid.specs.swreq_complete.Limits.{AreInRange}
+use Rattle.swreq_valid.specs.swreq_complete.declared.limit.Limits.{Limits}
 use Rattle.swreq_words.specs.declared.command.CommandLine.{CommandLine}
 use Rattle.swreq_check.specs.declared.content.Content.{Content}
 use Rattle.swreq_reply.specs.declared.request.Divided.{Divided}

@@ -1,12 +1,12 @@
 -- What a watcher is told after the check of a text.
 use Rattle.std.specs.Prelude.{◌≡◌, Bool, List, [], ◌++◌}
-use Rattle.swreq_rule.specs.declared.rules.Rule.{Rule}
-use Rattle.swreq_complete.specs.declared.limit.Failed.{Failed}
-use Rattle.swreq_complete.specs.declared.limit.Limits.{Limits}
-use Rattle.swreq_watch.specs.declared.events.Event.{Event}
+use Rattle.swreq_print.specs.swreq_rule.declared.rules.Rule.{Rule}
+use Rattle.swreq_valid.specs.swreq_complete.declared.limit.Failed.{Failed}
+use Rattle.swreq_valid.specs.swreq_complete.declared.limit.Limits.{Limits}
+use Rattle.swreq_valid.specs.swreq_watch.declared.events.Event.{Event}
 use Rattle.swreq_check.specs.declared.content.Content.{Content}
 use Rattle.swreq_check.specs.declared.content.Content.TheVariants.{Calls, Families}
-use Rattle.swreq_world.specs.Worlds.{TextWorld}
+use Rattle.swreq_valid.specs.swreq_world.Worlds.{TextWorld}
 use Rattle.swreq_reqsig.specs.Told.{ComesSoFar, WasReduced}
 use Rattle.swreq_check.specs.Machines.{IsBuiltOver}
 use Rattle.swreq_check.specs.Told.{MinimisingAllTells, MinimisingEndsIn}

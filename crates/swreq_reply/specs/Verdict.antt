@@ -1,28 +1,28 @@
 -- The verdicts on a text.
 use Rattle.std.specs.Prelude.{◌≡◌, ◌≢◌, ℕ, ◌<◌, ◌≤◌, Bool, false, List, [], ◌++◌, Contains, length, Some, None, Err, if◌then◌else◌}
-use Rattle.swreq_lex.specs.declared.refusal.LexErr.TheVariants as lexical
-use Rattle.swreq_lex.specs.Refusals.{HasRefusal}
-use Rattle.swreq_decl.specs.declared.skeleton.Skeleton.{Skeleton}
-use Rattle.swreq_decl.specs.Skeletons.{StandsFor, RefusedFor}
-use Rattle.swreq_decl.specs.declared.refusal.ParseErr.{ParseErr}
-use Rattle.swreq_decl.specs.declared.refusal.ParseErr.TheVariants as grammar
-use Rattle.swreq_decl.specs.declared.skeleton.CallDecl.{CallDecl}
-use Rattle.swreq_decl.specs.Calls as calls
-use Rattle.swreq_decl.specs.Calls.{IsReason}
+use Rattle.swreq_print.specs.swreq_lex.declared.refusal.LexErr.TheVariants as lexical
+use Rattle.swreq_print.specs.swreq_lex.Refusals.{HasRefusal}
+use Rattle.swreq_print.specs.swreq_decl.declared.skeleton.Skeleton.{Skeleton}
+use Rattle.swreq_print.specs.swreq_decl.Skeletons.{StandsFor, RefusedFor}
+use Rattle.swreq_print.specs.swreq_decl.declared.refusal.ParseErr.{ParseErr}
+use Rattle.swreq_print.specs.swreq_decl.declared.refusal.ParseErr.TheVariants as grammar
+use Rattle.swreq_print.specs.swreq_decl.declared.skeleton.CallDecl.{CallDecl}
+use Rattle.swreq_print.specs.swreq_decl.Calls as calls
+use Rattle.swreq_print.specs.swreq_decl.Calls.{IsReason}
 use Rattle.swreq_subst.specs.Refusals.{RefusesCalls}
 use Rattle.swreq_gen.specs.Generated.{generated}
-use Rattle.swreq_resolve.specs.declared.refusal.NameErr.{NameErr}
-use Rattle.swreq_resolve.specs.declared.refusal.NameErr.TheVariants as names
-use Rattle.swreq_resolve.specs.Resolving.{RefusesSkeleton}
-use Rattle.swreq_lexicon.specs.Views.{LexiconView}
-use Rattle.swreq_rule.specs.declared.rules.Rule.{Rule}
-use Rattle.swreq_watch.specs.declared.events.Event.{Event}
-use Rattle.swreq_complete.specs.declared.limit.Failed.{Failed}
-use Rattle.swreq_complete.specs.declared.limit.Failed.TheVariants as failed
-use Rattle.swreq_complete.specs.declared.limit.Limits.{Limits}
-use Rattle.swreq_complete.specs.declared.limit.Which.{Which}
+use Rattle.swreq_valid.specs.swreq_resolve.declared.refusal.NameErr.{NameErr}
+use Rattle.swreq_valid.specs.swreq_resolve.declared.refusal.NameErr.TheVariants as names
+use Rattle.swreq_valid.specs.swreq_resolve.Resolving.{RefusesSkeleton}
+use Rattle.swreq_print.specs.swreq_lexicon.Views.{LexiconView}
+use Rattle.swreq_print.specs.swreq_rule.declared.rules.Rule.{Rule}
+use Rattle.swreq_valid.specs.swreq_watch.declared.events.Event.{Event}
+use Rattle.swreq_valid.specs.swreq_complete.declared.limit.Failed.{Failed}
+use Rattle.swreq_valid.specs.swreq_complete.declared.limit.Failed.TheVariants as failed
+use Rattle.swreq_valid.specs.swreq_complete.declared.limit.Limits.{Limits}
+use Rattle.swreq_valid.specs.swreq_complete.declared.limit.Which.{Which}
 use Rattle.swreq_words.specs.declared.command.CommandLine.{CommandLine}
-use Rattle.swreq_world.specs.Worlds.{TextWorld}
+use Rattle.swreq_valid.specs.swreq_world.Worlds.{TextWorld}
 use Rattle.swreq_valid.specs.declared.refused.Refused.{Refused}
 use Rattle.swreq_valid.specs.declared.refused.Refused.TheVariants.{Limit, NotATypeParameter, Memory}
 use Rattle.swreq_print.specs.declared.refusal.RefusalKind.{RefusalKind}

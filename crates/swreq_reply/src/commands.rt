@@ -1,7 +1,6 @@
 //! What each command prints.
 ghost use Rattle.std.specs.Prelude.{◌≡◌};
-ghost use Rattle.swreq_check.specs.declared.content.Content.TheVariants.{Answers};
-ghost use Rattle.swreq_check.specs.declared.content.Shown.TheVariants.{Each};
+ghost use Rattle.swreq_check.specs.{declared.content.Content.TheVariants.{Answers}, declared.content.Shown.TheVariants.{Each}};
 ghost use Rattle.swreq_reply.specs.Commands.{content_by, content_of};
 
 use swreq_check::{Backing, Content, Shown};

@@ -1,22 +1,14 @@
 //! What a command answers by the machines of a text.
 ghost use Rattle.std.specs.Prelude.{◌≡◌, All, List, Option, map, IfOk, true};
-ghost use Rattle.swreq_complete.specs.Limits.{AreInRange};
+ghost use Rattle.swreq_valid.specs.swreq_complete.Limits.{AreInRange};
 ghost use Rattle.swreq_subst.specs.Calls.{IsCallIn, call_by};
-ghost use Rattle.swreq_symbols.specs.Known.{IsTextOver};
+ghost use Rattle.swreq_valid.specs.swreq_symbols.Known.{IsTextOver};
 ghost use Rattle.swreq_valid.specs.Rounds.{last_rules};
-ghost use Rattle.swreq_watch.specs.declared.events.Event.{Event};
-ghost use Rattle.swreq_world.specs.ByTable.{world_by};
-ghost use Rattle.swreq_world.specs.Short.{IsShort};
+ghost use Rattle.swreq_valid.specs.swreq_watch.declared.events.Event.{Event};
+ghost use Rattle.swreq_valid.specs.swreq_world.{ByTable.{world_by}, Short.{IsShort}};
 ghost use Rattle.swreq_query.specs.Ended.{IsWorldOfText};
-ghost use Rattle.swreq_check.specs.Contents.{AreCalls, AreFamilies, PrintsPieces};
-ghost use Rattle.swreq_reply.specs.Commands.{content_of};
-ghost use Rattle.swreq_check.specs.CallLines.{AnswersCalls};
-ghost use Rattle.swreq_check.specs.Checks.{IsCheckedFor};
-ghost use Rattle.swreq_reply.specs.Outputs.{IsOutput};
-ghost use Rattle.swreq_reply.specs.Pieces.{IsWhole};
-ghost use Rattle.swreq_reply.specs.Replies.{Finishes, Replies};
-ghost use Rattle.swreq_reply.specs.Requests.{IsRequest, line_of, limits_in, parts_of, printed_of};
-ghost use Rattle.swreq_reply.specs.Verdict.{ChecksMachines, limits_of};
+ghost use Rattle.swreq_check.specs.{Contents.{AreCalls, AreFamilies, PrintsPieces}, CallLines.{AnswersCalls}, Checks.{IsCheckedFor}};
+ghost use Rattle.swreq_reply.specs.{Commands.{content_of}, Outputs.{IsOutput}, Pieces.{IsWhole}, Replies.{Finishes, Replies}, Requests.{IsRequest, line_of, limits_in, parts_of, printed_of}, Verdict.{ChecksMachines, limits_of}};
 
 use crate::commands::content_of;
 use crate::outcome::{Outcome, cut_short, limits_of, unchecked, unread, unresolved};
@@ -27,14 +19,14 @@ use swreq_check::{
     Asked, Checked, Content, Minimising, Passed, Piece, check, lines_of_calls, lists_wanted,
     minimised_lines, places,
 };
-use swreq_decl::parse_calls;
-use swreq_param::ParamTable;
+use swreq_print::decl::parse_calls;
+use swreq_print::param::ParamTable;
 use swreq_reqsig::{family_text, kept_family};
 use swreq_subst::laws::{calls_by_table, names_have_ids};
 use swreq_subst::{Call, resolve_calls};
 use swreq_text::Seq;
-use swreq_watch::Watch;
-use swreq_world::World;
+use swreq_valid::watch::Watch;
+use swreq_valid::world::World;
 
 /// What is answered by the machines of the text.
 pub(crate) fn checked<W: Watch>(

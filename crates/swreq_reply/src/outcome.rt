@@ -1,24 +1,22 @@
 //! A status and what is printed with it, and that of each refusal.
 ghost use Rattle.std.specs.Prelude.{◌≡◌, ◌≢◌, IfOk};
-ghost use Rattle.swreq_decl.specs.declared.refusal.ParseErr.TheVariants as grammar;
-ghost use Rattle.swreq_resolve.specs.declared.refusal.NameErr.TheVariants as names;
+ghost use Rattle.swreq_print.specs.swreq_decl.declared.refusal.ParseErr.TheVariants as grammar;
+ghost use Rattle.swreq_valid.specs.swreq_resolve.declared.refusal.NameErr.TheVariants as names;
 ghost use Rattle.swreq_valid.specs.declared.refused.Refused.TheVariants as machines;
-ghost use Rattle.swreq_reply.specs.Reports.{name_refusal, refusal_of};
-ghost use Rattle.swreq_reply.specs.Requests.{line_of};
-ghost use Rattle.swreq_reply.specs.Verdict.{IsStopOf, limits_of, machine_outcome, refused_with, stopped_with};
+ghost use Rattle.swreq_reply.specs.{Reports.{name_refusal, refusal_of}, Requests.{line_of}, Verdict.{IsStopOf, limits_of, machine_outcome, refused_with, stopped_with}};
 
 use crate::refusal::{limit_refusal, name_refusal, refusal_of};
 use crate::request::Request;
 use std::alloc::{AllocError, Global};
-use swreq_complete::{Failed, Limits, Which};
-use swreq_decl::ParseErr;
+use swreq_print::decl::ParseErr;
 use swreq_print::{RefusalKind, refusal_text, trace_text};
-use swreq_resolve::NameErr;
-use swreq_rule::Rule;
 use swreq_text::Seq;
 use swreq_valid::Refused;
+use swreq_valid::complete::{Failed, Limits, Which};
+use swreq_valid::resolve::NameErr;
+use swreq_valid::rule::Rule;
+use swreq_valid::world::World;
 use swreq_words::CommandLine;
-use swreq_world::World;
 
 /// A status and what is printed with it.
 #[derive(Debug, Drop, PartialEq, Eq)]

@@ -1,29 +1,18 @@
 //! What a command prints of a checked text, by the pieces that were made of it.
-ghost use Rattle.std.specs.Prelude.{◌≡◌, ◌<◌, ◌++◌, true, decimal, get_or, length, List, IfOk, OnOk};
-ghost use Rattle.std.specs.Bool.{Decides};
-ghost use Rattle.std.specs.List.{concat};
-ghost use Rattle.swreq_query.specs.Signatures.{IsNamedLine};
-ghost use Rattle.swreq_query.specs.Systems.{IsSystemText};
+ghost use Rattle.std.specs.{Prelude.{◌≡◌, ◌<◌, ◌++◌, true, decimal, get_or, length, List, IfOk, OnOk}, Bool.{Decides}, List.{concat}};
+ghost use Rattle.swreq_query.specs.{Signatures.{IsNamedLine}, Systems.{IsSystemText}, Asked.{answer_of}};
 ghost use Rattle.swreq_print.specs.Names.{Text};
-ghost use Rattle.swreq_query.specs.Asked.{answer_of};
-ghost use Rattle.swreq_world.specs.Worlds.{no_signature};
-ghost use Rattle.swreq_check.specs.declared.content.Backing.TheVariants.{Nothing};
-ghost use Rattle.swreq_check.specs.declared.content.Content.TheVariants.{Answers};
-ghost use Rattle.swreq_check.specs.Contents.{AreAnswers, AreSignatures, AreSystems, backing_of};
-ghost use Rattle.swreq_reply.specs.Inputs.{Parts};
-ghost use Rattle.swreq_check.specs.Lines.{AreLinesIn, Counted};
-ghost use Rattle.swreq_reply.specs.Outputs.{AnswersLast, AreCounts, IsOutput, sizes_text, verdicts_text};
-ghost use Rattle.swreq_check.specs.QueryLines.{HasAnswer, IsLineOf};
-ghost use Rattle.swreq_reply.specs.Pieces.{IsWhole, query_at, world_of};
-ghost use Rattle.swreq_check.specs.Made.{text_at};
+ghost use Rattle.swreq_valid.specs.swreq_world.Worlds.{no_signature};
+ghost use Rattle.swreq_check.specs.{declared.content.Backing.TheVariants.{Nothing}, declared.content.Content.TheVariants.{Answers}, Contents.{AreAnswers, AreSignatures, AreSystems, backing_of}, Lines.{AreLinesIn, Counted}, QueryLines.{HasAnswer, IsLineOf}, Made.{text_at}};
+ghost use Rattle.swreq_reply.specs.{Inputs.{Parts}, Outputs.{AnswersLast, AreCounts, IsOutput, sizes_text, verdicts_text}, Pieces.{IsWhole, query_at, world_of}};
 
 use std::alloc::{AllocError, Global};
 use swreq_check::{Content, Piece, Shown, line_at, list_asked, text_at, verdict_at};
-use swreq_lowering::FuncId;
-use swreq_param::ParamTable;
+use swreq_print::lowering::FuncId;
+use swreq_print::param::ParamTable;
 use swreq_query::{Verdict, full_name};
 use swreq_text::{Seq, append_bytes, append_number};
-use swreq_world::World;
+use swreq_valid::world::World;
 
 /// What was made of a text: the pieces of its machines, each at its place, and the lines of the minimised lists that are wanted.
 #[derive(Clone, Copy)]

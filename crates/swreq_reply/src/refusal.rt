@@ -2,11 +2,11 @@
 ghost use Rattle.std.specs.Prelude.{◌≡◌};
 ghost use Rattle.swreq_reply.specs.Reports.{lexical_refusal, limit_refusal, name_refusal, refusal_of};
 
-use swreq_complete::{Limits, Which};
-use swreq_decl::ParseErr;
-use swreq_lex::LexErr;
 use swreq_print::RefusalKind;
-use swreq_resolve::NameErr;
+use swreq_print::decl::ParseErr;
+use swreq_valid::complete::{Limits, Which};
+use swreq_valid::lex::LexErr;
+use swreq_valid::resolve::NameErr;
 
 /// The refusal of a text that could not be read.
 pub(crate) fn refusal_of(e: ParseErr) -> RefusalKind

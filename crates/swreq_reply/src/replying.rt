@@ -1,18 +1,13 @@
 //! What a command answers of an input.
 ghost use Rattle.std.specs.Prelude.{◌≡◌, List, IfOk, OnErr};
-ghost use Rattle.swreq_complete.specs.Limits.{AreInRange};
-ghost use Rattle.swreq_decl.specs.Skeletons.{StandsFor};
-ghost use Rattle.swreq_symbols.specs.Known.{IsTextOver};
-ghost use Rattle.swreq_watch.specs.declared.events.Event.{Event};
-ghost use Rattle.swreq_world.specs.ByTable.{world_by};
-ghost use Rattle.swreq_world.specs.Short.{IsShort};
+ghost use Rattle.swreq_valid.specs.swreq_complete.Limits.{AreInRange};
+ghost use Rattle.swreq_print.specs.swreq_decl.Skeletons.{StandsFor};
+ghost use Rattle.swreq_valid.specs.swreq_symbols.Known.{IsTextOver};
+ghost use Rattle.swreq_valid.specs.swreq_watch.declared.events.Event.{Event};
+ghost use Rattle.swreq_valid.specs.swreq_world.{ByTable.{world_by}, Short.{IsShort}};
 ghost use Rattle.swreq_query.specs.Ended.{IsWorldOfText};
-ghost use Rattle.swreq_reply.specs.declared.outcome.Outcome.{Outcome};
+ghost use Rattle.swreq_reply.specs.{declared.outcome.Outcome.{Outcome}, Commands.{content_of}, Replies.{IsToldVerdict, IsVerdictAlone, Replies, WasToldPart}, Requests.{HasCount, IsRequest, line_of, parts_of, printed_of}, Verdict.{IsRefused, answered_text, limits_of}};
 ghost use Rattle.swreq_check.specs.Contents.{AreJudgements};
-ghost use Rattle.swreq_reply.specs.Commands.{content_of};
-ghost use Rattle.swreq_reply.specs.Replies.{IsToldVerdict, IsVerdictAlone, Replies, WasToldPart};
-ghost use Rattle.swreq_reply.specs.Requests.{HasCount, IsRequest, line_of, parts_of, printed_of};
-ghost use Rattle.swreq_reply.specs.Verdict.{IsRefused, answered_text, limits_of};
 
 use crate::commands::content_of;
 use crate::finishing::checked;
@@ -21,18 +16,17 @@ use crate::outcome::{Outcome, refused, unread, unresolved};
 use crate::request::{Request, parts_of, second_at};
 use std::alloc::{AllocError, Global};
 use swreq_check::Content;
-use swreq_decl::laws::one_skeleton;
-use swreq_decl::{Skeleton, parse};
-use swreq_lex::TEXT_LIMIT;
 use swreq_lines::LinesErr;
-use swreq_param::ParamTable;
 use swreq_print::RefusalKind;
+use swreq_print::decl::{Skeleton, one_skeleton, parse};
 use swreq_print::laws::names_tell_ids_apart;
+use swreq_print::param::ParamTable;
 use swreq_text::Seq;
+use swreq_valid::lex::TEXT_LIMIT;
+use swreq_valid::watch::Watch;
+use swreq_valid::world::World;
 use swreq_verify::verify;
-use swreq_watch::Watch;
 use swreq_words::{CommandLine, Input};
-use swreq_world::World;
 
 /// What a command answers of an input; of `gen` the input is the generated text, and the one that is given is not looked at.
 ///

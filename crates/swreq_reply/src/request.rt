@@ -1,11 +1,8 @@
 //! What is to be answered.
 ghost use Rattle.std.specs.Prelude.{◌≡◌, ◌≤◌, Contains, MatchOption, length};
-ghost use Rattle.swreq_text.specs.Lines.{lines};
-ghost use Rattle.swreq_text.specs.Divided.{divider};
-ghost use Rattle.swreq_words.specs.declared.command.Input.TheVariants.{TwoParts};
-ghost use Rattle.swreq_words.specs.Commands.{input as reads};
-ghost use Rattle.swreq_reply.specs.Inputs.{HasParts, second_at};
-ghost use Rattle.swreq_reply.specs.Requests.{view_of};
+ghost use Rattle.swreq_text.specs.{Lines.{lines}, Divided.{divider}};
+ghost use Rattle.swreq_words.specs.{declared.command.Input.TheVariants.{TwoParts}, Commands.{input as reads}};
+ghost use Rattle.swreq_reply.specs.{Inputs.{HasParts, second_at}, Requests.{view_of}};
 
 use std::alloc::Global;
 use swreq_text::parts;

@@ -1,37 +1,37 @@
 -- Whether a requirement follows from the others, asked by reach.
 use Rattle.std.proofs.Common.{◌≡◌, ◌∙◌, ◌↔◌, ◌<◌, ◌+◌, ap, arith, inl, inr, sym, subst, ℕ, Bool, false, IfOk, IsTrue, List, length, map, slice_get, OnOk, Option, Result, Some, Ok, true}
 use Rattle.std.proofs.lemmas.Option.{get_or_from_slice_get, same_Some}
-use Rattle.swreq_lemmas.proofs.Elements.{get_contains, get_of_map, there_is}
+use Rattle.swreq_print.proofs.swreq_lemmas.Elements.{get_contains, get_of_map, there_is}
 use Rattle.std.proofs.lemmas.Result.{IfOk-weaker}
-use Rattle.swreq_param.specs.declared.ids.NameId.{NameId}
-use Rattle.swreq_param.specs.declared.ids.ProtoId.{ProtoId}
-use Rattle.swreq_param.specs.declared.ids.Step.TheVariants.{Bound, Name}
-use Rattle.swreq_param.specs.declared.ids.TermId.{TermId}
-use Rattle.swreq_param.specs.Tables.{term_at}
-use Rattle.swreq_param.specs.Terms.{Term}
-use Rattle.swreq_param.specs.Terms.Term.{Generic, Member}
-use Rattle.swreq_derive.specs.declared.requirements.Requirement.{Requirement}
-use Rattle.swreq_derive.specs.declared.requirements.Requirement.TheVariants.{Conf}
-use Rattle.swreq_derive.specs.Derivation.{AssociatedType, Derivable, TermRequirement}
-use Rattle.swreq_derive.specs.Derivation.Source.{SelfOf}
-use Rattle.swreq_derive.specs.Derivation.TermRequirement.{Conforms, IsAnyObject, Equals}
-use Rattle.swreq_derive.specs.Derivation.TermStatement.{Requires}
-use Rattle.swreq_derive.specs.Facts.{requirement_of}
-use Rattle.swreq_derive.specs.Kept.{Owned, owned_facts}
-use Rattle.swreq_rule.specs.declared.rules.Rule.{Rule}
-use Rattle.swreq_watch.specs.declared.events.Event.{Event}
-use Rattle.swreq_watch.specs.Told.{GrewBy}
-use Rattle.swreq_complete.specs.declared.limit.Limits.{Limits}
-use Rattle.swreq_complete.specs.declared.limit.Failed.{Failed}
-use Rattle.swreq_lexicon.specs.declared.pair.ProtocolName.{ProtocolName}
-use Rattle.swreq_lexicon.specs.Views.{IsProtocol}
-use Rattle.swreq_symbols.specs.Known.{IsRequirementIn, IsTextOver}
-use Rattle.swreq_symbols.specs.Meaning.{associated_at}
-use Rattle.swreq_world.specs.Closed.{IsRequirementOf, IsTermOf}
+use Rattle.swreq_valid.specs.swreq_param.declared.ids.NameId.{NameId}
+use Rattle.swreq_valid.specs.swreq_param.declared.ids.ProtoId.{ProtoId}
+use Rattle.swreq_valid.specs.swreq_param.declared.ids.Step.TheVariants.{Bound, Name}
+use Rattle.swreq_valid.specs.swreq_param.declared.ids.TermId.{TermId}
+use Rattle.swreq_valid.specs.swreq_param.Tables.{term_at}
+use Rattle.swreq_valid.specs.swreq_param.Terms.{Term}
+use Rattle.swreq_valid.specs.swreq_param.Terms.Term.{Generic, Member}
+use Rattle.swreq_valid.specs.swreq_derive.declared.requirements.Requirement.{Requirement}
+use Rattle.swreq_valid.specs.swreq_derive.declared.requirements.Requirement.TheVariants.{Conf}
+use Rattle.swreq_valid.specs.swreq_derive.Derivation.{AssociatedType, Derivable, TermRequirement}
+use Rattle.swreq_valid.specs.swreq_derive.Derivation.Source.{SelfOf}
+use Rattle.swreq_valid.specs.swreq_derive.Derivation.TermRequirement.{Conforms, IsAnyObject, Equals}
+use Rattle.swreq_valid.specs.swreq_derive.Derivation.TermStatement.{Requires}
+use Rattle.swreq_valid.specs.swreq_derive.Facts.{requirement_of}
+use Rattle.swreq_valid.specs.swreq_derive.Kept.{Owned, owned_facts}
+use Rattle.swreq_print.specs.swreq_rule.declared.rules.Rule.{Rule}
+use Rattle.swreq_valid.specs.swreq_watch.declared.events.Event.{Event}
+use Rattle.swreq_valid.specs.swreq_watch.Told.{GrewBy}
+use Rattle.swreq_valid.specs.swreq_complete.declared.limit.Limits.{Limits}
+use Rattle.swreq_valid.specs.swreq_complete.declared.limit.Failed.{Failed}
+use Rattle.swreq_valid.specs.swreq_lexicon.declared.pair.ProtocolName.{ProtocolName}
+use Rattle.swreq_valid.specs.swreq_lexicon.Views.{IsProtocol}
+use Rattle.swreq_valid.specs.swreq_symbols.Known.{IsRequirementIn, IsTextOver}
+use Rattle.swreq_valid.specs.swreq_symbols.Meaning.{associated_at}
+use Rattle.swreq_valid.specs.swreq_world.Closed.{IsRequirementOf, IsTermOf}
 use Rattle.swreq_valid.specs.Answers.{Answers}
 use Rattle.swreq_valid.specs.Flags.{chosen}
-use Rattle.swreq_world.specs.ByTable.{world_by}
-use Rattle.swreq_world.specs.Worlds.{IdWorld, TextWorld}
+use Rattle.swreq_valid.specs.swreq_world.ByTable.{world_by}
+use Rattle.swreq_valid.specs.swreq_world.Worlds.{IdWorld, TextWorld}
 use Rattle.swreq_reqsig.specs.declared.places.Place.{Place}
 use Rattle.swreq_reqsig.specs.Families.{DerivesWith, associated_types_of, family_of, family_plan, owned}
 use Rattle.swreq_reqsig.specs.Marks.{HasRanksBelow, HaveRanksBelow, IsMarked, TellReached, kept_at, marked}

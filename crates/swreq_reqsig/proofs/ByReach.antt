@@ -1,18 +1,18 @@
 -- From [τ_0_0 : P] the same is derivable with a family and with its part that P reaches.
 use Rattle.std.proofs.Common.{◌≡◌, ◌∙◌, ◌↔◌, ap₂, arith, length, inl, inr, refl, sym, subst, ℕ, suc, zero, Bool, true, false, List, [], ◌∷◌, Contains, slice_get, Some}
 use Rattle.std.proofs.lemmas.Option.{slice_get_within}
-use Rattle.swreq_lemmas.proofs.Elements.{there_is}
-use Rattle.swreq_lemmas.proofs.Members.{first_member, later_member, member_cases, no_member}
-use Rattle.swreq_param.specs.declared.ids.ProtoId.{ProtoId}
-use Rattle.swreq_param.specs.Terms.{Term}
-use Rattle.swreq_derive.specs.Derivation.{AssociatedType, Derivable, TermFacts, TermRequirement, TermStatement}
-use Rattle.swreq_derive.specs.Derivation.Derives.{generic, conf, same, layout, assoc_name, assoc_decl, assoc_bind, assoc_conf, assoc_same, assoc_layout, reflex, symm, trans, same_conf, same_layout, same_name, same_decl}
-use Rattle.swreq_derive.specs.Derivation.Source.{SelfOf}
-use Rattle.swreq_derive.specs.Derivation.TermRequirement.{Conforms}
-use Rattle.swreq_derive.specs.Derivation.TermStatement.{Requires}
-use Rattle.swreq_derive.specs.Kept.{Owned, owned_by, owned_facts}
-use Rattle.swreq_derive.proofs.InstanceLemmas.{same_proto}
-use Rattle.swreq_derive.proofs.KeptLemmas.{family_grows, member_owned, owned_member}
+use Rattle.swreq_print.proofs.swreq_lemmas.Elements.{there_is}
+use Rattle.swreq_print.proofs.swreq_lemmas.Members.{first_member, later_member, member_cases, no_member}
+use Rattle.swreq_valid.specs.swreq_param.declared.ids.ProtoId.{ProtoId}
+use Rattle.swreq_valid.specs.swreq_param.Terms.{Term}
+use Rattle.swreq_valid.specs.swreq_derive.Derivation.{AssociatedType, Derivable, TermFacts, TermRequirement, TermStatement}
+use Rattle.swreq_valid.specs.swreq_derive.Derivation.Derives.{generic, conf, same, layout, assoc_name, assoc_decl, assoc_bind, assoc_conf, assoc_same, assoc_layout, reflex, symm, trans, same_conf, same_layout, same_name, same_decl}
+use Rattle.swreq_valid.specs.swreq_derive.Derivation.Source.{SelfOf}
+use Rattle.swreq_valid.specs.swreq_derive.Derivation.TermRequirement.{Conforms}
+use Rattle.swreq_valid.specs.swreq_derive.Derivation.TermStatement.{Requires}
+use Rattle.swreq_valid.specs.swreq_derive.Kept.{Owned, owned_by, owned_facts}
+use Rattle.swreq_valid.proofs.swreq_derive.InstanceLemmas.{same_proto}
+use Rattle.swreq_valid.proofs.swreq_derive.KeptLemmas.{family_grows, member_owned, owned_member}
 use Rattle.swreq_valid.specs.Flags.{chosen}
 use Rattle.swreq_reqsig.specs.Families.{own}
 use Rattle.swreq_reqsig.specs.Reaching.{AreReachedFlags, IsReachedPart, Reaches}

@@ -1,27 +1,27 @@
 -- Whether a requirement of a protocol is derivable by the kept ones, as the rules of the kept ones tell it.
 use Rattle.std.proofs.Common.{◌≡◌, ◌↔◌, Bool, true, false, IsTrue, List, sym, subst}
 use Rattle.std.specs.Bool.{Decides}
-use Rattle.swreq_param.specs.declared.ids.ProtoId.{ProtoId}
-use Rattle.swreq_derive.specs.Derivation.{Derivable, TermFacts, TermRequirement}
-use Rattle.swreq_derive.specs.Derivation.Source.{SelfOf}
-use Rattle.swreq_derive.specs.Derivation.TermRequirement.{Conforms, IsAnyObject, Equals}
-use Rattle.swreq_derive.specs.Derivation.TermStatement.{Requires}
-use Rattle.swreq_derive.specs.WellFormed.{HasValidSides}
-use Rattle.swreq_derive.proofs.Substitution.{valid_sides}
-use Rattle.swreq_rule.specs.declared.rules.Rule.{Rule}
-use Rattle.swreq_correspondence.specs.Equations.{UsableEquation}
-use Rattle.swreq_correspondence.specs.Equations.Equation.{member, of_protocol, of_source, twice}
-use Rattle.swreq_correspondence.specs.Symbols.{AreOfText, AreSymbolsOf, IsOfText, Symbols, Word, left_side, right_side}
-use Rattle.swreq_correspondence.proofs.Chained.{self_in_range}
-use Rattle.swreq_correspondence.proofs.Correspondence.{conforming_words, equal_words, layout_words}
-use Rattle.swreq_lexicon.specs.Views.{IsProtocol}
-use Rattle.swreq_rounds.specs.Presents.{AreProtocolRules, Presents, ProtocolEquation}
-use Rattle.swreq_rounds.proofs.Presented.{presents_to}
-use Rattle.swreq_symbols.specs.Meaning.{symbols_of}
-use Rattle.swreq_symbols.specs.Vanishing.{Links}
-use Rattle.swreq_symbols.proofs.Symbols.{symbols_law}
-use Rattle.swreq_world.specs.Closed.{IsClosed}
-use Rattle.swreq_world.specs.Worlds.{TextWorld}
+use Rattle.swreq_valid.specs.swreq_param.declared.ids.ProtoId.{ProtoId}
+use Rattle.swreq_valid.specs.swreq_derive.Derivation.{Derivable, TermFacts, TermRequirement}
+use Rattle.swreq_valid.specs.swreq_derive.Derivation.Source.{SelfOf}
+use Rattle.swreq_valid.specs.swreq_derive.Derivation.TermRequirement.{Conforms, IsAnyObject, Equals}
+use Rattle.swreq_valid.specs.swreq_derive.Derivation.TermStatement.{Requires}
+use Rattle.swreq_valid.specs.swreq_derive.WellFormed.{HasValidSides}
+use Rattle.swreq_valid.proofs.swreq_derive.Substitution.{valid_sides}
+use Rattle.swreq_print.specs.swreq_rule.declared.rules.Rule.{Rule}
+use Rattle.swreq_valid.specs.swreq_correspondence.Equations.{UsableEquation}
+use Rattle.swreq_valid.specs.swreq_correspondence.Equations.Equation.{member, of_protocol, of_source, twice}
+use Rattle.swreq_valid.specs.swreq_correspondence.Symbols.{AreOfText, AreSymbolsOf, IsOfText, Symbols, Word, left_side, right_side}
+use Rattle.swreq_valid.proofs.swreq_correspondence.Chained.{self_in_range}
+use Rattle.swreq_valid.proofs.swreq_correspondence.Correspondence.{conforming_words, equal_words, layout_words}
+use Rattle.swreq_valid.specs.swreq_lexicon.Views.{IsProtocol}
+use Rattle.swreq_valid.specs.swreq_rounds.Presents.{AreProtocolRules, Presents, ProtocolEquation}
+use Rattle.swreq_valid.proofs.swreq_rounds.Presented.{presents_to}
+use Rattle.swreq_valid.specs.swreq_symbols.Meaning.{symbols_of}
+use Rattle.swreq_valid.specs.swreq_symbols.Vanishing.{Links}
+use Rattle.swreq_valid.proofs.swreq_symbols.Symbols.{symbols_law}
+use Rattle.swreq_valid.specs.swreq_world.Closed.{IsClosed}
+use Rattle.swreq_valid.specs.swreq_world.Worlds.{TextWorld}
 use Rattle.swreq_valid.specs.Keeping.{kept_facts}
 use Rattle.swreq_valid.specs.Protocols.{ProtocolsView}
 use Rattle.swreq_valid.specs.Rounds.{last_rules}

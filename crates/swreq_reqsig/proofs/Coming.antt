@@ -1,18 +1,18 @@
 -- Going through the requirements, one by one.
 use Rattle.std.proofs.Common.{◌≡◌, ◌∙◌, inl, inr, refl, sym, subst, ℕ, suc, Bool, true, List, [], ◌++◌, length, replicate, Option, Result, Ok, Err, ap}
 use Rattle.std.proofs.lemmas.List.{append-nil}
-use Rattle.swreq_param.specs.Terms.{Term}
-use Rattle.swreq_derive.specs.WellFormed.{AreProtocolsWellFormed}
-use Rattle.swreq_watch.specs.declared.events.Event.{Event}
-use Rattle.swreq_watch.specs.Told.{GrewBy}
-use Rattle.swreq_watch.proofs.Told.{grew_none, grew_on}
-use Rattle.swreq_complete.specs.declared.limit.Limits.{Limits}
-use Rattle.swreq_complete.specs.declared.limit.Failed.{Failed}
-use Rattle.swreq_complete.specs.declared.limit.Failed.TheVariants.{Limit, Memory}
-use Rattle.swreq_symbols.specs.Known.{IsTextOver}
-use Rattle.swreq_symbols.specs.Meaning.{facts_of}
-use Rattle.swreq_world.specs.ByTable.{world_by}
-use Rattle.swreq_world.specs.Worlds.{IdWorld, TextWorld}
+use Rattle.swreq_valid.specs.swreq_param.Terms.{Term}
+use Rattle.swreq_valid.specs.swreq_derive.WellFormed.{AreProtocolsWellFormed}
+use Rattle.swreq_valid.specs.swreq_watch.declared.events.Event.{Event}
+use Rattle.swreq_valid.specs.swreq_watch.Told.{GrewBy}
+use Rattle.swreq_valid.proofs.swreq_watch.Told.{grew_none, grew_on}
+use Rattle.swreq_valid.specs.swreq_complete.declared.limit.Limits.{Limits}
+use Rattle.swreq_valid.specs.swreq_complete.declared.limit.Failed.{Failed}
+use Rattle.swreq_valid.specs.swreq_complete.declared.limit.Failed.TheVariants.{Limit, Memory}
+use Rattle.swreq_valid.specs.swreq_symbols.Known.{IsTextOver}
+use Rattle.swreq_valid.specs.swreq_symbols.Meaning.{facts_of}
+use Rattle.swreq_valid.specs.swreq_world.ByTable.{world_by}
+use Rattle.swreq_valid.specs.swreq_world.Worlds.{IdWorld, TextWorld}
 use Rattle.swreq_reqsig.specs.declared.family.Family.{Family}
 use Rattle.swreq_reqsig.specs.Families.{AreRequirementSignatures, IsGivenFamily, associated_types_of, members, numbers, owned}
 use Rattle.swreq_reqsig.specs.GoingThrough.{AreKept, without}

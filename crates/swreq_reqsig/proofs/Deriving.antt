@@ -1,15 +1,15 @@
 -- What the rules of a family tell, by the flags of all requirements.
 use Rattle.std.proofs.Common.{◌≡◌, ◌∙◌, ◌↔◌, ap, sym, subst, Bool, IsTrue, List}
-use Rattle.swreq_param.specs.declared.ids.ProtoId.{ProtoId}
-use Rattle.swreq_param.specs.Terms.{Term}
-use Rattle.swreq_derive.specs.Derivation.{Derivable, TermRequirement}
-use Rattle.swreq_derive.specs.Derivation.Source.{SelfOf}
-use Rattle.swreq_derive.specs.Derivation.TermStatement.{Requires}
-use Rattle.swreq_derive.specs.Kept.{owned_facts}
-use Rattle.swreq_symbols.specs.Known.{IsTextOver}
+use Rattle.swreq_valid.specs.swreq_param.declared.ids.ProtoId.{ProtoId}
+use Rattle.swreq_valid.specs.swreq_param.Terms.{Term}
+use Rattle.swreq_valid.specs.swreq_derive.Derivation.{Derivable, TermRequirement}
+use Rattle.swreq_valid.specs.swreq_derive.Derivation.Source.{SelfOf}
+use Rattle.swreq_valid.specs.swreq_derive.Derivation.TermStatement.{Requires}
+use Rattle.swreq_valid.specs.swreq_derive.Kept.{owned_facts}
+use Rattle.swreq_valid.specs.swreq_symbols.Known.{IsTextOver}
 use Rattle.swreq_valid.specs.Keeping.{kept_facts, kept_plan}
-use Rattle.swreq_world.specs.ByTable.{world_by}
-use Rattle.swreq_world.specs.Worlds.{IdWorld}
+use Rattle.swreq_valid.specs.swreq_world.ByTable.{world_by}
+use Rattle.swreq_valid.specs.swreq_world.Worlds.{IdWorld}
 use Rattle.swreq_reqsig.specs.Families.{associated_types_of, family_of, family_plan, flag_lists}
 use Rattle.swreq_reqsig.proofs.InLists.{flag_lists_by}
 use Rattle.swreq_reqsig.proofs.OfWorld.{kept_derivable}

@@ -1,21 +1,21 @@
 -- Flags for the requirements of all protocols, in a list for each protocol, and the numbers of those whose flags are set.
 use Rattle.std.proofs.Common.{◌≡◌, ◌∙◌, refl, sym, ap, ap₂, subst, ℕ, zero, suc, ◌≤◌, ◌+◌, ◌-◌, arith, Bool, true, false, List, [], ◌∷◌, ◌++◌, length, map, take, drop, slice_get, Some, append_assoc, length-append, length-take, length-drop}
 use Rattle.std.proofs.lemmas.List.{append-nil, drop_all, length-map}
-use Rattle.swreq_param.specs.declared.ids.ProtoId.{ProtoId}
-use Rattle.swreq_param.specs.Terms.{Term}
-use Rattle.swreq_derive.specs.declared.requirements.Requirement.{Requirement}
-use Rattle.swreq_derive.specs.Derivation.{TermFacts}
-use Rattle.swreq_symbols.specs.Meaning.{facts_of}
-use Rattle.swreq_world.specs.ByTable.{world_by}
-use Rattle.swreq_world.specs.Closed.{AreIds}
-use Rattle.swreq_world.specs.Worlds.{IdWorld, TextWorld, requirements_of}
-use Rattle.swreq_lowering.specs.declared.ids.Written.{Written}
-use Rattle.swreq_lowering.specs.ByTable.{placed_by}
+use Rattle.swreq_valid.specs.swreq_param.declared.ids.ProtoId.{ProtoId}
+use Rattle.swreq_valid.specs.swreq_param.Terms.{Term}
+use Rattle.swreq_valid.specs.swreq_derive.declared.requirements.Requirement.{Requirement}
+use Rattle.swreq_valid.specs.swreq_derive.Derivation.{TermFacts}
+use Rattle.swreq_valid.specs.swreq_symbols.Meaning.{facts_of}
+use Rattle.swreq_valid.specs.swreq_world.ByTable.{world_by}
+use Rattle.swreq_valid.specs.swreq_world.Closed.{AreIds}
+use Rattle.swreq_valid.specs.swreq_world.Worlds.{IdWorld, TextWorld, requirements_of}
+use Rattle.swreq_valid.specs.swreq_lowering.declared.ids.Written.{Written}
+use Rattle.swreq_valid.specs.swreq_lowering.ByTable.{placed_by}
 use Rattle.swreq_valid.specs.Flags.{chosen}
 use Rattle.swreq_valid.specs.Keeping.{AreFlags}
 use Rattle.swreq_valid.specs.Plans.{bare}
-use Rattle.swreq_symbols.proofs.OfText.{requirements_by}
-use Rattle.swreq_valid.proofs.OfProtocols.{drop_at}
+use Rattle.swreq_valid.proofs.swreq_symbols.OfText.{requirements_by}
+use Rattle.swreq_print.proofs.swreq_lemmas.Elements.{drop_from}
 use Rattle.swreq_reqsig.specs.Families.{family_of, flag_lists, in_lists, members, members_in, numbered, numbers, numbers_from, own, owned_in}
 use Rattle.swreq_reqsig.specs.Places.{all_places, places_from, places_in}
 use Rattle.swreq_reqsig.proofs.OfWorld.{chosen_first, lists_count}
@@ -32,7 +32,7 @@ one_list w ps k count p list rest mine further old new whole e b c m n f h =
     ∙ append_assoc old (mine ∷ []) (in_lists w (drop (k + 1) ps) further)
     ∙ ap₂ (λ y z. old ++ (y ∷ in_lists w (drop (k + 1) ps) z)) m n
     ∙ ap (λ (z : ℕ). old ++ (take z rest ∷ in_lists w (drop (k + 1) ps) (drop z rest))) many
-    ∙ ap (λ z. old ++ in_lists w z rest) (sym (drop_at ps k p e))
+    ∙ ap (λ z. old ++ in_lists w z rest) (sym (drop_from ps k p e))
     ∙ h
 
 pub lists_done : (w : IdWorld) (ps : List ProtoId) (k : ℕ) (rest : List Bool) (all whole : List (List Bool)) → length ps ≤ k

@@ -1,15 +1,15 @@
 -- What going through the requirements leaves.
 use Rattle.std.proofs.Common.{◌≡◌, ◌∙◌, ◌↔◌, inl, inr, refl, sym, ap, subst, subst₂, ℕ, suc, ◌<◌, ◌≤◌, arith, Bool, true, false, List, [], ◌∷◌, ◌++◌, ◌+◌, length, take, drop, slice_get, Some, append_assoc, length-append}
 use Rattle.std.proofs.lemmas.List.{length-replicate, length-set, length-take-le, take-append-drop}
-use Rattle.swreq_derive.specs.Derivation.{AssociatedType, Derivable}
-use Rattle.swreq_derive.specs.Derivation.Source.{SelfOf}
-use Rattle.swreq_derive.specs.Derivation.TermStatement.{Requires}
-use Rattle.swreq_derive.specs.Kept.{DeriveTheSame, Keeps, Owned, owned_facts}
-use Rattle.swreq_derive.specs.Kept.Keeps.{kept, left_out, nothing}
-use Rattle.swreq_derive.proofs.KeptLemmas as derived
-use Rattle.swreq_derive.proofs.LeftOut.{can_go}
+use Rattle.swreq_valid.specs.swreq_derive.Derivation.{AssociatedType, Derivable}
+use Rattle.swreq_valid.specs.swreq_derive.Derivation.Source.{SelfOf}
+use Rattle.swreq_valid.specs.swreq_derive.Derivation.TermStatement.{Requires}
+use Rattle.swreq_valid.specs.swreq_derive.Kept.{DeriveTheSame, Keeps, Owned, owned_facts}
+use Rattle.swreq_valid.specs.swreq_derive.Kept.Keeps.{kept, left_out, nothing}
+use Rattle.swreq_valid.proofs.swreq_derive.KeptLemmas as derived
+use Rattle.swreq_valid.proofs.swreq_derive.LeftOut.{can_go}
 use Rattle.swreq_valid.specs.Flags.{chosen}
-use Rattle.swreq_valid.proofs.OfProtocols.{drop_at}
+use Rattle.swreq_print.proofs.swreq_lemmas.Elements.{drop_from}
 use Rattle.swreq_reqsig.specs.GoingThrough.{AreAlike, AreGiven, AreKept, IsDecided, without}
 use Rattle.swreq_reqsig.specs.GoingThrough.AreKept.{further, whole}
 use Rattle.swreq_reqsig.proofs.Choosing.{all_set, chosen_behind, drop_set, drop_unset, flag_before}
@@ -133,7 +133,7 @@ module _ (ds : List AssociatedType) (all : List Owned) where
       ↔ Derivable (owned_facts ds (chosen all (without flags n))) (SelfOf o.proto) (Requires o.requirement)
   alike_where_derivable flags n o at r e =
       let next : drop n all ≡ o ∷ drop (suc n) all =
-      drop_at all n o at ∙ ap (λ (k : ℕ). o ∷ drop k all) (let s : n + 1 ≡ suc n = omega arith in s) in
+      drop_from all n o at ∙ ap (λ (k : ℕ). o ∷ drop k all) (let s : n + 1 ≡ suc n = omega arith in s) in
       let split : all ≡ take n all ++ (o ∷ drop (suc n) all) = sym (take-append-drop n all) ∙ ap (λ z. take n all ++ z) next in
       let count : n ≡ length (take n all) = sym (length-take-le n all (let l = within r in omega (arith, l))) in
       let behind : List Owned = chosen (drop (suc n) all) (drop (suc n) flags) in

@@ -4,9 +4,9 @@ use Rattle.std.proofs.lemmas.Bool.{cases_eq}
 use Rattle.std.proofs.lemmas.List.{get_or-set_other, get_or-set_same, length-replicate, length-set}
 use Rattle.std.proofs.lemmas.List.Elements.{Contains-append_cases, Contains-append_left, Contains-append_right}
 use Rattle.std.proofs.lemmas.Option.{same_Some, slice_get_within}
-use Rattle.swreq_lemmas.proofs.Members.{first_member, member_cases, no_member}
-use Rattle.swreq_param.specs.declared.ids.NameId.{NameId}
-use Rattle.swreq_param.specs.declared.ids.ProtoId.{ProtoId}
+use Rattle.swreq_print.proofs.swreq_lemmas.Members.{first_member, member_cases, no_member}
+use Rattle.swreq_valid.specs.swreq_param.declared.ids.NameId.{NameId}
+use Rattle.swreq_valid.specs.swreq_param.declared.ids.ProtoId.{ProtoId}
 use Rattle.swreq_reqsig.specs.declared.outlines.Outline.{Outline}
 use Rattle.swreq_reqsig.specs.declared.outlines.Outline.TheVariants.{Conformance, Object, Equality}
 use Rattle.swreq_reqsig.specs.Named.{AreNamed, AreNamedBefore, AreNoted, IsNoted, Names, kept_for, list_of}

@@ -5,25 +5,25 @@ use Rattle.std.proofs.lemmas.Bool.{eq-eqb}
 use Rattle.std.proofs.lemmas.List.{length-map}
 use Rattle.std.proofs.lemmas.List.Elements.{Contains-append_cases, Contains-append_left, Contains-append_right}
 use Rattle.std.proofs.lemmas.Option.{slice_get-get_or, slice_get_within}
-use Rattle.swreq_lemmas.proofs.Elements.{contains_get}
-use Rattle.swreq_lemmas.proofs.Members.{contains_map, contains_of_map, member_cases, no_member}
-use Rattle.swreq_param.specs.declared.ids.ProtoId.{ProtoId}
-use Rattle.swreq_param.specs.Terms.{self}
-use Rattle.swreq_derive.specs.Derivation.{AssociatedType, Derivable, TermFacts, TermRequirement, TermStatement, for_self}
-use Rattle.swreq_derive.specs.Derivation.Derives.{assoc_conf, assoc_layout, assoc_same, conf, generic}
-use Rattle.swreq_derive.specs.Derivation.Source.{SelfOf}
-use Rattle.swreq_derive.specs.Derivation.TermRequirement.{Conforms, IsAnyObject, Equals}
-use Rattle.swreq_derive.specs.Derivation.TermStatement.{Requires}
-use Rattle.swreq_derive.specs.Kept.{Owned, owned_facts, owned_by}
-use Rattle.swreq_derive.specs.WellFormed.{AreProtocolsWellFormed, HasValidSides}
-use Rattle.swreq_derive.proofs.InstanceLemmas.{same_proto}
-use Rattle.swreq_derive.proofs.KeptLemmas.{grows_with_protocols, member_owned, owned_member}
-use Rattle.swreq_correspondence.proofs.Correspondence.{substitute-self}
-use Rattle.swreq_symbols.specs.Meaning.{facts_of}
-use Rattle.swreq_symbols.proofs.Symbols.{text_law}
-use Rattle.swreq_world.specs.Closed.{IsClosed}
-use Rattle.swreq_world.specs.Worlds.{TextWorld, WorldOver, requirements_of}
-use Rattle.swreq_lowering.specs.Requirements.{PlacedRequirement}
+use Rattle.swreq_print.proofs.swreq_lemmas.Elements.{contains_get}
+use Rattle.swreq_print.proofs.swreq_lemmas.Members.{contains_map, contains_of_map, member_cases, no_member}
+use Rattle.swreq_valid.specs.swreq_param.declared.ids.ProtoId.{ProtoId}
+use Rattle.swreq_valid.specs.swreq_param.Terms.{self}
+use Rattle.swreq_valid.specs.swreq_derive.Derivation.{AssociatedType, Derivable, TermFacts, TermRequirement, TermStatement, for_self}
+use Rattle.swreq_valid.specs.swreq_derive.Derivation.Derives.{assoc_conf, assoc_layout, assoc_same, conf, generic}
+use Rattle.swreq_valid.specs.swreq_derive.Derivation.Source.{SelfOf}
+use Rattle.swreq_valid.specs.swreq_derive.Derivation.TermRequirement.{Conforms, IsAnyObject, Equals}
+use Rattle.swreq_valid.specs.swreq_derive.Derivation.TermStatement.{Requires}
+use Rattle.swreq_valid.specs.swreq_derive.Kept.{Owned, owned_facts, owned_by}
+use Rattle.swreq_valid.specs.swreq_derive.WellFormed.{AreProtocolsWellFormed, HasValidSides}
+use Rattle.swreq_valid.proofs.swreq_derive.InstanceLemmas.{same_proto}
+use Rattle.swreq_valid.proofs.swreq_derive.KeptLemmas.{grows_with_protocols, member_owned, owned_member}
+use Rattle.swreq_valid.proofs.swreq_correspondence.Correspondence.{substitute-self}
+use Rattle.swreq_valid.specs.swreq_symbols.Meaning.{facts_of}
+use Rattle.swreq_valid.proofs.swreq_symbols.Symbols.{text_law}
+use Rattle.swreq_valid.specs.swreq_world.Closed.{IsClosed}
+use Rattle.swreq_valid.specs.swreq_world.Worlds.{TextWorld, WorldOver, requirements_of}
+use Rattle.swreq_valid.specs.swreq_lowering.Requirements.{PlacedRequirement}
 use Rattle.swreq_valid.specs.Flags.{chosen}
 use Rattle.swreq_valid.specs.Keeping.{flags_of, kept_facts}
 use Rattle.swreq_valid.proofs.Flagged.{chosen_in, chosen_map}

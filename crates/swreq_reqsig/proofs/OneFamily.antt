@@ -2,18 +2,18 @@
 use Rattle.std.proofs.Common.{◌≡◌, ◌∙◌, ◌⊎◌, inl, inr, refl, sym, ap, ap₂, subst, ℕ, suc, ◌<◌, ◌≤◌, arith, Bool, List, ◌++◌, length, Result, Ok, Err}
 use Rattle.std.proofs.lemmas.Bool.{cases_eq, cases_lt}
 use Rattle.std.proofs.lemmas.Option.{same_Some}
-use Rattle.swreq_derive.specs.Derivation.{AssociatedType}
-use Rattle.swreq_derive.specs.Kept.{Owned}
-use Rattle.swreq_rule.specs.declared.rules.Rule.{Rule}
-use Rattle.swreq_watch.specs.declared.events.Event.{Event}
-use Rattle.swreq_complete.specs.declared.limit.Limits.{Limits}
-use Rattle.swreq_complete.specs.declared.limit.Which.{Which}
-use Rattle.swreq_complete.specs.declared.limit.Failed.{Failed}
-use Rattle.swreq_complete.specs.declared.limit.Failed.TheVariants.{Limit, Memory}
-use Rattle.swreq_rounds.specs.Plan.{Plan}
-use Rattle.swreq_rounds.specs.Rounds.{IsOutcome}
-use Rattle.swreq_rounds.proofs.OneOutcome.{outcomes_are_one}
-use Rattle.swreq_world.specs.Worlds.{TextWorld}
+use Rattle.swreq_valid.specs.swreq_derive.Derivation.{AssociatedType}
+use Rattle.swreq_valid.specs.swreq_derive.Kept.{Owned}
+use Rattle.swreq_print.specs.swreq_rule.declared.rules.Rule.{Rule}
+use Rattle.swreq_valid.specs.swreq_watch.declared.events.Event.{Event}
+use Rattle.swreq_valid.specs.swreq_complete.declared.limit.Limits.{Limits}
+use Rattle.swreq_valid.specs.swreq_complete.declared.limit.Which.{Which}
+use Rattle.swreq_valid.specs.swreq_complete.declared.limit.Failed.{Failed}
+use Rattle.swreq_valid.specs.swreq_complete.declared.limit.Failed.TheVariants.{Limit, Memory}
+use Rattle.swreq_valid.specs.swreq_rounds.Plan.{Plan}
+use Rattle.swreq_valid.specs.swreq_rounds.Rounds.{IsOutcome}
+use Rattle.swreq_valid.proofs.swreq_rounds.OneOutcome.{outcomes_are_one}
+use Rattle.swreq_valid.specs.swreq_world.Worlds.{TextWorld}
 use Rattle.swreq_reqsig.specs.declared.family.Family.{Family}
 use Rattle.swreq_reqsig.specs.Families.{associated_types_of, family_of, family_plan, numbers, owned}
 use Rattle.swreq_reqsig.specs.GoingThrough.{AreKept, without}

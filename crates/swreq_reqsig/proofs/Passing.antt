@@ -5,19 +5,19 @@ use Rattle.std.proofs.Math.Bool.{or-false, or-true}
 use Rattle.std.proofs.lemmas.Bool.{cases_eq}
 use Rattle.std.proofs.lemmas.List.{append-nil, drop_all, length-map, length-replicate, length-set}
 use Rattle.std.proofs.lemmas.Option.{same_Some, slice_get-get_or, slice_get_within}
-use Rattle.swreq_lemmas.proofs.Elements.{get_map, get_of_map, set_cases, set_here, set_kept}
-use Rattle.swreq_param.specs.declared.ids.ProtoId.{ProtoId}
-use Rattle.swreq_param.specs.declared.ids.TermId.{TermId}
-use Rattle.swreq_param.specs.Tables.{term_at}
-use Rattle.swreq_param.specs.Terms.{Term}
-use Rattle.swreq_derive.specs.declared.requirements.Requirement.{Requirement}
-use Rattle.swreq_derive.specs.declared.requirements.Requirement.TheVariants.{Conf, Layout, Same}
-use Rattle.swreq_derive.specs.Derivation.TermRequirement.{Conforms}
-use Rattle.swreq_derive.specs.Facts.{requirement_of}
-use Rattle.swreq_derive.specs.Kept.{Owned}
+use Rattle.swreq_print.proofs.swreq_lemmas.Elements.{get_map, get_of_map, set_cases, set_here, set_kept}
+use Rattle.swreq_valid.specs.swreq_param.declared.ids.ProtoId.{ProtoId}
+use Rattle.swreq_valid.specs.swreq_param.declared.ids.TermId.{TermId}
+use Rattle.swreq_valid.specs.swreq_param.Tables.{term_at}
+use Rattle.swreq_valid.specs.swreq_param.Terms.{Term}
+use Rattle.swreq_valid.specs.swreq_derive.declared.requirements.Requirement.{Requirement}
+use Rattle.swreq_valid.specs.swreq_derive.declared.requirements.Requirement.TheVariants.{Conf, Layout, Same}
+use Rattle.swreq_valid.specs.swreq_derive.Derivation.TermRequirement.{Conforms}
+use Rattle.swreq_valid.specs.swreq_derive.Facts.{requirement_of}
+use Rattle.swreq_valid.specs.swreq_derive.Kept.{Owned}
 use Rattle.swreq_valid.specs.Flags.{unset}
 use Rattle.swreq_valid.proofs.Flagged.{none_set}
-use Rattle.swreq_valid.proofs.OfProtocols.{drop_at}
+use Rattle.swreq_print.proofs.swreq_lemmas.Elements.{drop_from}
 use Rattle.swreq_reqsig.specs.declared.places.Place.{Place}
 use Rattle.swreq_reqsig.specs.Families.{own}
 use Rattle.swreq_reqsig.specs.Marks.{AreClosedFrom, AreReachable, HasPassed, IsClosedAt, IsMarked, IsLedTo, IsMarkedBy, TellLed, TellReached, kept_at, marked}
@@ -297,7 +297,7 @@ one_marked places flags marks k x b old new whole at set e h =
     let mine : Bool = (b && slice_index_or marks x.proto.rank false) in
     ap (λ z. z ++ marked (drop (k + 1) places) (drop (k + 1) flags) marks) e
     ∙ append_assoc old (mine ∷ []) (marked (drop (k + 1) places) (drop (k + 1) flags) marks)
-    ∙ ap₂ (λ (ps : List Place) (bs : List Bool). old ++ marked ps bs marks) (sym (drop_at places k x at)) (sym (drop_at flags k b set))
+    ∙ ap₂ (λ (ps : List Place) (bs : List Bool). old ++ marked ps bs marks) (sym (drop_from places k x at)) (sym (drop_from flags k b set))
     ∙ h
 
 pub all_marked : (places : List Place) (flags marks : List Bool) (k : ℕ) (v whole : List Bool) → length places ≤ k

@@ -4,22 +4,22 @@ use Rattle.std.specs.Option.{option_map}
 use Rattle.std.proofs.lemmas.List.{append-nil, drop_all, length-map, map-append}
 use Rattle.std.proofs.lemmas.List.Elements.{Contains-append_cases}
 use Rattle.std.proofs.lemmas.Option.{slice_get-map}
-use Rattle.swreq_param.specs.declared.ids.ProtoId.{ProtoId}
-use Rattle.swreq_param.specs.Terms.{Term}
-use Rattle.swreq_derive.specs.declared.requirements.Requirement.{Requirement}
-use Rattle.swreq_derive.specs.Facts.{requirement_of}
-use Rattle.swreq_lemmas.proofs.Members.{contains_of_map, first_member, later_member, member_cases, no_member}
-use Rattle.swreq_lemmas.proofs.Elements.{get_contains}
-use Rattle.swreq_symbols.specs.Known.{IsRequirementIn, IsTextOver}
-use Rattle.swreq_lowering.specs.declared.ids.Written.{Written}
-use Rattle.swreq_symbols.specs.Meaning.{facts_of}
-use Rattle.swreq_world.specs.ByTable.{world_by}
-use Rattle.swreq_world.specs.Closed.{AreIds}
-use Rattle.swreq_world.specs.Worlds.{IdWorld, requirements_of}
+use Rattle.swreq_valid.specs.swreq_param.declared.ids.ProtoId.{ProtoId}
+use Rattle.swreq_valid.specs.swreq_param.Terms.{Term}
+use Rattle.swreq_valid.specs.swreq_derive.declared.requirements.Requirement.{Requirement}
+use Rattle.swreq_valid.specs.swreq_derive.Facts.{requirement_of}
+use Rattle.swreq_print.proofs.swreq_lemmas.Members.{contains_of_map, first_member, later_member, member_cases, no_member}
+use Rattle.swreq_print.proofs.swreq_lemmas.Elements.{get_contains}
+use Rattle.swreq_valid.specs.swreq_symbols.Known.{IsRequirementIn, IsTextOver}
+use Rattle.swreq_valid.specs.swreq_lowering.declared.ids.Written.{Written}
+use Rattle.swreq_valid.specs.swreq_symbols.Meaning.{facts_of}
+use Rattle.swreq_valid.specs.swreq_world.ByTable.{world_by}
+use Rattle.swreq_valid.specs.swreq_world.Closed.{AreIds}
+use Rattle.swreq_valid.specs.swreq_world.Worlds.{IdWorld, requirements_of}
 use Rattle.swreq_valid.specs.Keeping.{HasNumber}
 use Rattle.swreq_valid.specs.Plans.{bare}
-use Rattle.swreq_symbols.proofs.OfText.{own_requirements, protocol_written}
-use Rattle.swreq_valid.proofs.OfProtocols.{drop_at}
+use Rattle.swreq_valid.proofs.swreq_symbols.OfText.{own_requirements, protocol_written}
+use Rattle.swreq_print.proofs.swreq_lemmas.Elements.{drop_from}
 use Rattle.swreq_reqsig.specs.declared.places.Place.{Place}
 use Rattle.swreq_reqsig.specs.declared.outlines.Outline.{Outline}
 use Rattle.swreq_reqsig.specs.Families.{own, owned, owned_in}
@@ -36,7 +36,7 @@ one_protocol w ps k p list old new whole e i f h =
     ap (λ z. z ++ places_in w (drop (k + 1) ps)) f
     ∙ append_assoc old (places_from p 1 list) (places_in w (drop (k + 1) ps))
     ∙ ap (λ z. old ++ (places_from p 1 z ++ places_in w (drop (k + 1) ps))) i
-    ∙ ap (λ z. old ++ places_in w z) (sym (drop_at ps k p e))
+    ∙ ap (λ z. old ++ places_in w z) (sym (drop_from ps k p e))
     ∙ h
 
 pub protocols_done : (w : IdWorld) (ps : List ProtoId) (k : ℕ) (all whole : List Place) → length ps ≤ k
@@ -150,7 +150,7 @@ module _ (w : IdWorld) (terms : List Term) where
       ap (λ z. z ++ outlines_at (drop (k + 1) places)) e
       ∙ append_assoc old (outline ∷ []) (outlines_at (drop (k + 1) places))
       ∙ ap (λ (z : Outline). old ++ (z ∷ outlines_at (drop (k + 1) places))) is
-      ∙ ap (λ (z : List Place). old ++ outlines_at z) (sym (drop_at places k x at))
+      ∙ ap (λ (z : List Place). old ++ outlines_at z) (sym (drop_from places k x at))
       ∙ h
 
   pub outlines_done : (places : List Place) (k : ℕ) (all : List Outline) → length places ≤ k → places ≡ all_places w

@@ -5,23 +5,23 @@ use Rattle.std.proofs.lemmas.List.{append-nil, drop-map, drop_all, map-append, t
 use Rattle.std.proofs.lemmas.List.Elements.{Contains-append_cases, Contains-get_or}
 use Rattle.std.proofs.lemmas.Simd.{map-map}
 use Rattle.swreq_text.specs.Joined.{joined}
-use Rattle.swreq_lemmas.proofs.Members.{contains_of_map, first_member, later_member, no_member, only_member}
-use Rattle.swreq_param.specs.declared.ids.ProtoId.{ProtoId}
-use Rattle.swreq_param.specs.Terms.{Term}
-use Rattle.swreq_derive.specs.Derivation.{TermRequirement}
-use Rattle.swreq_derive.specs.declared.requirements.Requirement.{Requirement}
-use Rattle.swreq_derive.specs.Facts.{requirement_of}
-use Rattle.swreq_lexicon.specs.Views.{LexiconView}
-use Rattle.swreq_lowering.specs.ByTable.{HasIdsOf}
-use Rattle.swreq_lowering.specs.declared.ids.Written.{Written}
+use Rattle.swreq_print.proofs.swreq_lemmas.Members.{contains_of_map, first_member, later_member, no_member, only_member}
+use Rattle.swreq_valid.specs.swreq_param.declared.ids.ProtoId.{ProtoId}
+use Rattle.swreq_valid.specs.swreq_param.Terms.{Term}
+use Rattle.swreq_valid.specs.swreq_derive.Derivation.{TermRequirement}
+use Rattle.swreq_valid.specs.swreq_derive.declared.requirements.Requirement.{Requirement}
+use Rattle.swreq_valid.specs.swreq_derive.Facts.{requirement_of}
+use Rattle.swreq_valid.specs.swreq_lexicon.Views.{LexiconView}
+use Rattle.swreq_valid.specs.swreq_lowering.ByTable.{HasIdsOf}
+use Rattle.swreq_valid.specs.swreq_lowering.declared.ids.Written.{Written}
 use Rattle.swreq_print.specs.Names.{Text}
 use Rattle.swreq_print.specs.Signatures.{self_text}
-use Rattle.swreq_symbols.specs.Known.{IsTextOver}
-use Rattle.swreq_symbols.proofs.OfText.{own_requirements, protocol_written}
-use Rattle.swreq_world.specs.ByTable.{world_by}
-use Rattle.swreq_world.specs.Worlds.{IdWorld, TextWorld, requirements_of}
+use Rattle.swreq_valid.specs.swreq_symbols.Known.{IsTextOver}
+use Rattle.swreq_valid.proofs.swreq_symbols.OfText.{own_requirements, protocol_written}
+use Rattle.swreq_valid.specs.swreq_world.ByTable.{world_by}
+use Rattle.swreq_valid.specs.swreq_world.Worlds.{IdWorld, TextWorld, requirements_of}
 use Rattle.swreq_valid.specs.Plans.{bare}
-use Rattle.swreq_valid.proofs.OfProtocols.{drop_at}
+use Rattle.swreq_print.proofs.swreq_lemmas.Elements.{drop_from}
 use Rattle.swreq_reqsig.specs.Families.{numbered}
 use Rattle.swreq_reqsig.specs.Texts.{kept_of, protocol_line, protocol_lines, where_text}
 
@@ -81,7 +81,7 @@ one_line w ps kept k p ns old new whole e f g h =
     let rest = protocol_lines w (drop (k + 1) ps) (drop (k + 1) kept) in
     ap (λ z. z ++ rest) g
     ∙ append_assoc old (protocol_line w.lexicon p (kept_of w p ns)) rest
-    ∙ ap (λ z. old ++ z) (sym (ap₂ (protocol_lines w) (drop_at ps k p e) (drop_at kept k ns f)))
+    ∙ ap (λ z. old ++ z) (sym (ap₂ (protocol_lines w) (drop_from ps k p e) (drop_from kept k ns f)))
     ∙ h
 
 pub lines_done : (w : TextWorld) (ps : List ProtoId) (kept : List (List ℕ)) (k : ℕ) (all whole : Text) → length ps ≤ k

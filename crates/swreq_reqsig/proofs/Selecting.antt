@@ -1,8 +1,8 @@
 -- What is selected of the requirements, as the code asks for it.
 use Rattle.std.proofs.Common.{◌≡◌, ◌∙◌, ◌↔◌, ap, length, sym, subst, Bool, IsTrue, List, Option}
 use Rattle.std.proofs.lemmas.List.{length-map}
-use Rattle.swreq_param.specs.declared.ids.NameId.{NameId}
-use Rattle.swreq_param.specs.declared.ids.ProtoId.{ProtoId}
+use Rattle.swreq_valid.specs.swreq_param.declared.ids.NameId.{NameId}
+use Rattle.swreq_valid.specs.swreq_param.declared.ids.ProtoId.{ProtoId}
 use Rattle.swreq_reqsig.specs.declared.outlines.Kind.{Kind}
 use Rattle.swreq_reqsig.specs.declared.outlines.Outline.{Outline}
 use Rattle.swreq_reqsig.specs.declared.selection.Selection.{Selection}

@@ -6,26 +6,26 @@ use Rattle.std.proofs.lemmas.Bool.{cases_lt}
 use Rattle.std.proofs.lemmas.List.{get_or_past}
 use Rattle.std.proofs.lemmas.List.Elements.{All-contains, All-get_or}
 use Rattle.std.proofs.lemmas.Option.{slice_get_within}
-use Rattle.swreq_lemmas.proofs.Elements.{get_contains, there_is}
-use Rattle.swreq_lemmas.proofs.Members.{contains_of_map, no_member}
-use Rattle.swreq_param.specs.declared.ids.ProtoId.{ProtoId}
-use Rattle.swreq_param.specs.Terms.{Term}
-use Rattle.swreq_derive.specs.Derivation.{AssociatedType, TermFacts, TermRequirement}
-use Rattle.swreq_derive.specs.Derivation.TermStatement.{Requires}
-use Rattle.swreq_derive.specs.Facts.{requirement_of}
-use Rattle.swreq_derive.specs.Kept.{Keeps, Owned}
-use Rattle.swreq_derive.specs.WellFormed.{AreProtocolsWellFormed}
-use Rattle.swreq_derive.proofs.LeftOut.{can_go}
-use Rattle.swreq_watch.specs.declared.events.Event.{Event}
-use Rattle.swreq_watch.specs.Told.{GrewBy}
-use Rattle.swreq_complete.specs.declared.limit.Limits.{Limits}
-use Rattle.swreq_lowering.specs.Heads.{IsOverSelf}
-use Rattle.swreq_lowering.specs.Requirements.{PlacedRequirement}
-use Rattle.swreq_symbols.specs.Known.{IsTextOver}
-use Rattle.swreq_symbols.specs.Meaning.{facts_of}
-use Rattle.swreq_world.specs.ByTable.{world_by}
-use Rattle.swreq_world.specs.Closed.{IsClosed, IsOfProtocol}
-use Rattle.swreq_world.specs.Worlds.{IdWorld, TextWorld, requirements_of}
+use Rattle.swreq_print.proofs.swreq_lemmas.Elements.{get_contains, there_is}
+use Rattle.swreq_print.proofs.swreq_lemmas.Members.{contains_of_map, no_member}
+use Rattle.swreq_valid.specs.swreq_param.declared.ids.ProtoId.{ProtoId}
+use Rattle.swreq_valid.specs.swreq_param.Terms.{Term}
+use Rattle.swreq_valid.specs.swreq_derive.Derivation.{AssociatedType, TermFacts, TermRequirement}
+use Rattle.swreq_valid.specs.swreq_derive.Derivation.TermStatement.{Requires}
+use Rattle.swreq_valid.specs.swreq_derive.Facts.{requirement_of}
+use Rattle.swreq_valid.specs.swreq_derive.Kept.{Keeps, Owned}
+use Rattle.swreq_valid.specs.swreq_derive.WellFormed.{AreProtocolsWellFormed}
+use Rattle.swreq_valid.proofs.swreq_derive.LeftOut.{can_go}
+use Rattle.swreq_valid.specs.swreq_watch.declared.events.Event.{Event}
+use Rattle.swreq_valid.specs.swreq_watch.Told.{GrewBy}
+use Rattle.swreq_valid.specs.swreq_complete.declared.limit.Limits.{Limits}
+use Rattle.swreq_valid.specs.swreq_lowering.Heads.{IsOverSelf}
+use Rattle.swreq_valid.specs.swreq_lowering.Requirements.{PlacedRequirement}
+use Rattle.swreq_valid.specs.swreq_symbols.Known.{IsTextOver}
+use Rattle.swreq_valid.specs.swreq_symbols.Meaning.{facts_of}
+use Rattle.swreq_valid.specs.swreq_world.ByTable.{world_by}
+use Rattle.swreq_valid.specs.swreq_world.Closed.{IsClosed, IsOfProtocol}
+use Rattle.swreq_valid.specs.swreq_world.Worlds.{IdWorld, TextWorld, requirements_of}
 use Rattle.swreq_reqsig.specs.declared.places.Place.{Place}
 use Rattle.swreq_reqsig.specs.Families.{AreRequirementSignatures, DerivesWith, IsGivenFamily, associated_types_of, family_of, members, numbers, owned}
 use Rattle.swreq_reqsig.specs.GoingThrough.{AreAlike, AreGiven, AreKept, IsDecided, without}

@@ -4,14 +4,14 @@ use Rattle.std.specs.Prelude.{not}
 use Rattle.std.proofs.lemmas.Bool.{cases_eq}
 use Rattle.std.proofs.lemmas.List.{length-replicate, length-set}
 use Rattle.std.proofs.lemmas.Option.{same_Some, slice_get-get_or, slice_get_within}
-use Rattle.swreq_lemmas.proofs.Elements.{contains_get, get_contains, get_map, get_of_map, set_cases, set_here, there_is}
-use Rattle.swreq_param.specs.declared.ids.NameId.{NameId}
-use Rattle.swreq_param.specs.declared.ids.ProtoId.{ProtoId}
-use Rattle.swreq_param.specs.Terms.{Term}
-use Rattle.swreq_derive.specs.Derivation.{TermRequirement}
-use Rattle.swreq_derive.specs.Derivation.TermRequirement.{Conforms, IsAnyObject, Equals}
-use Rattle.swreq_derive.specs.Kept.{Owned}
-use Rattle.swreq_lexicon.specs.Views.{LexiconView}
+use Rattle.swreq_print.proofs.swreq_lemmas.Elements.{contains_get, get_contains, get_map, get_of_map, set_cases, set_here, there_is}
+use Rattle.swreq_valid.specs.swreq_param.declared.ids.NameId.{NameId}
+use Rattle.swreq_valid.specs.swreq_param.declared.ids.ProtoId.{ProtoId}
+use Rattle.swreq_valid.specs.swreq_param.Terms.{Term}
+use Rattle.swreq_valid.specs.swreq_derive.Derivation.{TermRequirement}
+use Rattle.swreq_valid.specs.swreq_derive.Derivation.TermRequirement.{Conforms, IsAnyObject, Equals}
+use Rattle.swreq_valid.specs.swreq_derive.Kept.{Owned}
+use Rattle.swreq_valid.specs.swreq_lexicon.Views.{LexiconView}
 use Rattle.swreq_valid.specs.Flags.{chosen}
 use Rattle.swreq_reqsig.specs.declared.outlines.Kind.{Kind}
 use Rattle.swreq_reqsig.specs.declared.outlines.Kind.TheVariants.{IsObject, IsEqual}

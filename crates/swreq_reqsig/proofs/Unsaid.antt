@@ -1,22 +1,22 @@
 -- What is unsaid by a family is not derivable from it.
 use Rattle.std.proofs.Common.{◌≡◌, ◌∙◌, ◌⊎◌, ap, inl, inr, refl, sym, Contains, List, Option, Some, None}
 use Rattle.std.proofs.lemmas.Option.{get_or_from_slice_get}
-use Rattle.swreq_param.specs.declared.ids.AssocId.{AssocId}
-use Rattle.swreq_param.specs.declared.ids.NameId.{NameId}
-use Rattle.swreq_param.specs.declared.ids.ProtoId.{ProtoId}
-use Rattle.swreq_param.specs.Terms.{Term, self}
-use Rattle.swreq_param.specs.Terms.Term.{Generic, Member}
-use Rattle.swreq_derive.specs.Derivation.{Declares, Derivable, TermFacts, TermRequirement, for_self}
-use Rattle.swreq_derive.specs.Derivation.Derives.{conf, same, layout, assoc_bind, assoc_conf, assoc_same, assoc_layout, reflex, symm, trans, same_conf, same_layout, same_name, same_decl}
-use Rattle.swreq_derive.specs.Derivation.Source.{SelfOf}
-use Rattle.swreq_derive.specs.Derivation.TermRequirement.{Conforms, IsAnyObject, Equals}
-use Rattle.swreq_derive.specs.Derivation.TermStatement.{Requires}
-use Rattle.swreq_derive.specs.Kept.{Owned, owned_by, owned_facts}
-use Rattle.swreq_lexicon.specs.declared.pair.ProtocolName.{ProtocolName}
-use Rattle.swreq_lexicon.specs.Lexicons.{associated_types, pair}
-use Rattle.swreq_lexicon.specs.Views.{LexiconView}
-use Rattle.swreq_symbols.specs.Meaning.{associated_at}
-use Rattle.swreq_symbols.proofs.Declared.{at_rank}
+use Rattle.swreq_valid.specs.swreq_param.declared.ids.AssocId.{AssocId}
+use Rattle.swreq_valid.specs.swreq_param.declared.ids.NameId.{NameId}
+use Rattle.swreq_valid.specs.swreq_param.declared.ids.ProtoId.{ProtoId}
+use Rattle.swreq_valid.specs.swreq_param.Terms.{Term, self}
+use Rattle.swreq_valid.specs.swreq_param.Terms.Term.{Generic, Member}
+use Rattle.swreq_valid.specs.swreq_derive.Derivation.{Declares, Derivable, TermFacts, TermRequirement, for_self}
+use Rattle.swreq_valid.specs.swreq_derive.Derivation.Derives.{conf, same, layout, assoc_bind, assoc_conf, assoc_same, assoc_layout, reflex, symm, trans, same_conf, same_layout, same_name, same_decl}
+use Rattle.swreq_valid.specs.swreq_derive.Derivation.Source.{SelfOf}
+use Rattle.swreq_valid.specs.swreq_derive.Derivation.TermRequirement.{Conforms, IsAnyObject, Equals}
+use Rattle.swreq_valid.specs.swreq_derive.Derivation.TermStatement.{Requires}
+use Rattle.swreq_valid.specs.swreq_derive.Kept.{Owned, owned_by, owned_facts}
+use Rattle.swreq_valid.specs.swreq_lexicon.declared.pair.ProtocolName.{ProtocolName}
+use Rattle.swreq_valid.specs.swreq_lexicon.Lexicons.{associated_types, pair}
+use Rattle.swreq_valid.specs.swreq_lexicon.Views.{LexiconView}
+use Rattle.swreq_valid.specs.swreq_symbols.Meaning.{associated_at}
+use Rattle.swreq_valid.proofs.swreq_symbols.Declared.{at_rank}
 use Rattle.swreq_reqsig.specs.Families.{own}
 use Rattle.swreq_reqsig.specs.Reaching.Reaches.{by_conformance, itself}
 use Rattle.swreq_reqsig.specs.Saying.{BearsOn, IsUnsaid, SaysConforms, SaysEqual, SaysObject, last_name}

@@ -1,10 +1,10 @@
 -- What is asked of a requirement: whether it is seen without rounds that it does not follow, and of which others it is asked.
 use Rattle.std.specs.Prelude.{◌≡◌, ◌⊎◌, ℕ, Bool, List, Some, slice_get}
-use Rattle.swreq_param.specs.declared.ids.ProtoId.{ProtoId}
-use Rattle.swreq_param.specs.Terms.{Term}
-use Rattle.swreq_derive.specs.Derivation.TermRequirement.{Conforms}
-use Rattle.swreq_derive.specs.Kept.{Owned}
-use Rattle.swreq_world.specs.Worlds.{TextWorld}
+use Rattle.swreq_valid.specs.swreq_param.declared.ids.ProtoId.{ProtoId}
+use Rattle.swreq_valid.specs.swreq_param.Terms.{Term}
+use Rattle.swreq_valid.specs.swreq_derive.Derivation.TermRequirement.{Conforms}
+use Rattle.swreq_valid.specs.swreq_derive.Kept.{Owned}
+use Rattle.swreq_valid.specs.swreq_world.Worlds.{TextWorld}
 use Rattle.swreq_reqsig.specs.Families.{family_of, owned}
 use Rattle.swreq_reqsig.specs.Reaching.{AreReachedFlags, Reaches}
 use Rattle.swreq_reqsig.specs.Saying.{IsUnsaid}

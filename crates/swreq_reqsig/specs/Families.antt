@@ -1,19 +1,19 @@
 -- The requirements of the protocols of a world in one list, and families of requirement signatures.
 use Rattle.std.specs.Prelude.{◌≡◌, ◌↔◌, ℕ, ◌-◌, suc, Bool, true, false, List, [], ◌∷◌, ◌++◌, Contains, length, map, take, drop}
-use Rattle.swreq_param.specs.declared.ids.ProtoId.{ProtoId}
-use Rattle.swreq_derive.specs.Derivation.{AssociatedType, Derivable, TermRequirement, TermStatement}
-use Rattle.swreq_derive.specs.Derivation.Source.{SelfOf}
-use Rattle.swreq_derive.specs.Derivation.TermStatement.{Requires}
-use Rattle.swreq_derive.specs.Kept.{Owned, owned_facts}
-use Rattle.swreq_lowering.specs.Heads.{IsOverSelf}
-use Rattle.swreq_rounds.specs.Plan.{Plan}
-use Rattle.swreq_rounds.specs.Presents.{AreProtocolRules}
-use Rattle.swreq_symbols.specs.Meaning.{facts_of, symbols_of}
+use Rattle.swreq_valid.specs.swreq_param.declared.ids.ProtoId.{ProtoId}
+use Rattle.swreq_valid.specs.swreq_derive.Derivation.{AssociatedType, Derivable, TermRequirement, TermStatement}
+use Rattle.swreq_valid.specs.swreq_derive.Derivation.Source.{SelfOf}
+use Rattle.swreq_valid.specs.swreq_derive.Derivation.TermStatement.{Requires}
+use Rattle.swreq_valid.specs.swreq_derive.Kept.{Owned, owned_facts}
+use Rattle.swreq_valid.specs.swreq_lowering.Heads.{IsOverSelf}
+use Rattle.swreq_valid.specs.swreq_rounds.Plan.{Plan}
+use Rattle.swreq_valid.specs.swreq_rounds.Presents.{AreProtocolRules}
+use Rattle.swreq_valid.specs.swreq_symbols.Meaning.{facts_of, symbols_of}
 use Rattle.swreq_valid.specs.Flags.{chosen}
 use Rattle.swreq_valid.specs.Keeping.{TellUsable, kept_facts, kept_plan}
 use Rattle.swreq_valid.specs.Protocols.{ProtocolsView}
 use Rattle.swreq_valid.specs.Rounds.{last_rules}
-use Rattle.swreq_world.specs.Worlds.{TextWorld, WorldOver, requirements_of}
+use Rattle.swreq_valid.specs.swreq_world.Worlds.{TextWorld, WorldOver, requirements_of}
 use Rattle.swreq_reqsig.specs.GoingThrough.{AreGiven}
 
 -- ---- the requirements of all protocols

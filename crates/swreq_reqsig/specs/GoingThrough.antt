@@ -3,8 +3,8 @@
 -- The requirements of all protocols stand in one list, protocols and requirements in written order, and a flag for each says whether it is
 -- kept. Requirements that are written twice are so told apart.
 use Rattle.std.specs.Prelude.{◌≡◌, ◌⊎◌, ℕ, suc, Bool, true, false, List, length, replicate, slice_set}
-use Rattle.swreq_derive.specs.Derivation.{AssociatedType}
-use Rattle.swreq_derive.specs.Kept.{DeriveTheSame, Owned}
+use Rattle.swreq_valid.specs.swreq_derive.Derivation.{AssociatedType}
+use Rattle.swreq_valid.specs.swreq_derive.Kept.{DeriveTheSame, Owned}
 use Rattle.swreq_valid.specs.Flags.{chosen}
 
 -- all are kept

@@ -1,6 +1,6 @@
 -- Where requirements name a last name, as the code keeps the places.
 use Rattle.std.specs.Prelude.{◌≡◌, ◌⊎◌, ◌↔◌, ◌<◌, ℕ, suc, List, [], Option, Some, None, Contains, length, slice_get, slice_index_or}
-use Rattle.swreq_param.specs.declared.ids.NameId.{NameId}
+use Rattle.swreq_valid.specs.swreq_param.declared.ids.NameId.{NameId}
 use Rattle.swreq_reqsig.specs.declared.outlines.Outline.{Outline}
 use Rattle.swreq_reqsig.specs.declared.outlines.Outline.TheVariants.{Conformance, Object, Equality}
 

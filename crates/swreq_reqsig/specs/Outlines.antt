@@ -1,11 +1,11 @@
 -- Requirements of which each type parameter is known by its last name alone, as the code goes through them.
 use Rattle.std.specs.Prelude.{◌≡◌, ◌⊎◌, ◌<◌, ◌↔◌, ℕ, Bool, true, List, Option, Some, None, length, map, slice_get}
-use Rattle.swreq_param.specs.declared.ids.NameId.{NameId}
-use Rattle.swreq_param.specs.declared.ids.ProtoId.{ProtoId}
-use Rattle.swreq_derive.specs.Derivation.{TermRequirement}
-use Rattle.swreq_derive.specs.Derivation.TermRequirement.{Conforms, IsAnyObject, Equals}
-use Rattle.swreq_derive.specs.Kept.{Owned}
-use Rattle.swreq_lexicon.specs.Views.{LexiconView}
+use Rattle.swreq_valid.specs.swreq_param.declared.ids.NameId.{NameId}
+use Rattle.swreq_valid.specs.swreq_param.declared.ids.ProtoId.{ProtoId}
+use Rattle.swreq_valid.specs.swreq_derive.Derivation.{TermRequirement}
+use Rattle.swreq_valid.specs.swreq_derive.Derivation.TermRequirement.{Conforms, IsAnyObject, Equals}
+use Rattle.swreq_valid.specs.swreq_derive.Kept.{Owned}
+use Rattle.swreq_valid.specs.swreq_lexicon.Views.{LexiconView}
 use Rattle.swreq_reqsig.specs.declared.outlines.Kind.{Kind}
 use Rattle.swreq_reqsig.specs.declared.outlines.Kind.TheVariants.{IsObject, IsEqual}
 use Rattle.swreq_reqsig.specs.declared.outlines.Outline.{Outline}

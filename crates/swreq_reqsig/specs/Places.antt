@@ -1,13 +1,13 @@
 -- The requirements of all protocols in one list, as the code keeps them.
 use Rattle.std.specs.Prelude.{◌≡◌, ℕ, suc, List, [], ◌∷◌, ◌++◌, Some, slice_get}
-use Rattle.swreq_param.specs.declared.ids.ProtoId.{ProtoId}
-use Rattle.swreq_param.specs.Terms.{Term}
-use Rattle.swreq_derive.specs.declared.requirements.Requirement.{Requirement}
-use Rattle.swreq_derive.specs.Facts.{requirement_of}
-use Rattle.swreq_derive.specs.Kept.{Owned}
-use Rattle.swreq_lexicon.specs.Views.{IsProtocol}
+use Rattle.swreq_valid.specs.swreq_param.declared.ids.ProtoId.{ProtoId}
+use Rattle.swreq_valid.specs.swreq_param.Terms.{Term}
+use Rattle.swreq_valid.specs.swreq_derive.declared.requirements.Requirement.{Requirement}
+use Rattle.swreq_valid.specs.swreq_derive.Facts.{requirement_of}
+use Rattle.swreq_valid.specs.swreq_derive.Kept.{Owned}
+use Rattle.swreq_valid.specs.swreq_lexicon.Views.{IsProtocol}
 use Rattle.swreq_valid.specs.Plans.{bare}
-use Rattle.swreq_world.specs.Worlds.{IdWorld, requirements_of}
+use Rattle.swreq_valid.specs.swreq_world.Worlds.{IdWorld, requirements_of}
 use Rattle.swreq_reqsig.specs.declared.places.Place.{Place}
 use Rattle.swreq_reqsig.specs.Families.{own}
 

@@ -1,12 +1,12 @@
 -- Which protocols a protocol reaches, and the part of a family that is of these.
 use Rattle.std.specs.Prelude.{◌≡◌, ◌↔◌, ℕ, Bool, true, List, Contains, Some, length, slice_get}
-use Rattle.swreq_param.specs.declared.ids.ProtoId.{ProtoId}
-use Rattle.swreq_param.specs.Terms.{Term}
-use Rattle.swreq_derive.specs.Derivation.{AssociatedType, Derivable, TermStatement}
-use Rattle.swreq_derive.specs.Derivation.Source.{SelfOf}
-use Rattle.swreq_derive.specs.Derivation.TermRequirement.{Conforms}
-use Rattle.swreq_derive.specs.Derivation.TermStatement.{Requires}
-use Rattle.swreq_derive.specs.Kept.{Owned, owned_facts}
+use Rattle.swreq_valid.specs.swreq_param.declared.ids.ProtoId.{ProtoId}
+use Rattle.swreq_valid.specs.swreq_param.Terms.{Term}
+use Rattle.swreq_valid.specs.swreq_derive.Derivation.{AssociatedType, Derivable, TermStatement}
+use Rattle.swreq_valid.specs.swreq_derive.Derivation.Source.{SelfOf}
+use Rattle.swreq_valid.specs.swreq_derive.Derivation.TermRequirement.{Conforms}
+use Rattle.swreq_valid.specs.swreq_derive.Derivation.TermStatement.{Requires}
+use Rattle.swreq_valid.specs.swreq_derive.Kept.{Owned, owned_facts}
 use Rattle.swreq_valid.specs.Flags.{chosen}
 use Rattle.swreq_reqsig.specs.Families.{own}
 

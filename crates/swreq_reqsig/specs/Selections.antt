@@ -1,7 +1,7 @@
 -- Selections of the requirements of the protocols.
 use Rattle.std.specs.Prelude.{◌≡◌, List, length}
-use Rattle.swreq_derive.specs.Kept.{Owned}
-use Rattle.swreq_lexicon.specs.Views.{LexiconView}
+use Rattle.swreq_valid.specs.swreq_derive.Kept.{Owned}
+use Rattle.swreq_valid.specs.swreq_lexicon.Views.{LexiconView}
 use Rattle.swreq_reqsig.specs.declared.selection.Selection.{Selection}
 use Rattle.swreq_reqsig.specs.Families.{family_of}
 use Rattle.swreq_reqsig.specs.Places.{all_places}

@@ -1,11 +1,11 @@
 -- What families are asked over.
 use Rattle.std.specs.Prelude.{◌≡◌}
-use Rattle.swreq_derive.specs.WellFormed.{AreProtocolsWellFormed}
-use Rattle.swreq_complete.specs.Limits.{AreInRange}
-use Rattle.swreq_symbols.specs.Known.{IsTextOver}
-use Rattle.swreq_symbols.specs.Meaning.{facts_of}
-use Rattle.swreq_world.specs.ByTable.{world_by}
-use Rattle.swreq_world.specs.Worlds.{TextWorld}
+use Rattle.swreq_valid.specs.swreq_derive.WellFormed.{AreProtocolsWellFormed}
+use Rattle.swreq_valid.specs.swreq_complete.Limits.{AreInRange}
+use Rattle.swreq_valid.specs.swreq_symbols.Known.{IsTextOver}
+use Rattle.swreq_valid.specs.swreq_symbols.Meaning.{facts_of}
+use Rattle.swreq_valid.specs.swreq_world.ByTable.{world_by}
+use Rattle.swreq_valid.specs.swreq_world.Worlds.{TextWorld}
 use Rattle.swreq_reqsig.specs.declared.setting.Setting.{Setting}
 use Rattle.swreq_reqsig.specs.Families.{owned}
 use Rattle.swreq_reqsig.specs.Named.{AreNamed}

@@ -1,13 +1,13 @@
 -- The texts of requirement signatures.
 use Rattle.std.specs.Prelude.{ℕ, List, [], ◌∷◌, ◌++◌, codes, map}
 use Rattle.swreq_text.specs.Joined.{joined}
-use Rattle.swreq_param.specs.declared.ids.ProtoId.{ProtoId}
-use Rattle.swreq_derive.specs.Derivation.{TermRequirement}
-use Rattle.swreq_lexicon.specs.Views.{LexiconView}
+use Rattle.swreq_valid.specs.swreq_param.declared.ids.ProtoId.{ProtoId}
+use Rattle.swreq_valid.specs.swreq_derive.Derivation.{TermRequirement}
+use Rattle.swreq_valid.specs.swreq_lexicon.Views.{LexiconView}
 use Rattle.swreq_print.specs.Names.{Text, protocol_name}
 use Rattle.swreq_print.specs.Signatures.{self_text}
-use Rattle.swreq_symbols.specs.Meaning.{facts_of}
-use Rattle.swreq_world.specs.Worlds.{TextWorld}
+use Rattle.swreq_valid.specs.swreq_symbols.Meaning.{facts_of}
+use Rattle.swreq_valid.specs.swreq_world.Worlds.{TextWorld}
 use Rattle.swreq_reqsig.specs.Families.{numbered}
 
 -- ` where ` and the requirements with `Self` for the generic parameter, where there are any

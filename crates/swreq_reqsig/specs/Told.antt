@@ -1,14 +1,14 @@
 -- What the rounds come to that are run for the requirements of the protocols, going through them.
 use Rattle.std.specs.Prelude.{◌≡◌, ◌⊎◌, ℕ, suc, Bool, List, [], ◌++◌, length, Option, Result, Ok, Err}
-use Rattle.swreq_rule.specs.declared.rules.Rule.{Rule}
-use Rattle.swreq_watch.specs.declared.events.Event.{Event}
-use Rattle.swreq_watch.specs.Told.{GrewBy}
-use Rattle.swreq_complete.specs.declared.limit.Limits.{Limits}
-use Rattle.swreq_complete.specs.declared.limit.Which.{Which}
-use Rattle.swreq_complete.specs.declared.limit.Failed.{Failed}
-use Rattle.swreq_complete.specs.declared.limit.Failed.TheVariants.{Limit, Memory}
-use Rattle.swreq_rounds.specs.Rounds.{ComesTo, IsOutcome}
-use Rattle.swreq_world.specs.Worlds.{TextWorld}
+use Rattle.swreq_print.specs.swreq_rule.declared.rules.Rule.{Rule}
+use Rattle.swreq_valid.specs.swreq_watch.declared.events.Event.{Event}
+use Rattle.swreq_valid.specs.swreq_watch.Told.{GrewBy}
+use Rattle.swreq_valid.specs.swreq_complete.declared.limit.Limits.{Limits}
+use Rattle.swreq_valid.specs.swreq_complete.declared.limit.Which.{Which}
+use Rattle.swreq_valid.specs.swreq_complete.declared.limit.Failed.{Failed}
+use Rattle.swreq_valid.specs.swreq_complete.declared.limit.Failed.TheVariants.{Limit, Memory}
+use Rattle.swreq_valid.specs.swreq_rounds.Rounds.{ComesTo, IsOutcome}
+use Rattle.swreq_valid.specs.swreq_world.Worlds.{TextWorld}
 use Rattle.swreq_reqsig.specs.declared.family.Family.{Family}
 use Rattle.swreq_reqsig.specs.Families.{associated_types_of, family_plan, numbers, owned}
 use Rattle.swreq_reqsig.specs.GoingThrough.{IsDecided, all_kept, without}

@@ -1,19 +1,10 @@
 //! Whether one requirement stays.
 ghost use Rattle.std.specs.Prelude.{◌≡◌, ◌↔◌, ◌<◌, suc, Err, IfErr, IfOk, IsTrue, List, Ok, OnOk, Some, length, slice_get};
-ghost use Rattle.swreq_derive.specs.Derivation.{Derivable};
-ghost use Rattle.swreq_derive.specs.Derivation.Source.{SelfOf};
-ghost use Rattle.swreq_derive.specs.Derivation.TermStatement.{Requires};
-ghost use Rattle.swreq_derive.specs.Facts.{requirement_of};
-ghost use Rattle.swreq_derive.specs.Kept.{owned_facts};
-ghost use Rattle.swreq_rule.specs.declared.rules.Rule.{Rule};
-ghost use Rattle.swreq_watch.specs.declared.events.Event.{Event};
-ghost use Rattle.swreq_watch.specs.Told.{GrewBy};
+ghost use Rattle.swreq_valid.specs.swreq_derive.{Derivation.{Derivable}, Derivation.Source.{SelfOf}, Derivation.TermStatement.{Requires}, Facts.{requirement_of}, Kept.{owned_facts}};
+ghost use Rattle.swreq_print.specs.swreq_rule.declared.rules.Rule.{Rule};
+ghost use Rattle.swreq_valid.specs.swreq_watch.{declared.events.Event.{Event}, Told.{GrewBy}};
 ghost use Rattle.swreq_valid.specs.Answers.{Answers};
-ghost use Rattle.swreq_reqsig.specs.Families.{DerivesWith, associated_types_of, family_of, family_plan, owned};
-ghost use Rattle.swreq_reqsig.specs.GoingThrough.{AreKept, without};
-ghost use Rattle.swreq_reqsig.specs.Places.{IsPlaceIn, all_places};
-ghost use Rattle.swreq_reqsig.specs.Settings.{IsSetting, text_in};
-ghost use Rattle.swreq_reqsig.specs.Told.{FailsAt, IsSettled, MeetsFamily};
+ghost use Rattle.swreq_reqsig.specs.{Families.{DerivesWith, associated_types_of, family_of, family_plan, owned}, GoingThrough.{AreKept, without}, Places.{IsPlaceIn, all_places}, Settings.{IsSetting, text_in}, Told.{FailsAt, IsSettled, MeetsFamily}};
 
 use crate::derived::is_derivable;
 use crate::flags::kept_by;
@@ -22,9 +13,9 @@ use crate::reaching::asked;
 use crate::selection::Selection;
 use crate::setting::Setting;
 use std::alloc::Global;
-use swreq_complete::Failed;
 use swreq_valid::Protocols;
-use swreq_watch::Watch;
+use swreq_valid::complete::Failed;
+use swreq_valid::watch::Watch;
 
 /// Whether a requirement is derivable with those alone whose flags are set. The watcher is told the events of their rounds.
 fn is_derivable_with<W: Watch>(

@@ -1,18 +1,13 @@
 //! Whether a requirement of a protocol is derivable by those that are kept.
 ghost use Rattle.std.specs.Prelude.{◌↔◌, Bool, IfOk, IsTrue, List};
-ghost use Rattle.swreq_derive.specs.Derivation.{Derivable};
-ghost use Rattle.swreq_derive.specs.Derivation.Source.{SelfOf};
-ghost use Rattle.swreq_derive.specs.Derivation.TermStatement.{Requires};
-ghost use Rattle.swreq_derive.specs.Facts.{requirement_of};
+ghost use Rattle.swreq_valid.specs.swreq_derive.{Derivation.{Derivable}, Derivation.Source.{SelfOf}, Derivation.TermStatement.{Requires}, Facts.{requirement_of}};
 ghost use Rattle.swreq_valid.specs.Keeping.{kept_facts};
-ghost use Rattle.swreq_reqsig.specs.Families.{AreRulesOfKept};
-ghost use Rattle.swreq_reqsig.specs.Places.{IsPlaceIn};
-ghost use Rattle.swreq_reqsig.specs.Settings.{IsSetting, text_in};
+ghost use Rattle.swreq_reqsig.specs.{Families.{AreRulesOfKept}, Places.{IsPlaceIn}, Settings.{IsSetting, text_in}};
 
 use crate::places::Place;
 use crate::setting::Setting;
 use std::alloc::{AllocError, Global};
-use swreq_symbols::equation;
+use swreq_valid::symbols::equation;
 use swreq_valid::{Protocols, are_linked};
 
 /// Whether a requirement of a protocol is derivable by the kept requirements of which the rules were made: whether it is usable by them,

@@ -1,16 +1,15 @@
 //! Flags for the requirements of all protocols, in a list for each protocol.
 ghost use Rattle.std.specs.Prelude.{◌≡◌, IfOk, drop, length, take};
 ghost use Rattle.swreq_valid.specs.Keeping.{AreFlags};
-ghost use Rattle.swreq_world.specs.Closed.{AreIds};
-ghost use Rattle.swreq_reqsig.specs.Families.{flag_lists, numbers, numbers_from};
-ghost use Rattle.swreq_reqsig.specs.Places.{all_places};
+ghost use Rattle.swreq_valid.specs.swreq_world.Closed.{AreIds};
+ghost use Rattle.swreq_reqsig.specs.{Families.{flag_lists, numbers, numbers_from}, Places.{all_places}};
 
 use crate::family::Family;
 use crate::places::number;
 use std::alloc::{AllocError, Global};
 use swreq_text::Seq;
 use swreq_valid::Kept;
-use swreq_world::World;
+use swreq_valid::world::World;
 
 /// The first `count` flags, or all if there are fewer.
 fn take_flags(flags: &[bool], count: usize) -> &[bool]

@@ -1,17 +1,14 @@
 //! Going through the requirements of the protocols, from the last to the first.
 ghost use Rattle.std.specs.Prelude.{◌≡◌, Err, IfErr, IfOk, List, replicate, true};
-ghost use Rattle.swreq_watch.specs.declared.events.Event.{Event};
-ghost use Rattle.swreq_watch.specs.Told.{GrewBy};
-ghost use Rattle.swreq_reqsig.specs.Places.{all_places};
-ghost use Rattle.swreq_reqsig.specs.Settings.{IsSetting, text_in};
-ghost use Rattle.swreq_reqsig.specs.Told.{AnswersFamily, WasReduced};
+ghost use Rattle.swreq_valid.specs.swreq_watch.{declared.events.Event.{Event}, Told.{GrewBy}};
+ghost use Rattle.swreq_reqsig.specs.{Places.{all_places}, Settings.{IsSetting, text_in}, Told.{AnswersFamily, WasReduced}};
 
 use crate::deciding::drop_if_derivable;
 use crate::places::Place;
 use crate::setting::Setting;
 use std::alloc::{AllocError, Global};
-use swreq_complete::Failed;
-use swreq_watch::Watch;
+use swreq_valid::complete::Failed;
+use swreq_valid::watch::Watch;
 
 /// `count` flags, all of them set.
 fn all_set(alloc: Global, count: usize) -> Result<Vec<bool>, AllocError>

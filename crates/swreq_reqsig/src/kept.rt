@@ -1,12 +1,10 @@
 //! The family of requirement signatures that is given.
 ghost use Rattle.std.specs.Prelude.{◌≡◌, IfOk, length};
-ghost use Rattle.swreq_derive.specs.WellFormed.{AreProtocolsWellFormed};
-ghost use Rattle.swreq_complete.specs.Limits.{AreInRange};
-ghost use Rattle.swreq_symbols.specs.Known.{IsTextOver};
-ghost use Rattle.swreq_symbols.specs.Meaning.{facts_of};
-ghost use Rattle.swreq_world.specs.ByTable.{world_by};
-ghost use Rattle.swreq_reqsig.specs.Families.{AreRequirementSignatures, IsGivenFamily, members};
-ghost use Rattle.swreq_reqsig.specs.Told.{AnswersFamily, IsOnlyFamily};
+ghost use Rattle.swreq_valid.specs.swreq_derive.WellFormed.{AreProtocolsWellFormed};
+ghost use Rattle.swreq_valid.specs.swreq_complete.Limits.{AreInRange};
+ghost use Rattle.swreq_valid.specs.swreq_symbols.{Known.{IsTextOver}, Meaning.{facts_of}};
+ghost use Rattle.swreq_valid.specs.swreq_world.ByTable.{world_by};
+ghost use Rattle.swreq_reqsig.specs.{Families.{AreRequirementSignatures, IsGivenFamily, members}, Told.{AnswersFamily, IsOnlyFamily}};
 
 use crate::family::Family;
 use crate::flags::family_of;
@@ -16,10 +14,10 @@ use crate::outlines::outlines;
 use crate::places::all_places;
 use crate::setting::Setting;
 use std::alloc::Global;
-use swreq_complete::{Failed, Limits};
-use swreq_param::ParamTable;
-use swreq_watch::Watch;
-use swreq_world::World;
+use swreq_valid::complete::{Failed, Limits};
+use swreq_valid::param::ParamTable;
+use swreq_valid::watch::Watch;
+use swreq_valid::world::World;
 
 /// The family of requirement signatures of a text whose protocols are well formed.
 ///

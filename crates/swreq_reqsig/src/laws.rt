@@ -1,14 +1,10 @@
 //! Laws on requirement signatures, over the definitions alone.
 ghost use Rattle.std.specs.Prelude.{◌≡◌, ◌++◌, ◌∷◌, [], ℕ, List};
-ghost use Rattle.swreq_derive.specs.Kept.{DeriveTheSame, Keeps, Owned};
-ghost use Rattle.swreq_derive.specs.WellFormed.{AreProtocolsWellFormed};
-ghost use Rattle.swreq_symbols.specs.Meaning.{facts_of};
-ghost use Rattle.swreq_world.specs.Closed.{IsClosed};
-ghost use Rattle.swreq_world.specs.Worlds.{TextWorld};
+ghost use Rattle.swreq_valid.specs.swreq_derive.{Kept.{DeriveTheSame, Keeps, Owned}, WellFormed.{AreProtocolsWellFormed}};
+ghost use Rattle.swreq_valid.specs.swreq_symbols.Meaning.{facts_of};
+ghost use Rattle.swreq_valid.specs.swreq_world.{Closed.{IsClosed}, Worlds.{TextWorld}};
 ghost use Rattle.swreq_valid.specs.Sides.{HoldsOfEach, IsValidSide, protocol_sides};
-ghost use Rattle.swreq_reqsig.specs.Families.{AreRequirementSignatures, IsGivenFamily, associated_types_of, members, owned};
-ghost use Rattle.swreq_reqsig.specs.Reaching.{ConformsByReach, DerivesByReach, FlagsGivePart};
-ghost use Rattle.swreq_reqsig.specs.Saying.{UnsaidIsNotDerivable};
+ghost use Rattle.swreq_reqsig.specs.{Families.{AreRequirementSignatures, IsGivenFamily, associated_types_of, members, owned}, Reaching.{ConformsByReach, DerivesByReach, FlagsGivePart}, Saying.{UnsaidIsNotDerivable}};
 
 /// What is left of the requirements, going through them by flags, is what is kept of their list.
 pub fn given_family_is_kept()

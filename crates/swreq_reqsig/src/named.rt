@@ -4,8 +4,8 @@ ghost use Rattle.swreq_reqsig.specs.Named.{AreNamed, AreNoted, HasLists, HaveLis
 
 use crate::outlines::Outline;
 use std::alloc::{AllocError, Global};
-use swreq_param::NameId;
-use swreq_rank::Lists;
+use swreq_print::rank::Lists;
+use swreq_valid::param::NameId;
 
 /// The list of a last name: that of `Self` is the first, and then come those of the names, by rank.
 pub(crate) fn list_of(name: Option<NameId>) -> usize

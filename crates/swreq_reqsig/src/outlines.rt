@@ -1,19 +1,15 @@
 //! Requirements of which each type parameter is known by its last name alone.
 ghost use Rattle.std.specs.Prelude.{◌≡◌, IfOk};
-ghost use Rattle.swreq_param.specs.Tables.{term_at};
-ghost use Rattle.swreq_symbols.specs.Known.{IsRequirementIn, IsTextOver, IsTypeIn};
-ghost use Rattle.swreq_world.specs.ByTable.{world_by};
-ghost use Rattle.swreq_reqsig.specs.Families.{owned};
-ghost use Rattle.swreq_reqsig.specs.Outlines.{outline_of, outlines_of};
-ghost use Rattle.swreq_reqsig.specs.Places.{all_places, owned_at};
-ghost use Rattle.swreq_world.specs.Closed.{IsStepOf};
-ghost use Rattle.swreq_reqsig.specs.Saying.{last_name, name_of};
+ghost use Rattle.swreq_valid.specs.swreq_param.Tables.{term_at};
+ghost use Rattle.swreq_valid.specs.swreq_symbols.Known.{IsRequirementIn, IsTextOver, IsTypeIn};
+ghost use Rattle.swreq_valid.specs.swreq_world.{ByTable.{world_by}, Closed.{IsStepOf}};
+ghost use Rattle.swreq_reqsig.specs.{Families.{owned}, Outlines.{outline_of, outlines_of}, Places.{all_places, owned_at}, Saying.{last_name, name_of}};
 
 use crate::places::Place;
 use std::alloc::{AllocError, Global};
-use swreq_derive::Requirement;
-use swreq_param::{NameId, ParamTable, ProtoId, Step, TermId};
-use swreq_world::World;
+use swreq_valid::derive::Requirement;
+use swreq_valid::param::{NameId, ParamTable, ProtoId, Step, TermId};
+use swreq_valid::world::World;
 
 /// A requirement of a protocol, with the last names of its type parameters in place of these. The bare `Self` has none.
 ///

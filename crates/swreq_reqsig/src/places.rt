@@ -1,12 +1,12 @@
 //! The requirements of all protocols in one list.
 ghost use Rattle.std.specs.Prelude.{◌≡◌, ◌++◌, IfOk, OnOk};
-ghost use Rattle.swreq_world.specs.Closed.{AreIds};
+ghost use Rattle.swreq_valid.specs.swreq_world.Closed.{AreIds};
 ghost use Rattle.swreq_reqsig.specs.Places.{all_places, places_from};
 
 use std::alloc::{AllocError, Global};
-use swreq_derive::Requirement;
-use swreq_param::ProtoId;
-use swreq_world::World;
+use swreq_valid::derive::Requirement;
+use swreq_valid::param::ProtoId;
+use swreq_valid::world::World;
 
 /// A requirement of a protocol, with its number among those of the protocol, from 1.
 #[derive(Clone, Copy, Debug)]

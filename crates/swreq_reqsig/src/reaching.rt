@@ -1,19 +1,15 @@
 //! Which protocols a protocol reaches by the requirements that are kept, and which requirements are of these.
 ghost use Rattle.std.specs.Prelude.{◌≡◌, ◌<◌, ◌&&◌, false, true, IfOk, List, MatchOption, length, slice_get, slice_index_or, slice_set, Some, replicate};
-ghost use Rattle.swreq_param.specs.Terms.{Term};
-ghost use Rattle.swreq_param.specs.declared.ids.TermId.{TermId};
-ghost use Rattle.swreq_derive.specs.declared.requirements.Requirement.TheVariants.{Conf};
-ghost use Rattle.swreq_reqsig.specs.Marks.{HasPassed, HasRanksBelow, HaveRanksBelow, IsClosedAt, IsMarked, IsMarkedBy, TellLed, TellReached, kept_at, marked};
-ghost use Rattle.swreq_reqsig.specs.Asked.{AreAsked, IsBeyond};
-ghost use Rattle.swreq_reqsig.specs.Selections.{IsSelection};
-ghost use Rattle.swreq_reqsig.specs.Settings.{text_in};
+ghost use Rattle.swreq_valid.specs.swreq_param.{Terms.{Term}, declared.ids.TermId.{TermId}};
+ghost use Rattle.swreq_valid.specs.swreq_derive.declared.requirements.Requirement.TheVariants.{Conf};
+ghost use Rattle.swreq_reqsig.specs.{Marks.{HasPassed, HasRanksBelow, HaveRanksBelow, IsClosedAt, IsMarked, IsMarkedBy, TellLed, TellReached, kept_at, marked}, Asked.{AreAsked, IsBeyond}, Selections.{IsSelection}, Settings.{text_in}};
 
 use crate::places::Place;
 use crate::saying::is_unsaid;
 use crate::selection::Selection;
 use std::alloc::{AllocError, Global};
-use swreq_derive::Requirement;
-use swreq_param::ProtoId;
+use swreq_valid::derive::Requirement;
+use swreq_valid::param::ProtoId;
 
 /// Whether a protocol is marked.
 pub(crate) fn is_marked(marks: &[bool], p: ProtoId) -> bool

@@ -1,19 +1,14 @@
 //! What a family says of type parameters with one last name, and which requirements it leaves unsaid.
 ghost use Rattle.std.specs.Prelude.{◌≡◌, ◌<◌, ◌↔◌, ◌⊎◌, Bool, IfOk, IsTrue, None, Some, length, slice_get, true};
-ghost use Rattle.swreq_derive.specs.Facts.{requirement_of};
-ghost use Rattle.swreq_reqsig.specs.declared.places.Place.{Place};
-ghost use Rattle.swreq_reqsig.specs.Marks.{IsMarked};
-ghost use Rattle.swreq_reqsig.specs.Outlines.{AreSaid, ArePlaces, BearsBy, HasProtocolBelow, HaveProtocolsBelow, IsMarkedToo, IsSaidAt, IsSaidBy, IsSaidIn, outline_in};
-ghost use Rattle.swreq_reqsig.specs.Named.{kept_for};
-ghost use Rattle.swreq_reqsig.specs.Saying.{IsUnsaid, SaysConforms, SaysEqual, SaysObject};
-ghost use Rattle.swreq_reqsig.specs.Selections.{IsSelection, lexicon_in, selected_in};
+ghost use Rattle.swreq_valid.specs.swreq_derive.Facts.{requirement_of};
+ghost use Rattle.swreq_reqsig.specs.{declared.places.Place.{Place}, Marks.{IsMarked}, Outlines.{AreSaid, ArePlaces, BearsBy, HasProtocolBelow, HaveProtocolsBelow, IsMarkedToo, IsSaidAt, IsSaidBy, IsSaidIn, outline_in}, Named.{kept_for}, Saying.{IsUnsaid, SaysConforms, SaysEqual, SaysObject}, Selections.{IsSelection, lexicon_in, selected_in}};
 
 use crate::named::list_of;
 use crate::outlines::{Kind, Outline};
 use crate::reaching::{close, is_any_marked, is_marked, none_marked};
 use crate::selection::Selection;
 use std::alloc::{AllocError, Global};
-use swreq_param::{NameId, ProtoId};
+use swreq_valid::param::{NameId, ProtoId};
 
 /// Whether two last names are one.
 fn is_same(a: Option<NameId>, b: Option<NameId>) -> bool

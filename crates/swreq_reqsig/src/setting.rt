@@ -1,9 +1,9 @@
 //! What families are asked over.
 use crate::outlines::Outline;
-use swreq_complete::Limits;
-use swreq_param::ParamTable;
-use swreq_rank::Lists;
-use swreq_world::World;
+use swreq_print::rank::Lists;
+use swreq_valid::complete::Limits;
+use swreq_valid::param::ParamTable;
+use swreq_valid::world::World;
 
 /// A text with what its protocols require by the last names of type parameters, and the limits of completions.
 #[derive(Clone, Copy)]

@@ -1,23 +1,20 @@
 //! The texts of requirement signatures.
-ghost use Rattle.std.specs.Prelude.{◌≡◌, ◌<◌, ◌-◌, ◌++◌, IfOk, OnErr, OnOk, drop, length, map, take};
-ghost use Rattle.std.specs.List.{All};
-ghost use Rattle.swreq_derive.specs.Facts.{requirement_of};
-ghost use Rattle.swreq_lowering.specs.ByTable.{HasIdsOf};
-ghost use Rattle.swreq_print.specs.Names.{protocol_name};
-ghost use Rattle.swreq_print.specs.Signatures.{self_text};
-ghost use Rattle.swreq_symbols.specs.Known.{IsTextOver};
-ghost use Rattle.swreq_world.specs.ByTable.{world_by};
-ghost use Rattle.swreq_reqsig.specs.Families.{numbered};
-ghost use Rattle.swreq_reqsig.specs.Texts.{family_text, kept_of, protocol_line, where_text};
+ghost use Rattle.std.specs.{Prelude.{◌≡◌, ◌<◌, ◌-◌, ◌++◌, IfOk, OnErr, OnOk, drop, length, map, take}, List.{All}};
+ghost use Rattle.swreq_valid.specs.swreq_derive.Facts.{requirement_of};
+ghost use Rattle.swreq_valid.specs.swreq_lowering.ByTable.{HasIdsOf};
+ghost use Rattle.swreq_print.specs.{Names.{protocol_name}, Signatures.{self_text}};
+ghost use Rattle.swreq_valid.specs.swreq_symbols.Known.{IsTextOver};
+ghost use Rattle.swreq_valid.specs.swreq_world.ByTable.{world_by};
+ghost use Rattle.swreq_reqsig.specs.{Families.{numbered}, Texts.{family_text, kept_of, protocol_line, where_text}};
 
 use crate::family::Family;
 use std::alloc::{AllocError, Global};
-use swreq_derive::Requirement;
-use swreq_lexicon::Lexicon;
-use swreq_param::{ParamTable, ProtoId};
+use swreq_print::lexicon::Lexicon;
 use swreq_print::self_text;
 use swreq_text::{Print, append_bytes, put_joined};
-use swreq_world::World;
+use swreq_valid::derive::Requirement;
+use swreq_valid::param::{ParamTable, ProtoId};
+use swreq_valid::world::World;
 
 /// What prints requirements of protocols over a table, with these names.
 #[derive(Drop)]

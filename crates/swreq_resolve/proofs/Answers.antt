@@ -3,9 +3,9 @@ use Rattle.std.proofs.Common.{◌≡◌, ℕ, zero, suc, ◌<◌, ◌⊎◌, inl
 use Rattle.std.proofs.lemmas.Bool.{cases_lt, cases_eq}
 use Rattle.std.proofs.lemmas.List.{length-map}
 use Rattle.std.proofs.lemmas.Option.{slice_get_cases}
-use Rattle.swreq_lemmas.proofs.Members.{no_member}
-use Rattle.swreq_lemmas.proofs.Numbers.{above}
-use Rattle.swreq_rank.proofs.Tests.{same_bool}
+use Rattle.swreq_names.proofs.swreq_lemmas.Members.{no_member}
+use Rattle.swreq_names.proofs.swreq_lemmas.Numbers.{above}
+use Rattle.swreq_names.proofs.swreq_rank.Tests.{same_bool}
 use Rattle.swreq_closure.specs.Chains.{leads}
 use Rattle.swreq_closure.proofs.Marks.{begins_within}
 use Rattle.swreq_decl.specs.declared.skeleton.ProtocolDecl.{ProtocolDecl}

@@ -2,12 +2,12 @@
 use Rattle.std.proofs.Common.{◌≡◌, ℕ, zero, suc, ◌≤◌, inl, inr, ⊎_elim, List, [], ◌∷◌, ◌++◌, map, get_or, Contains, sym, ap, subst, ◌∙◌, arith}
 use Rattle.std.specs.List.{AllByRecursion, filter_map}
 use Rattle.std.specs.Str.{chars}
-use Rattle.swreq_lemmas.proofs.Members.{no_member, first_member, later_member, member_cases}
+use Rattle.swreq_names.proofs.swreq_lemmas.Members.{no_member, first_member, later_member, member_cases}
 use Rattle.swreq_lex.specs.declared.token.Token as lexed
 use Rattle.swreq_lex.specs.Slices.{AreSlices, next}
 use Rattle.swreq_lex.specs.Tokens.{HasTokens, first_offset}
-use Rattle.swreq_grammar.specs.declared.token.Token.{Token}
-use Rattle.swreq_grammar.specs.Grammar.{Limit, Matches, Parts, terminal, mapped, sequence, alternative, repetition}
+use Rattle.swreq_decl.specs.swreq_grammar.declared.token.Token.{Token}
+use Rattle.swreq_decl.specs.swreq_grammar.Grammar.{Limit, Matches, Parts, terminal, mapped, sequence, alternative, repetition}
 use Rattle.swreq_decl.specs.declared.terminal.Terminal.{Terminal}
 use Rattle.swreq_decl.specs.declared.kind.Kind.{Kind}
 use Rattle.swreq_decl.specs.declared.skeleton.Span.{Span}

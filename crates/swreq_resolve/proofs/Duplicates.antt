@@ -1,7 +1,7 @@
 -- What a test refuses, and the names that are declared twice.
 use Rattle.std.proofs.Common.{◌≡◌, ⊎_elim, ℕ, Bool, true, false, not, List, [], ◌++◌, Contains, refl, sym, true≢false}
 use Rattle.std.proofs.lemmas.List.Elements.{Contains-append_left, Contains-append_right, Contains-append_cases}
-use Rattle.swreq_lemmas.proofs.Members.{no_member, first_member, only_member}
+use Rattle.swreq_names.proofs.swreq_lemmas.Members.{no_member, first_member, only_member}
 use Rattle.swreq_names.specs.declared.directory.Declaration.{Declaration}
 use Rattle.swreq_names.specs.Spaces.{is_declared_before}
 use Rattle.swreq_resolve.specs.declared.refusal.Fault.{Fault}

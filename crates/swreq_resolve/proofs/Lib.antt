@@ -1,3 +1,6 @@
+pub use Rattle.swreq_closure.proofs as swreq_closure
+pub use Rattle.swreq_decl.proofs as swreq_decl
+pub use Rattle.swreq_names.proofs as swreq_names
 pub mod Walks
 pub mod Order
 pub mod Answers

@@ -4,7 +4,7 @@ use Rattle.std.specs.Option.{option_map}
 use Rattle.std.proofs.lemmas.Bool.{ltb-true, cases_lt, cases_order, false_from_ne_true}
 use Rattle.std.proofs.lemmas.Option.{same_Some}
 use Rattle.std.proofs.lemmas.List.Elements.{Contains-append_left, Contains-append_right}
-use Rattle.swreq_lemmas.proofs.Elements.{get_contains}
+use Rattle.swreq_names.proofs.swreq_lemmas.Elements.{get_contains}
 use Rattle.swreq_decl.specs.declared.skeleton.Span.{Span}
 use Rattle.swreq_decl.specs.declared.skeleton.Skeleton.{Skeleton}
 use Rattle.swreq_names.specs.declared.directory.Declaration.{Declaration}

@@ -3,7 +3,7 @@ use Rattle.std.proofs.Common.{◌≡◌, ⊎_elim, ℕ, zero, suc, ◌+◌, List
 use Rattle.std.specs.List.{flat_map, slice_get}
 use Rattle.std.specs.Prelude.{Some}
 use Rattle.std.proofs.lemmas.List.Elements.{Contains-append_left, Contains-append_right, Contains-append_cases}
-use Rattle.swreq_lemmas.proofs.Members.{no_member, first_member, later_member, member_cases}
+use Rattle.swreq_names.proofs.swreq_lemmas.Members.{no_member, first_member, later_member, member_cases}
 use Rattle.swreq_names.specs.Parts.{numbered}
 pub use Rattle.swreq_names.proofs.Pieces.{from_pieces, in_pieces}
 use Rattle.swreq_resolve.specs.Refusals.{by_place}

@@ -2,7 +2,7 @@
 use Rattle.std.proofs.Common.{◌≡◌, ⊎_elim, ℕ, not, List, [], Option, None, Some, Contains, refl, sym, subst}
 use Rattle.std.specs.List.{flat_map}
 use Rattle.std.proofs.lemmas.List.Elements.{Contains-append_left, Contains-append_right, Contains-append_cases}
-use Rattle.swreq_lemmas.proofs.Members.{no_member, first_member, only_member}
+use Rattle.swreq_names.proofs.swreq_lemmas.Members.{no_member, first_member, only_member}
 use Rattle.swreq_decl.specs.declared.skeleton.Span.{Span}
 use Rattle.swreq_decl.specs.declared.skeleton.StepDecl.{StepDecl}
 use Rattle.swreq_decl.specs.declared.skeleton.StepDecl.TheVariants as steps

@@ -1,3 +1,7 @@
+pub use Rattle.swreq_closure.specs as swreq_closure
+pub use Rattle.swreq_names.specs.swreq_rank as swreq_rank
+pub use Rattle.swreq_decl.specs as swreq_decl
+pub use Rattle.swreq_names.specs as swreq_names
 pub mod First
 pub mod Refusals
 pub mod Errors

@@ -1,11 +1,8 @@
 // The first refusal of names in types, constraints and requirements.
-ghost use Rattle.std.specs.Prelude.{◌≡◌, ℕ, Bool, List, None, ◌&&◌, length, is_some};
-ghost use Rattle.std.specs.List.{flat_map, list_any};
+ghost use Rattle.std.specs.{Prelude.{◌≡◌, ℕ, Bool, List, None, ◌&&◌, length, is_some}, List.{flat_map, list_any}};
 ghost use Rattle.swreq_closure.specs.Chains.{leads};
 ghost use Rattle.swreq_names.specs.Spaces.{word, protocol_of, declares, any_below, has_member, param_of};
-ghost use Rattle.swreq_resolve.specs.First.{least, walk};
-ghost use Rattle.swreq_resolve.specs.Refusals.{begins_in_protocol, begins_in_signature, has_arity, of_bound, of_step, of_protocol_name, of_type, of_entity, of_named, of_requirement, duplicate_of};
-ghost use Rattle.swreq_resolve.specs.FirstWords.{begins};
+ghost use Rattle.swreq_resolve.specs.{First.{least, walk}, Refusals.{begins_in_protocol, begins_in_signature, has_arity, of_bound, of_step, of_protocol_name, of_type, of_entity, of_named, of_requirement, duplicate_of}, FirstWords.{begins}};
 
 use crate::refusal::{Fault, Refusal, noted};
 use swreq_closure::Closure;

@@ -1,8 +1,7 @@
 // The first name that is refused.
 ghost use Rattle.std.specs.Prelude.{◌≡◌, None};
 ghost use Rattle.swreq_closure.specs.Chains.{leads};
-ghost use Rattle.swreq_resolve.specs.First.{least};
-ghost use Rattle.swreq_resolve.specs.Refusals.{of_space, of_spaces, refusals_in};
+ghost use Rattle.swreq_resolve.specs.{First.{least}, Refusals.{of_space, of_spaces, refusals_in}};
 
 use crate::check::check_duplicates;
 use crate::protocols::check_protocols;

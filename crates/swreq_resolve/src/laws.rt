@@ -1,19 +1,9 @@
 //! What holds of the refusals of names.
 
 ghost use Rattle.std.specs.Prelude.{◌≡◌, ◌⊎◌, ◌↔◌, ℕ, Bool, List, Contains};
-ghost use Rattle.swreq_decl.specs.declared.skeleton.Skeleton.{Skeleton};
-ghost use Rattle.swreq_decl.specs.declared.skeleton.TypeDecl.{TypeDecl};
-ghost use Rattle.swreq_decl.specs.Skeletons.{StandsFor};
-ghost use Rattle.swreq_names.specs.declared.signature.Signature.{Signature};
-ghost use Rattle.swreq_names.specs.Inheritance.{TellsInheritance};
-ghost use Rattle.swreq_names.specs.Parts.{Scope};
-ghost use Rattle.swreq_names.specs.Spaces.{spaces};
-ghost use Rattle.swreq_resolve.specs.declared.refusal.NameErr.{NameErr};
-ghost use Rattle.swreq_resolve.specs.declared.refusal.Refusal.{Refusal};
-ghost use Rattle.swreq_resolve.specs.Refusals.{refusals};
-ghost use Rattle.swreq_resolve.specs.Refused.{HasType, IsFirstRefused, IsRefused, IsScopeOf};
-ghost use Rattle.swreq_resolve.specs.RefusedTypes.{IsRefusedOn, of_type_on};
-ghost use Rattle.swreq_resolve.specs.Resolving.{HasNames, RefusesSkeleton, RefusesName, Resolve};
+ghost use Rattle.swreq_decl.specs.{declared.skeleton.Skeleton.{Skeleton}, declared.skeleton.TypeDecl.{TypeDecl}, Skeletons.{StandsFor}};
+ghost use Rattle.swreq_names.specs.{declared.signature.Signature.{Signature}, Inheritance.{TellsInheritance}, Parts.{Scope}, Spaces.{spaces}};
+ghost use Rattle.swreq_resolve.specs.{declared.refusal.NameErr.{NameErr}, declared.refusal.Refusal.{Refusal}, Refusals.{refusals}, Refused.{HasType, IsFirstRefused, IsRefused, IsScopeOf}, RefusedTypes.{IsRefusedOn, of_type_on}, Resolving.{HasNames, RefusesSkeleton, RefusesName, Resolve}};
 
 use swreq_decl::Skeleton;
 use swreq_lex::laws::tokens_are_slices;

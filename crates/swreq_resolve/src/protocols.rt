@@ -1,9 +1,7 @@
 // The first name that is refused in protocols.
 ghost use Rattle.std.specs.Prelude.{◌≡◌};
 ghost use Rattle.swreq_closure.specs.Chains.{leads};
-ghost use Rattle.swreq_resolve.specs.First.{least, walk};
-ghost use Rattle.swreq_resolve.specs.Refusals.{by_place, primary_of, of_primaries, of_members, of_member, of_protocol};
-ghost use Rattle.swreq_resolve.specs.FirstWords.{begins};
+ghost use Rattle.swreq_resolve.specs.{First.{least, walk}, Refusals.{by_place, primary_of, of_primaries, of_members, of_member, of_protocol}, FirstWords.{begins}};
 
 use crate::check::{FirstWords, check_duplicates, check_entities, check_requirements};
 use crate::refusal::{Fault, Refusal, noted};

@@ -1,8 +1,7 @@
 // The first name that is refused in queries.
 ghost use Rattle.std.specs.Prelude.{◌≡◌};
 ghost use Rattle.swreq_names.specs.Spaces.{word, struct_of};
-ghost use Rattle.swreq_resolve.specs.First.{least, walk};
-ghost use Rattle.swreq_resolve.specs.Refusals.{begins_in_signature, of_ask, of_asked, of_nested_query, of_query};
+ghost use Rattle.swreq_resolve.specs.{First.{least, walk}, Refusals.{begins_in_signature, of_ask, of_asked, of_nested_query, of_query}};
 
 use crate::check::{FirstWords, check_entity, check_type};
 use crate::refusal::{Fault, Refusal, noted};

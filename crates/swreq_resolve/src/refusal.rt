@@ -1,8 +1,6 @@
 // What is refused of names.
 ghost use Rattle.std.specs.Prelude.{◌≡◌};
-ghost use Rattle.swreq_resolve.specs.First.{precedes, row, least, when};
-ghost use Rattle.swreq_resolve.specs.Errors.{error_of};
-ghost use Rattle.swreq_resolve.specs.declared.refusal.NameErr.TheVariants.{Memory};
+ghost use Rattle.swreq_resolve.specs.{First.{precedes, row, least, when}, Errors.{error_of}, declared.refusal.NameErr.TheVariants.{Memory}};
 
 use std::alloc::{AllocError, AllocFailed};
 use thiserror::Error;

@@ -2,12 +2,7 @@
 
 ghost use Rattle.std.specs.Prelude.{◌≡◌, ◌⊎◌, [], length, IfOk, IfErr, IsOk, Err, MatchOption, MatchResult};
 ghost use Rattle.swreq_names.specs.Names.{HasDeclared};
-ghost use Rattle.swreq_resolve.specs.Cycles.{HasNoLoop, IsLoopAt};
-ghost use Rattle.swreq_resolve.specs.declared.refusal.NameErr.{NameErr};
-ghost use Rattle.swreq_resolve.specs.declared.refusal.NameErr.TheVariants.{Memory};
-ghost use Rattle.swreq_resolve.specs.First.{IsFirst};
-ghost use Rattle.swreq_resolve.specs.RefusedTypes.{of_type_on};
-ghost use Rattle.swreq_resolve.specs.Resolving.{Resolve, RefusesSkeleton};
+ghost use Rattle.swreq_resolve.specs.{Cycles.{HasNoLoop, IsLoopAt}, declared.refusal.NameErr.{NameErr}, declared.refusal.NameErr.TheVariants.{Memory}, First.{IsFirst}, RefusedTypes.{of_type_on}, Resolving.{Resolve, RefusesSkeleton}};
 
 use crate::check::{FirstWords, check_type};
 use crate::cycles::cycle_of;

@@ -1,8 +1,6 @@
 // The first name that is refused in structs and functions.
 ghost use Rattle.std.specs.Prelude.{◌≡◌};
-ghost use Rattle.swreq_resolve.specs.First.{least, walk};
-ghost use Rattle.swreq_resolve.specs.Refusals.{by_place, of_signatures, of_param, of_signature, of_nested, of_struct, of_function};
-ghost use Rattle.swreq_resolve.specs.FirstWords.{begins};
+ghost use Rattle.swreq_resolve.specs.{First.{least, walk}, Refusals.{by_place, of_signatures, of_param, of_signature, of_nested, of_struct, of_function}, FirstWords.{begins}};
 
 use crate::check::{FirstWords, check_duplicates, check_entities, check_requirements};
 use crate::refusal::Refusal;

@@ -1,6 +1,6 @@
 //! What complete rules are good for: their reduced system, the paths of words, and the words that they leave.
 
-ghost use Rattle.swreq_path.specs.Paths.{IsPath};
+ghost use Rattle.swreq_homotopy.specs.swreq_path.Paths.{IsPath};
 
 use crate::completions::{completed, ended};
 use crate::notation::{PROTOCOL, assert_line, assert_row, equations, put_rule, put_word, word};
@@ -8,10 +8,10 @@ use crate::paths::put_way;
 use std::alloc::{AllocError, Global};
 use std::fmt::Write;
 use swreq_complete::CompleteRules;
-use swreq_path::Path;
-use swreq_rule::Rule;
-use swreq_watch::Counter;
-use swreq_word::Symbol;
+use swreq_complete::path::Path;
+use swreq_complete::rule::Rule;
+use swreq_complete::watch::Counter;
+use swreq_complete::word::Symbol;
 
 fn put_rules(out: &mut String, rules: &[Rule]) -> Result<(), AllocError> {
     for rule in rules {

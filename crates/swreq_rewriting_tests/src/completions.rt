@@ -6,10 +6,10 @@ use crate::notation::{PROTOCOL, assert_row, equations, put_rule};
 use std::alloc::{AllocError, Global};
 use std::fmt::Write;
 use std::process::Abort;
+use swreq_complete::watch::{Counter, Event, Recorder};
+use swreq_complete::word::Word;
 use swreq_complete::{CompleteRules, Failed, Limits, Which, extend};
 use swreq_samples::{Tally, counts, tally_at};
-use swreq_watch::{Counter, Event, Recorder};
-use swreq_word::Word;
 
 const AMPLE: Limits = Limits {
     max_rules: 4000,

@@ -1,17 +1,17 @@
 //! Worked rows of the loops of pairs, and of the rules that a loop shows.
 
 ghost use Rattle.std.specs.Prelude.{⊤, IfOk, MatchOption};
-ghost use Rattle.swreq_path.specs.Paths.{IsLoop};
+ghost use Rattle.swreq_homotopy.specs.swreq_path.Paths.{IsLoop};
 ghost use Rattle.swreq_homotopy.specs.Evidence.{AreLoops};
 
 use crate::notation::{assert_row, put_path, rules};
 use std::alloc::{AllocError, Global};
 use std::fmt::Write;
 use std::process::Abort;
+use swreq_complete::pair::is_pair;
+use swreq_complete::path::Loop;
+use swreq_complete::rule::{Place, Rule};
 use swreq_homotopy::{Evidence, loop_of_pair, redundant};
-use swreq_pair::is_pair;
-use swreq_path::Loop;
-use swreq_rule::{Place, Rule};
 
 /// By name, three rules, the place of a pair, the rules that are kept and those that may go; the loop of the pair, and what it shows: a rule, and
 /// the path without it.

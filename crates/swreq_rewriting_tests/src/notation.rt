@@ -8,9 +8,9 @@
 use std::alloc::{AllocError, Global};
 use std::fmt::Write;
 use std::process::Abort;
-use swreq_path::{Path, RewriteStep};
-use swreq_rule::{Birth, Rule, RuleList, oriented};
-use swreq_word::{Symbol, Word};
+use swreq_complete::path::{Path, RewriteStep};
+use swreq_complete::rule::{Birth, Rule, RuleList, oriented};
+use swreq_complete::word::{Symbol, Word};
 
 /// A protocol N with a member A that conforms to N.
 pub(crate) const PROTOCOL: &str = "NN=N NA=a NAN=NA";

@@ -4,9 +4,9 @@ use crate::notation::{assert_row, put_word, rules, word};
 use std::alloc::{AllocError, Global};
 use std::fmt::Write;
 use std::process::Abort;
-use swreq_pair::{Pair, pairs_of, pairs_up_to};
-use swreq_rule::{Rule, RuleList, contains, first_redex, overlaps};
-use swreq_word::Symbol;
+use swreq_complete::pair::{Pair, pairs_of, pairs_up_to};
+use swreq_complete::rule::{Rule, RuleList, contains, first_redex, overlaps};
+use swreq_complete::word::Symbol;
 
 /// The rules of a protocol N with a member A, and of a generic parameter that conforms to it.
 const CONFORMING: &str = "NN=N Na=a NA=a aN=a aA=aa TN=T TA=Ta";

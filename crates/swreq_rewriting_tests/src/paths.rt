@@ -1,13 +1,13 @@
 //! Worked rows of paths.
 
 ghost use Rattle.std.specs.Prelude.{IfOk};
-ghost use Rattle.swreq_path.specs.Paths.{HasTarget, IsPath};
+ghost use Rattle.swreq_homotopy.specs.swreq_path.Paths.{HasTarget, IsPath};
 
 use crate::notation::{assert_row, put_path, put_word, rules, word};
 use std::alloc::{AllocError, Global};
 use std::process::Abort;
-use swreq_path::{Path, compose, invert, path_of};
-use swreq_rule::Rule;
+use swreq_complete::path::{Path, compose, invert, path_of};
+use swreq_complete::rule::Rule;
 
 /// The rules of a protocol N with a member A, and of a generic parameter that conforms to it.
 const RULES: &str = "NN=N NA=a aN=a Na=a aA=aa TN=T TA=Ta";

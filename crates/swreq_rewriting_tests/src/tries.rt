@@ -6,9 +6,9 @@ use crate::notation::{assert_line, assert_row, word};
 use std::alloc::{AllocError, Global};
 use std::fmt::Write;
 use std::process::Abort;
-use swreq_rule::Place;
-use swreq_trie::Trie;
-use swreq_word::Symbol;
+use swreq_complete::rule::Place;
+use swreq_complete::trie::Trie;
+use swreq_complete::word::Symbol;
 
 /// Stores the side of these letters with its number.
 fn store(

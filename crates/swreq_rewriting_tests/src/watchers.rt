@@ -6,8 +6,8 @@ use std::cell::Cell;
 use std::fmt::Write;
 use std::process::Abort;
 use std::rc::Rc;
+use swreq_complete::watch::{Event, Fan, Watch};
 use swreq_samples::{counts, tally_at};
-use swreq_watch::{Event, Fan, Watch};
 
 /// Takes the watcher as the last one.
 fn add_watcher(fan: &mut Fan, watcher: Box<dyn Watch>) -> Result<(), AllocError> {

@@ -4,7 +4,7 @@ use crate::notation::{assert_line, put_word, word};
 use indexmap::IndexSet;
 use std::alloc::{AllocError, Global};
 use std::fmt::Write;
-use swreq_word::{Symbol, Word, WordTable, compare};
+use swreq_complete::word::{Symbol, Word, WordTable, compare};
 
 /// Words by name. Those of one symbol go by its kind and then by its number; of two words the shorter one comes first, and of words of one length the
 /// first symbols in which they differ decide.

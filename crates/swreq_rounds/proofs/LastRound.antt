@@ -1,15 +1,15 @@
 -- The last round uses exactly the usable requirements, and its rules stand for their equations.
 use Rattle.std.proofs.Common.{◌≡◌, ◌⊎◌, inl, inr, sym, ap, subst, subst₂, List, [], map, ◌↔◌, Contains, Option}
 use Rattle.std.proofs.lemmas.List.Elements.{Contains-append_cases, Contains-append_left, Contains-append_right}
-use Rattle.swreq_param.specs.declared.ids.ParamId.{ParamId}
-use Rattle.swreq_param.specs.declared.ids.ProtoId.{ProtoId}
-use Rattle.swreq_derive.specs.Derivation.{TermRequirement, TermFacts, Source}
-use Rattle.swreq_derive.specs.Derivation.Source.{Written, SelfOf}
-use Rattle.swreq_lemmas.proofs.Members.{no_member, contains_map, contains_of_map}
-use Rattle.swreq_word.specs.Relations.{Linked}
-use Rattle.swreq_rule.specs.declared.rules.Rule.{Rule}
-use Rattle.swreq_rule.specs.Steps.{Step}
-use Rattle.swreq_watch.specs.declared.events.Event.{Event}
+use Rattle.swreq_correspondence.specs.swreq_param.declared.ids.ParamId.{ParamId}
+use Rattle.swreq_correspondence.specs.swreq_param.declared.ids.ProtoId.{ProtoId}
+use Rattle.swreq_correspondence.specs.swreq_derive.Derivation.{TermRequirement, TermFacts, Source}
+use Rattle.swreq_correspondence.specs.swreq_derive.Derivation.Source.{Written, SelfOf}
+use Rattle.swreq_complete.proofs.swreq_lemmas.Members.{no_member, contains_map, contains_of_map}
+use Rattle.swreq_complete.specs.swreq_word.Relations.{Linked}
+use Rattle.swreq_complete.specs.swreq_rule.declared.rules.Rule.{Rule}
+use Rattle.swreq_complete.specs.swreq_rule.Steps.{Step}
+use Rattle.swreq_complete.specs.swreq_watch.declared.events.Event.{Event}
 use Rattle.swreq_complete.specs.Alike.{ReduceAlike}
 use Rattle.swreq_complete.specs.declared.limit.Limits.{Limits}
 use Rattle.swreq_complete.proofs.Alike.{alike_are_linked}

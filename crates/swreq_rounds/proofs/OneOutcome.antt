@@ -1,7 +1,7 @@
 -- Rounds have one outcome, and tell one list of events.
 use Rattle.std.proofs.Common.{◌≡◌, ◌⊎◌, inl, inr, refl, sym, ap, ap₂, subst, ◌∙◌, List, [], ◌∷◌, ◌++◌, length, append_assoc, Contains, Option, Some, None, Result, Ok, Err}
-use Rattle.swreq_rule.specs.declared.rules.Rule.{Rule}
-use Rattle.swreq_watch.specs.declared.events.Event.{Event}
+use Rattle.swreq_complete.specs.swreq_rule.declared.rules.Rule.{Rule}
+use Rattle.swreq_complete.specs.swreq_watch.declared.events.Event.{Event}
 use Rattle.swreq_complete.specs.declared.limit.Limits.{Limits}
 use Rattle.swreq_complete.specs.declared.limit.Which.{Which}
 use Rattle.swreq_complete.specs.declared.limit.Failed.{Failed}

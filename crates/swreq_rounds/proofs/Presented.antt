@@ -3,18 +3,18 @@ use Rattle.std.proofs.Common.{◌≡◌, ◌⊎◌, inl, inr, sym, ap, subst, su
 use Rattle.std.specs.List.{slice_get}
 use Rattle.std.proofs.lemmas.List.{append-nil}
 use Rattle.std.proofs.lemmas.List.Elements.{Contains-append_cases, Contains-append_right}
-use Rattle.swreq_word.specs.Relations.{Linked}
-use Rattle.swreq_word.specs.Relations.Chain.{done, more}
-use Rattle.swreq_word.specs.Relations.Linked.{here, forth as on_forth, back as on_back}
-use Rattle.swreq_word.specs.Replacement.{Replaced}
-use Rattle.swreq_word.proofs.Chains.{joined, at_once, linked_on, linked_back, linked_by}
-use Rattle.swreq_rule.specs.declared.rules.Rule.{Rule}
-use Rattle.swreq_rule.specs.Steps.{Step}
-use Rattle.swreq_rule.proofs.Context.{Step-before, Step-after}
+use Rattle.swreq_complete.specs.swreq_word.Relations.{Linked}
+use Rattle.swreq_complete.specs.swreq_word.Relations.Chain.{done, more}
+use Rattle.swreq_complete.specs.swreq_word.Relations.Linked.{here, forth as on_forth, back as on_back}
+use Rattle.swreq_complete.specs.swreq_word.Replacement.{Replaced}
+use Rattle.swreq_complete.proofs.swreq_word.Chains.{joined, at_once, linked_on, linked_back, linked_by}
+use Rattle.swreq_complete.specs.swreq_rule.declared.rules.Rule.{Rule}
+use Rattle.swreq_complete.specs.swreq_rule.Steps.{Step}
+use Rattle.swreq_complete.proofs.swreq_rule.Context.{Step-before, Step-after}
 use Rattle.swreq_complete.specs.Reached.{BeginsWith, IsEnded, IsReached}
 use Rattle.swreq_complete.specs.Laws.{all_equations}
 use Rattle.swreq_complete.proofs.Ended.{by_rule}
-use Rattle.swreq_lemmas.proofs.Elements.{in_whole, get_of_map, get_contains, contains_get}
+use Rattle.swreq_complete.proofs.swreq_lemmas.Elements.{in_whole, get_of_map, get_contains, contains_get}
 use Rattle.swreq_complete.proofs.Soundness.{sound, complete}
 use Rattle.swreq_correspondence.specs.Symbols.{Word}
 use Rattle.swreq_correspondence.specs.Equations.{Link, Linking}

@@ -1,8 +1,8 @@
 -- What comes after a round that goes on.
 use Rattle.std.proofs.Common.{◌≡◌, inl, inr, sym, ap, ◌∙◌, ◌++◌, subst, List, length, Contains, Option, Some, None, Result, Ok, Err}
-use Rattle.swreq_lemmas.proofs.Members.{no_member}
-use Rattle.swreq_rule.specs.declared.rules.Rule.{Rule}
-use Rattle.swreq_watch.specs.declared.events.Event.{Event}
+use Rattle.swreq_complete.proofs.swreq_lemmas.Members.{no_member}
+use Rattle.swreq_complete.specs.swreq_rule.declared.rules.Rule.{Rule}
+use Rattle.swreq_complete.specs.swreq_watch.declared.events.Event.{Event}
 use Rattle.swreq_complete.specs.declared.limit.Failed.{Failed}
 use Rattle.swreq_complete.specs.declared.limit.Failed.TheVariants.{Limit}
 use Rattle.swreq_complete.specs.declared.limit.Limits.{Limits}

@@ -1,10 +1,10 @@
 -- What the rounds of a machine start from.
 use Rattle.std.specs.Prelude.{List, ◌++◌, map}
-use Rattle.swreq_word.specs.Relations.{Linked}
-use Rattle.swreq_rule.specs.declared.rules.Rule.{Rule}
-use Rattle.swreq_rule.specs.Steps.{Step}
+use Rattle.swreq_complete.specs.swreq_word.Relations.{Linked}
+use Rattle.swreq_complete.specs.swreq_rule.declared.rules.Rule.{Rule}
+use Rattle.swreq_complete.specs.swreq_rule.Steps.{Step}
 use Rattle.swreq_complete.specs.Alike.{ReduceAlike}
-use Rattle.swreq_derive.specs.Derivation.{TermRequirement, TermFacts, Source}
+use Rattle.swreq_correspondence.specs.swreq_derive.Derivation.{TermRequirement, TermFacts, Source}
 use Rattle.swreq_correspondence.specs.Symbols.{Word, Symbols, left_side, right_side}
 use Rattle.swreq_correspondence.specs.Shown.{ShowsUsable}
 

@@ -1,13 +1,13 @@
 -- A worked text: its equations and requirements, in order.
 use Rattle.std.specs.Prelude.{List, [], ◌∷◌}
-use Rattle.swreq_param.specs.declared.ids.NameId.{NameId}
-use Rattle.swreq_param.specs.declared.ids.ParamId.{ParamId}
-use Rattle.swreq_param.specs.declared.ids.ProtoId.{ProtoId}
-use Rattle.swreq_param.specs.Terms.{self}
-use Rattle.swreq_word.specs.declared.symbols.Symbol.TheVariants.{Proto, Member, Name, Layout}
-use Rattle.swreq_derive.specs.Derivation.{TermRequirement, TermFacts}
-use Rattle.swreq_derive.specs.Derivation.TermRequirement.{Conforms, IsAnyObject, Equals}
-use Rattle.swreq_derive.specs.Worked.{◌·◌, protocol, name, assoc, param, declared, facts, τ_0_0, τ_0_1}
+use Rattle.swreq_correspondence.specs.swreq_param.declared.ids.NameId.{NameId}
+use Rattle.swreq_correspondence.specs.swreq_param.declared.ids.ParamId.{ParamId}
+use Rattle.swreq_correspondence.specs.swreq_param.declared.ids.ProtoId.{ProtoId}
+use Rattle.swreq_correspondence.specs.swreq_param.Terms.{self}
+use Rattle.swreq_complete.specs.swreq_word.declared.symbols.Symbol.TheVariants.{Proto, Member, Name, Layout}
+use Rattle.swreq_correspondence.specs.swreq_derive.Derivation.{TermRequirement, TermFacts}
+use Rattle.swreq_correspondence.specs.swreq_derive.Derivation.TermRequirement.{Conforms, IsAnyObject, Equals}
+use Rattle.swreq_correspondence.specs.swreq_derive.Worked.{◌·◌, protocol, name, assoc, param, declared, facts, τ_0_0, τ_0_1}
 use Rattle.swreq_correspondence.specs.Symbols.{Word, Symbols}
 use Rattle.swreq_correspondence.specs.Worked.{first_param, second_param, member_of, symbols}
 

@@ -1,19 +1,12 @@
 //! Laws on rounds, over the definitions alone.
 ghost use Rattle.std.specs.Prelude.{◌↔◌, List, Contains};
-ghost use Rattle.swreq_param.specs.declared.ids.ParamId.{ParamId};
-ghost use Rattle.swreq_param.specs.declared.ids.ProtoId.{ProtoId};
-ghost use Rattle.swreq_derive.specs.Derivation.{TermRequirement, TermFacts};
-ghost use Rattle.swreq_derive.specs.Derivation.Source.{Written};
-ghost use Rattle.swreq_rule.specs.declared.rules.Rule.{Rule};
-ghost use Rattle.swreq_watch.specs.declared.events.Event.{Event};
+ghost use Rattle.swreq_correspondence.specs.swreq_param.{declared.ids.ParamId.{ParamId}, declared.ids.ProtoId.{ProtoId}};
+ghost use Rattle.swreq_correspondence.specs.swreq_derive.{Derivation.{TermRequirement, TermFacts}, Derivation.Source.{Written}};
+ghost use Rattle.swreq_complete.specs.swreq_rule.declared.rules.Rule.{Rule};
+ghost use Rattle.swreq_complete.specs.swreq_watch.declared.events.Event.{Event};
 ghost use Rattle.swreq_complete.specs.declared.limit.Limits.{Limits};
-ghost use Rattle.swreq_correspondence.specs.Symbols.{Symbols, AreSymbolsOf, AreOfText, IsInText};
-ghost use Rattle.swreq_correspondence.specs.Equations.{UsableOf, UsableIn};
-ghost use Rattle.swreq_rounds.specs.Plan.{Item, Plan};
-ghost use Rattle.swreq_rounds.specs.Given.{protocols_plan, list_plan, of_self, of_list};
-ghost use Rattle.swreq_rounds.specs.Rounds.{IsLastRound};
-ghost use Rattle.swreq_rounds.specs.Presents.{AreProtocolRules, AreListRules};
-ghost use Rattle.swreq_rounds.specs.Laws.{OutcomesAreOne, PartsAreFronts};
+ghost use Rattle.swreq_correspondence.specs.{Symbols.{Symbols, AreSymbolsOf, AreOfText, IsInText}, Equations.{UsableOf, UsableIn}};
+ghost use Rattle.swreq_rounds.specs.{Plan.{Item, Plan}, Given.{protocols_plan, list_plan, of_self, of_list}, Rounds.{IsLastRound}, Presents.{AreProtocolRules, AreListRules}, Laws.{OutcomesAreOne, PartsAreFronts}};
 
 /// Unless memory runs out, rounds come out in one way and tell one list of events.
 pub fn outcomes_are_one()

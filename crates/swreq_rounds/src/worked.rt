@@ -2,15 +2,12 @@
 //!
 //! The text and its lists stand in `specs/Worked.antt`. Nothing is computed: the clauses are theorems.
 ghost use Rattle.std.specs.Prelude.{◌≡◌, List, [], ◌∷◌, ◌++◌};
-ghost use Rattle.swreq_rule.specs.declared.rules.Rule.{Rule};
-ghost use Rattle.swreq_param.specs.Terms.{self};
-ghost use Rattle.swreq_word.specs.declared.symbols.Symbol.TheVariants.{Proto};
-ghost use Rattle.swreq_derive.specs.Derivation.TermRequirement.{Conforms, IsAnyObject, Equals};
-ghost use Rattle.swreq_derive.specs.Worked.{◌·◌};
+ghost use Rattle.swreq_complete.specs.swreq_rule.declared.rules.Rule.{Rule};
+ghost use Rattle.swreq_correspondence.specs.swreq_param.Terms.{self};
+ghost use Rattle.swreq_complete.specs.swreq_word.declared.symbols.Symbol.TheVariants.{Proto};
+ghost use Rattle.swreq_correspondence.specs.swreq_derive.{Derivation.TermRequirement.{Conforms, IsAnyObject, Equals}, Worked.{◌·◌}};
 ghost use Rattle.swreq_correspondence.specs.Symbols.{AreSymbolsOf, AreOfText};
-ghost use Rattle.swreq_rounds.specs.Plan.{given};
-ghost use Rattle.swreq_rounds.specs.Given.{protocols_plan, list_plan, of_self};
-ghost use Rattle.swreq_rounds.specs.Worked.{Leaf, Tree, Color, Label, Next, Parent, trees, trees_symbols, trees_basic, trees_required, f_params, f_requirements, f_equations};
+ghost use Rattle.swreq_rounds.specs.{Plan.{given}, Given.{protocols_plan, list_plan, of_self}, Worked.{Leaf, Tree, Color, Label, Next, Parent, trees, trees_symbols, trees_basic, trees_required, f_params, f_requirements, f_equations}};
 
 /// `protocol Tree { associatedtype Parent: AnyObject; associatedtype Label: Tree }`,
 /// `protocol Leaf: Tree { associatedtype Next where Next == Label; associatedtype Color: Leaf }` and

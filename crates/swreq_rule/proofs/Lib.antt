@@ -1,3 +1,5 @@
+pub use Rattle.swreq_word.proofs.swreq_lemmas as swreq_lemmas
+pub use Rattle.swreq_word.proofs as swreq_word
 pub mod Numbers
 pub mod Overlapping
 pub mod Context

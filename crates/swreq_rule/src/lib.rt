@@ -13,3 +13,8 @@ pub use list::RuleList;
 pub use overlap::{contains, overlaps};
 pub use reduction::{Redex, first_redex, take_step, take_step_of};
 pub use rules::{Birth, Place, Rule};
+
+/// What the crates above use of `swreq_word`.
+pub mod word {
+    pub use swreq_word::{Symbol, Word, WordTable, are_same, compare};
+}

@@ -1,0 +1,1 @@
+pub use Rattle.swreq_decl.specs as swreq_decl

@@ -2,20 +2,20 @@
 use Rattle.std.proofs.Common.{◌≡◌, not, List, [], ◌∷◌, ◌++◌, Option, Some, None, length, refl, ap, ap₂, ◌∙◌, arith}
 use Rattle.std.specs.Prelude.{nat_eq}
 use Rattle.std.specs.Option.{option_map}
-use Rattle.swreq_decl.specs.declared.skeleton.CallDecl.{CallDecl}
-use Rattle.swreq_decl.specs.declared.skeleton.TypeDecl.{TypeDecl}
-use Rattle.swreq_names.specs.Spaces.{word}
-use Rattle.swreq_param.specs.Terms.{Term}
-use Rattle.swreq_rank.specs.Ranks.{Bytes}
+use Rattle.swreq_resolve.specs.swreq_decl.declared.skeleton.CallDecl.{CallDecl}
+use Rattle.swreq_resolve.specs.swreq_decl.declared.skeleton.TypeDecl.{TypeDecl}
+use Rattle.swreq_resolve.specs.swreq_names.Spaces.{word}
+use Rattle.swreq_machine.specs.swreq_param.Terms.{Term}
+use Rattle.swreq_resolve.specs.swreq_rank.Ranks.{Bytes}
 use Rattle.swreq_resolve.specs.declared.refusal.Fault.TheVariants.{WrongArity}
 use Rattle.swreq_resolve.specs.declared.refusal.Refusal.{Refusal}
 use Rattle.swreq_resolve.specs.First.{when}
-use Rattle.swreq_lowering.specs.declared.ids.FuncId.{FuncId}
-use Rattle.swreq_lowering.specs.Requirements.{PlacedRequirement}
-use Rattle.swreq_symbols.proofs.OfText.{signature_is}
-use Rattle.swreq_world.specs.ByTable.{world_by}
-use Rattle.swreq_world.specs.Worlds.{IdWorld, SignatureOver}
-use Rattle.swreq_world.proofs.Finding.{func_by, named_from, param_by}
+use Rattle.swreq_machine.specs.swreq_lowering.declared.ids.FuncId.{FuncId}
+use Rattle.swreq_machine.specs.swreq_lowering.Requirements.{PlacedRequirement}
+use Rattle.swreq_machine.proofs.swreq_symbols.OfText.{signature_is}
+use Rattle.swreq_machine.specs.swreq_world.ByTable.{world_by}
+use Rattle.swreq_machine.specs.swreq_world.Worlds.{IdWorld, SignatureOver}
+use Rattle.swreq_machine.proofs.swreq_world.Finding.{func_by, named_from, param_by}
 use Rattle.swreq_subst.specs.Arguments.{param_count}
 use Rattle.swreq_subst.specs.Calls.{TermCall}
 use Rattle.swreq_subst.specs.Refusals.{func_called, of_call, of_count, of_name, of_types, refusals, signature_called}

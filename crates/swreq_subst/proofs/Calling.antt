@@ -5,28 +5,28 @@ use Rattle.std.specs.Option.{option_map}
 use Rattle.std.proofs.lemmas.List.{length-map}
 use Rattle.std.proofs.lemmas.List.Elements.{All-contains, All-get_or}
 use Rattle.std.proofs.lemmas.Option.{slice_get-get_or}
-use Rattle.swreq_lemmas.proofs.Elements.{get_contains, get_map}
-use Rattle.swreq_lemmas.proofs.Members.{contains_map, contains_of_map}
-use Rattle.swreq_param.specs.declared.ids.TermId.{TermId}
-use Rattle.swreq_param.specs.Tables.{term_at}
-use Rattle.swreq_param.specs.Terms.{Term}
-use Rattle.swreq_derive.specs.declared.requirements.Requirement.{Requirement}
-use Rattle.swreq_derive.specs.declared.requirements.Requirement.TheVariants.{Conf}
-use Rattle.swreq_derive.specs.Facts.{requirement_of}
-use Rattle.swreq_derive.specs.Instances.{HasNumber}
-use Rattle.swreq_lexicon.specs.Views.{LexiconView}
-use Rattle.swreq_lowering.specs.declared.ids.FuncId.{FuncId}
-use Rattle.swreq_lowering.specs.declared.ids.Written.{Written}
-use Rattle.swreq_lowering.specs.ByTable.{placed, placed_by}
-use Rattle.swreq_lowering.specs.Heads.{IsOver}
-use Rattle.swreq_world.specs.ByTable.{signature_by, world_by}
-use Rattle.swreq_world.specs.Closed.{HasOwn, IsOfSignature, IsParamOf}
-use Rattle.swreq_world.specs.FactsAt.{written_list}
-use Rattle.swreq_world.specs.Short.{IsShort}
-use Rattle.swreq_world.specs.Worlds.{IdWorld, SignatureOver, no_signature, signature_at}
-use Rattle.swreq_symbols.specs.Known.{IsRequirementIn, IsTextOver, IsTypeIn}
-use Rattle.swreq_symbols.proofs.OfText.{requirements_placed, signature_is, signature_written}
-use Rattle.swreq_valid.specs.Plans.{bare, listed}
+use Rattle.swreq_print.proofs.swreq_lemmas.Elements.{get_contains, get_map}
+use Rattle.swreq_print.proofs.swreq_lemmas.Members.{contains_map, contains_of_map}
+use Rattle.swreq_machine.specs.swreq_param.declared.ids.TermId.{TermId}
+use Rattle.swreq_machine.specs.swreq_param.Tables.{term_at}
+use Rattle.swreq_machine.specs.swreq_param.Terms.{Term}
+use Rattle.swreq_machine.specs.swreq_derive.declared.requirements.Requirement.{Requirement}
+use Rattle.swreq_machine.specs.swreq_derive.declared.requirements.Requirement.TheVariants.{Conf}
+use Rattle.swreq_machine.specs.swreq_derive.Facts.{requirement_of}
+use Rattle.swreq_machine.specs.swreq_derive.Instances.{HasNumber}
+use Rattle.swreq_machine.specs.swreq_lexicon.Views.{LexiconView}
+use Rattle.swreq_machine.specs.swreq_lowering.declared.ids.FuncId.{FuncId}
+use Rattle.swreq_machine.specs.swreq_lowering.declared.ids.Written.{Written}
+use Rattle.swreq_machine.specs.swreq_lowering.ByTable.{placed, placed_by}
+use Rattle.swreq_machine.specs.swreq_lowering.Heads.{IsOver}
+use Rattle.swreq_machine.specs.swreq_world.ByTable.{signature_by, world_by}
+use Rattle.swreq_machine.specs.swreq_world.Closed.{HasOwn, IsOfSignature, IsParamOf}
+use Rattle.swreq_machine.specs.swreq_world.FactsAt.{written_list}
+use Rattle.swreq_machine.specs.swreq_world.Short.{IsShort}
+use Rattle.swreq_machine.specs.swreq_world.Worlds.{IdWorld, SignatureOver, no_signature, signature_at}
+use Rattle.swreq_machine.specs.swreq_symbols.Known.{IsRequirementIn, IsTextOver, IsTypeIn}
+use Rattle.swreq_machine.proofs.swreq_symbols.OfText.{requirements_placed, signature_is, signature_written}
+use Rattle.swreq_machine.specs.swreq_valid.Plans.{bare, listed}
 use Rattle.swreq_subst.specs.Calls.{IsArgumentIn}
 
 -- ---- the types of a call

@@ -3,30 +3,30 @@ use Rattle.std.proofs.Common.{◌≡◌, ℕ, List, [], ◌∷◌, Option, Some,
 use Rattle.std.specs.Option.{option_map}
 use Rattle.std.proofs.lemmas.Option.{same_Some}
 use Rattle.std.proofs.lemmas.Simd.{map-map}
-use Rattle.swreq_lemmas.proofs.Elements.{get_contains}
-use Rattle.swreq_decl.specs.declared.skeleton.Skeleton.{Skeleton}
-use Rattle.swreq_names.specs.declared.signature.Signature.{Signature}
-use Rattle.swreq_names.specs.Spaces.{declares, protocol_of}
-use Rattle.swreq_param.specs.Terms.{Term}
-use Rattle.swreq_rank.specs.Ranks.{Bytes, rank}
+use Rattle.swreq_print.proofs.swreq_lemmas.Elements.{get_contains}
+use Rattle.swreq_resolve.specs.swreq_decl.declared.skeleton.Skeleton.{Skeleton}
+use Rattle.swreq_resolve.specs.swreq_names.declared.signature.Signature.{Signature}
+use Rattle.swreq_resolve.specs.swreq_names.Spaces.{declares, protocol_of}
+use Rattle.swreq_machine.specs.swreq_param.Terms.{Term}
+use Rattle.swreq_resolve.specs.swreq_rank.Ranks.{Bytes, rank}
 use Rattle.swreq_resolve.specs.Resolving.{HasNames}
-use Rattle.swreq_lowering.specs.declared.ids.FuncId.{FuncId}
-use Rattle.swreq_lowering.specs.declared.ids.Written.{Written}
-use Rattle.swreq_lowering.specs.Queries.{signature_named}
-use Rattle.swreq_lowering.specs.Requirements.{PlacedRequirement}
-use Rattle.swreq_lowering.specs.Signatures.{func_id, in_order}
-use Rattle.swreq_lowering.specs.Words.{WordsView}
-use Rattle.swreq_symbols.proofs.OfText.{signature_is}
-use Rattle.swreq_world.specs.ByTable.{signature_by, world_by}
-use Rattle.swreq_world.specs.Lookups.{func_named, order_of}
-use Rattle.swreq_world.specs.Text.{signature_in}
-use Rattle.swreq_world.specs.WorldOf.{IsWorldOf, words_of}
-use Rattle.swreq_world.specs.Worlds.{IdWorld, SignatureOver, signature_at}
-use Rattle.swreq_world.proofs.Finding.{at_place}
-use Rattle.swreq_world.proofs.Named.{found}
-use Rattle.swreq_world.proofs.Resolving.{associated_stands, declared_member, protocol_named}
-use Rattle.swreq_world.proofs.Saying.{names_say, protocol_says}
-use Rattle.swreq_world.proofs.Standing.{stands}
+use Rattle.swreq_machine.specs.swreq_lowering.declared.ids.FuncId.{FuncId}
+use Rattle.swreq_machine.specs.swreq_lowering.declared.ids.Written.{Written}
+use Rattle.swreq_machine.specs.swreq_lowering.Queries.{signature_named}
+use Rattle.swreq_machine.specs.swreq_lowering.Requirements.{PlacedRequirement}
+use Rattle.swreq_machine.specs.swreq_lowering.Signatures.{func_id, in_order}
+use Rattle.swreq_machine.specs.swreq_lowering.Words.{WordsView}
+use Rattle.swreq_machine.proofs.swreq_symbols.OfText.{signature_is}
+use Rattle.swreq_machine.specs.swreq_world.ByTable.{signature_by, world_by}
+use Rattle.swreq_machine.specs.swreq_world.Lookups.{func_named, order_of}
+use Rattle.swreq_machine.specs.swreq_world.Text.{signature_in}
+use Rattle.swreq_machine.specs.swreq_world.WorldOf.{IsWorldOf, words_of}
+use Rattle.swreq_machine.specs.swreq_world.Worlds.{IdWorld, SignatureOver, signature_at}
+use Rattle.swreq_machine.proofs.swreq_world.Finding.{at_place}
+use Rattle.swreq_machine.proofs.swreq_world.Named.{found}
+use Rattle.swreq_machine.proofs.swreq_world.Resolving.{associated_stands, declared_member, protocol_named}
+use Rattle.swreq_machine.proofs.swreq_world.Saying.{names_say, protocol_says}
+use Rattle.swreq_machine.proofs.swreq_world.Standing.{stands}
 use Rattle.swreq_subst.specs.Saying.{HasAssociated}
 
 module _ (text : Bytes) (s : Skeleton) (terms : List Term) (w : IdWorld) (is : IsWorldOf text s (world_by terms w)) where

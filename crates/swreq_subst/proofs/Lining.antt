@@ -4,15 +4,15 @@ use Rattle.std.specs.Prelude.{All}
 use Rattle.std.specs.Option.{option_map}
 use Rattle.std.proofs.lemmas.List.{get_or_default, take_more}
 use Rattle.std.proofs.lemmas.List.Elements.{All-append, All-cons, All-contains, All-nil}
-use Rattle.swreq_lemmas.proofs.Members.{contains_map, contains_of_map}
-use Rattle.swreq_param.specs.declared.ids.TermId.{TermId}
-use Rattle.swreq_param.specs.Tables.{term_at}
-use Rattle.swreq_param.specs.Terms.{Term}
-use Rattle.swreq_derive.specs.declared.known.Params.{Params}
-use Rattle.swreq_derive.specs.Derivation.{Derivable, TermFacts, TermRequirement, Source, TermStatement}
-use Rattle.swreq_derive.specs.Derivation.TermStatement.{IsValid}
-use Rattle.swreq_world.specs.FactsAt.{facts_of, source_of}
-use Rattle.swreq_world.specs.Worlds.{TextWorld, signature_at}
+use Rattle.swreq_print.proofs.swreq_lemmas.Members.{contains_map, contains_of_map}
+use Rattle.swreq_machine.specs.swreq_param.declared.ids.TermId.{TermId}
+use Rattle.swreq_machine.specs.swreq_param.Tables.{term_at}
+use Rattle.swreq_machine.specs.swreq_param.Terms.{Term}
+use Rattle.swreq_machine.specs.swreq_derive.declared.known.Params.{Params}
+use Rattle.swreq_machine.specs.swreq_derive.Derivation.{Derivable, TermFacts, TermRequirement, Source, TermStatement}
+use Rattle.swreq_machine.specs.swreq_derive.Derivation.TermStatement.{IsValid}
+use Rattle.swreq_machine.specs.swreq_world.FactsAt.{facts_of, source_of}
+use Rattle.swreq_machine.specs.swreq_world.Worlds.{TextWorld, signature_at}
 use Rattle.swreq_subst.specs.Calls.{AreAllValid, AreThere, IsOneInvalid, IsValidThere, TermCall}
 use Rattle.swreq_subst.specs.Failing.{AreFailing}
 use Rattle.swreq_subst.specs.Lines.{AreValid, HasInvalid, IsInvalid}

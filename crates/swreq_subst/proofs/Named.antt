@@ -6,21 +6,21 @@ use Rattle.std.specs.Option.{option_map}
 use Rattle.std.proofs.lemmas.Bool.{eqb-true}
 use Rattle.std.proofs.lemmas.List.{map-append, take_more}
 use Rattle.std.proofs.lemmas.List.Elements.{All-append, All-cons, All-nil}
-use Rattle.swreq_decl.specs.declared.skeleton.CallDecl.{CallDecl}
-use Rattle.swreq_decl.specs.declared.skeleton.Span.{Span}
-use Rattle.swreq_decl.specs.declared.skeleton.TypeDecl.{TypeDecl}
-use Rattle.swreq_names.specs.declared.signature.Param.{Param}
-use Rattle.swreq_names.specs.declared.signature.Signature.{Signature}
-use Rattle.swreq_names.specs.Spaces.{nested_in, param_of, signature_of, struct_of, word}
-use Rattle.swreq_rank.specs.Ranks.{Bytes}
+use Rattle.swreq_resolve.specs.swreq_decl.declared.skeleton.CallDecl.{CallDecl}
+use Rattle.swreq_resolve.specs.swreq_decl.declared.skeleton.Span.{Span}
+use Rattle.swreq_resolve.specs.swreq_decl.declared.skeleton.TypeDecl.{TypeDecl}
+use Rattle.swreq_resolve.specs.swreq_names.declared.signature.Param.{Param}
+use Rattle.swreq_resolve.specs.swreq_names.declared.signature.Signature.{Signature}
+use Rattle.swreq_resolve.specs.swreq_names.Spaces.{nested_in, param_of, signature_of, struct_of, word}
+use Rattle.swreq_resolve.specs.swreq_rank.Ranks.{Bytes}
 use Rattle.swreq_resolve.specs.declared.refusal.Fault.TheVariants.{ConcreteType, WrongArity}
 use Rattle.swreq_resolve.specs.RefusedTypes.{of_type_on}
 use Rattle.swreq_resolve.specs.Refusals.{begins_in_signature, of_asked, of_nested_query, of_step}
-use Rattle.swreq_lowering.specs.declared.ids.FuncId.{FuncId}
-use Rattle.swreq_lowering.specs.Signatures.{func_id}
-use Rattle.swreq_lowering.specs.Types.{param_id}
-use Rattle.swreq_world.specs.Lookups.{order_of, param_of_signature}
-use Rattle.swreq_world.specs.Worlds.{IdWorld, signature_at}
+use Rattle.swreq_machine.specs.swreq_lowering.declared.ids.FuncId.{FuncId}
+use Rattle.swreq_machine.specs.swreq_lowering.Signatures.{func_id}
+use Rattle.swreq_machine.specs.swreq_lowering.Types.{param_id}
+use Rattle.swreq_machine.specs.swreq_world.Lookups.{order_of, param_of_signature}
+use Rattle.swreq_machine.specs.swreq_world.Worlds.{IdWorld, signature_at}
 use Rattle.swreq_subst.specs.Arguments.{param_count}
 use Rattle.swreq_subst.specs.Refusals.{declared, func_called, of_call, of_count, of_name, of_types, query_on, signature_called}
 use Rattle.swreq_subst.specs.Saying.{HaveIds, OneByOne}

@@ -5,14 +5,14 @@ use Rattle.std.proofs.lemmas.Bool.{cases_lt}
 use Rattle.std.proofs.lemmas.List.Elements.{Contains-append_left, Contains-append_right, Contains-append_cases}
 use Rattle.std.proofs.lemmas.List.{get_or_append_left, get_or_default}
 use Rattle.std.proofs.Math.Seq.{get_or-append_seam}
-use Rattle.swreq_lemmas.proofs.Members.{first_member, no_member, only_member}
-use Rattle.swreq_param.specs.Terms.{Term}
-use Rattle.swreq_derive.specs.declared.known.Params.{Params}
-use Rattle.swreq_derive.specs.Derivation.{TermFacts, TermRequirement, Source}
-use Rattle.swreq_derive.specs.Derivation.Source.{Written}
-use Rattle.swreq_derive.specs.Facts.{generic_params}
-use Rattle.swreq_derive.specs.Instances.{HasNumber}
-use Rattle.swreq_derive.proofs.InstanceLemmas.{one_number}
+use Rattle.swreq_print.proofs.swreq_lemmas.Members.{first_member, no_member, only_member}
+use Rattle.swreq_machine.specs.swreq_param.Terms.{Term}
+use Rattle.swreq_machine.specs.swreq_derive.declared.known.Params.{Params}
+use Rattle.swreq_machine.specs.swreq_derive.Derivation.{TermFacts, TermRequirement, Source}
+use Rattle.swreq_machine.specs.swreq_derive.Derivation.Source.{Written}
+use Rattle.swreq_machine.specs.swreq_derive.Facts.{generic_params}
+use Rattle.swreq_machine.specs.swreq_derive.Instances.{HasNumber}
+use Rattle.swreq_machine.proofs.swreq_derive.InstanceLemmas.{one_number}
 use Rattle.swreq_subst.specs.Failing.{AreFailing, AreFailingUpTo, FailsAt, Holds}
 
 module _ (f : TermFacts) (from : Source) (params : Params) (args : List Term) (rs : List TermRequirement) where

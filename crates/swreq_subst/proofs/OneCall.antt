@@ -2,26 +2,26 @@
 use Rattle.std.proofs.Common.{◌≡◌, ℕ, List, [], ◌∷◌, Option, Some, None, slice_get, get_or, refl, sym, ap, ap₂, subst, ◌∙◌}
 use Rattle.std.specs.Option.{option_map}
 use Rattle.std.proofs.lemmas.Option.{get_or_from_slice_get, same_Some, slice_get_within}
-use Rattle.swreq_decl.specs.declared.skeleton.CallDecl.{CallDecl}
-use Rattle.swreq_decl.specs.declared.skeleton.Span.{Span}
-use Rattle.swreq_decl.specs.declared.skeleton.StepDecl.{StepDecl}
-use Rattle.swreq_decl.specs.declared.skeleton.StepDecl.TheVariants as decls
-use Rattle.swreq_decl.specs.declared.skeleton.TypeDecl.{TypeDecl}
-use Rattle.swreq_names.specs.Spaces.{word}
-use Rattle.swreq_param.specs.declared.ids.AssocId.{AssocId}
-use Rattle.swreq_param.specs.declared.ids.NameId.{NameId}
-use Rattle.swreq_param.specs.declared.ids.ProtoId.{ProtoId}
-use Rattle.swreq_param.specs.declared.ids.Step.{Step}
-use Rattle.swreq_param.specs.declared.ids.Step.TheVariants as steps
-use Rattle.swreq_param.specs.Terms.{Term, with_steps}
-use Rattle.swreq_param.specs.Terms.Term.{Generic}
-use Rattle.swreq_rank.specs.Ranks.{Bytes}
-use Rattle.swreq_lexicon.specs.Views.{LexiconView}
-use Rattle.swreq_lowering.specs.declared.ids.FuncId.{FuncId}
+use Rattle.swreq_resolve.specs.swreq_decl.declared.skeleton.CallDecl.{CallDecl}
+use Rattle.swreq_resolve.specs.swreq_decl.declared.skeleton.Span.{Span}
+use Rattle.swreq_resolve.specs.swreq_decl.declared.skeleton.StepDecl.{StepDecl}
+use Rattle.swreq_resolve.specs.swreq_decl.declared.skeleton.StepDecl.TheVariants as decls
+use Rattle.swreq_resolve.specs.swreq_decl.declared.skeleton.TypeDecl.{TypeDecl}
+use Rattle.swreq_resolve.specs.swreq_names.Spaces.{word}
+use Rattle.swreq_machine.specs.swreq_param.declared.ids.AssocId.{AssocId}
+use Rattle.swreq_machine.specs.swreq_param.declared.ids.NameId.{NameId}
+use Rattle.swreq_machine.specs.swreq_param.declared.ids.ProtoId.{ProtoId}
+use Rattle.swreq_machine.specs.swreq_param.declared.ids.Step.{Step}
+use Rattle.swreq_machine.specs.swreq_param.declared.ids.Step.TheVariants as steps
+use Rattle.swreq_machine.specs.swreq_param.Terms.{Term, with_steps}
+use Rattle.swreq_machine.specs.swreq_param.Terms.Term.{Generic}
+use Rattle.swreq_resolve.specs.swreq_rank.Ranks.{Bytes}
+use Rattle.swreq_machine.specs.swreq_lexicon.Views.{LexiconView}
+use Rattle.swreq_machine.specs.swreq_lowering.declared.ids.FuncId.{FuncId}
 use Rattle.swreq_print.specs.Reading.{TellsApart}
-use Rattle.swreq_world.specs.Lookups.{IsNamedAt}
-use Rattle.swreq_world.specs.ReadBack.{SaysAssociated, SaysName, SaysProtocol, SaysStep, SaySteps}
-use Rattle.swreq_world.specs.Worlds.{WorldOver}
+use Rattle.swreq_machine.specs.swreq_world.Lookups.{IsNamedAt}
+use Rattle.swreq_machine.specs.swreq_world.ReadBack.{SaysAssociated, SaysName, SaysProtocol, SaysStep, SaySteps}
+use Rattle.swreq_machine.specs.swreq_world.Worlds.{WorldOver}
 use Rattle.swreq_subst.specs.Calls.{TermCall}
 use Rattle.swreq_subst.specs.Saying.{FindSignatures, OneByOne, SayCalls, SaysArgument, SaysCall}
 use Rattle.swreq_subst.proofs.Unknown.{are_known}

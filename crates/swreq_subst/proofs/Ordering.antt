@@ -1,11 +1,11 @@
 -- The places of generic parameters.
 use Rattle.std.proofs.Common.{◌≡◌, ℕ, zero, suc, ◌+◌, ◌<◌, ◌==◌, cond, inl, inr, [], ◌∷◌, Some, length, slice_get, Contains, refl, sym, subst, ◌∙◌, arith, length-append}
 use Rattle.std.proofs.lemmas.Bool.{cases_lt}
-use Rattle.swreq_lemmas.proofs.Elements.{get_after, get_last, get_left}
-use Rattle.swreq_param.specs.declared.ids.ParamId.{ParamId}
-use Rattle.swreq_derive.specs.declared.known.Params.{Params}
-use Rattle.swreq_derive.specs.Facts.{generic_params, params_of_depth}
-use Rattle.swreq_derive.proofs.TwoDepths.{two_depths}
+use Rattle.swreq_print.proofs.swreq_lemmas.Elements.{get_after, get_last, get_left}
+use Rattle.swreq_machine.specs.swreq_param.declared.ids.ParamId.{ParamId}
+use Rattle.swreq_machine.specs.swreq_derive.declared.known.Params.{Params}
+use Rattle.swreq_machine.specs.swreq_derive.Facts.{generic_params, params_of_depth}
+use Rattle.swreq_machine.proofs.swreq_derive.TwoDepths.{two_depths}
 use Rattle.swreq_subst.specs.Arguments.{param_count, place_of}
 
 abbrev param : ℕ → ℕ → ParamId

@@ -4,15 +4,15 @@ use Rattle.std.specs.Prelude.{nat_eq}
 use Rattle.std.specs.Option.{option_map}
 use Rattle.std.proofs.lemmas.Bool.{eqb-true, eq-eqb}
 use Rattle.std.proofs.lemmas.List.Elements.{Contains-append_left, Contains-append_right, Contains-append_cases}
-use Rattle.swreq_lemmas.proofs.Members.{first_member, no_member, only_member}
-use Rattle.swreq_decl.specs.declared.skeleton.CallDecl.{CallDecl}
-use Rattle.swreq_decl.specs.declared.skeleton.Span.{Span}
-use Rattle.swreq_decl.specs.declared.skeleton.TypeDecl.{TypeDecl}
-use Rattle.swreq_names.specs.declared.signature.Signature.{Signature}
-use Rattle.swreq_names.specs.declared.signature.Signature.TheVariants.{Struct, Function}
-use Rattle.swreq_names.specs.Spaces.{function_of, nested_in, signature_of, struct_of, word}
-use Rattle.swreq_names.proofs.Pieces.{in_pieces, from_pieces}
-use Rattle.swreq_rank.specs.Ranks.{Bytes}
+use Rattle.swreq_print.proofs.swreq_lemmas.Members.{first_member, no_member, only_member}
+use Rattle.swreq_resolve.specs.swreq_decl.declared.skeleton.CallDecl.{CallDecl}
+use Rattle.swreq_resolve.specs.swreq_decl.declared.skeleton.Span.{Span}
+use Rattle.swreq_resolve.specs.swreq_decl.declared.skeleton.TypeDecl.{TypeDecl}
+use Rattle.swreq_resolve.specs.swreq_names.declared.signature.Signature.{Signature}
+use Rattle.swreq_resolve.specs.swreq_names.declared.signature.Signature.TheVariants.{Struct, Function}
+use Rattle.swreq_resolve.specs.swreq_names.Spaces.{function_of, nested_in, signature_of, struct_of, word}
+use Rattle.swreq_resolve.proofs.swreq_names.Pieces.{in_pieces, from_pieces}
+use Rattle.swreq_resolve.specs.swreq_rank.Ranks.{Bytes}
 use Rattle.swreq_resolve.specs.declared.refusal.Fault.{Fault}
 use Rattle.swreq_resolve.specs.declared.refusal.Fault.TheVariants.{UnknownSignature, WrongArity}
 use Rattle.swreq_resolve.specs.declared.refusal.Refusal.{Refusal}
@@ -20,10 +20,10 @@ use Rattle.swreq_resolve.specs.First.{when}
 use Rattle.swreq_resolve.specs.Refused.{refused}
 use Rattle.swreq_resolve.specs.RefusedTypes.{of_type_on}
 use Rattle.swreq_resolve.specs.Refusals.{of_asked, of_nested_query}
-use Rattle.swreq_lowering.specs.declared.ids.FuncId.{FuncId}
-use Rattle.swreq_lowering.specs.Signatures.{func_id}
-use Rattle.swreq_world.specs.Lookups.{is_struct, order_of}
-use Rattle.swreq_world.specs.Worlds.{IdWorld, signature_at}
+use Rattle.swreq_machine.specs.swreq_lowering.declared.ids.FuncId.{FuncId}
+use Rattle.swreq_machine.specs.swreq_lowering.Signatures.{func_id}
+use Rattle.swreq_machine.specs.swreq_world.Lookups.{is_struct, order_of}
+use Rattle.swreq_machine.specs.swreq_world.Worlds.{IdWorld, signature_at}
 use Rattle.swreq_subst.specs.Arguments.{param_count}
 use Rattle.swreq_subst.specs.Refusals.{declared, func_called, of_call, of_count, of_name, of_types, query_on, refusals, signature_called}
 use Rattle.swreq_subst.specs.Refused.{IsCalled, IsRefused, IsStructCalled, Names, no_function, no_signature, no_struct, of_type, wrong_count}

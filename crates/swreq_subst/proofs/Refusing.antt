@@ -2,7 +2,7 @@
 use Rattle.std.proofs.Common.{◌≡◌, ℕ, ◌+◌, ◌<◌, ◌≤◌, inl, inr, Bool, true, false, cond, List, [], ◌∷◌, Option, None, Some, Contains, length, get_or, drop, sym, ap, subst, ◌∙◌, true≢false, refl}
 use Rattle.std.specs.List.{flat_map}
 use Rattle.std.proofs.lemmas.List.{at_drop_all, at_drop_more}
-use Rattle.swreq_lemmas.proofs.Members.{first_member, later_member, member_cases, no_member, only_member}
+use Rattle.swreq_print.proofs.swreq_lemmas.Members.{first_member, later_member, member_cases, no_member, only_member}
 use Rattle.swreq_resolve.specs.declared.refusal.Refusal.{Refusal}
 use Rattle.swreq_resolve.specs.First.{IsFirst, earlier, least, precedes}
 use Rattle.swreq_resolve.proofs.Order.{least_is_first, none_refused, one_first}

@@ -1,20 +1,15 @@
 -- A table that grows keeps types, requirements and calls.
-use Rattle.std.proofs.Common.{◌≡◌, suc, List, [], ◌∷◌, Option, Some, None, map, refl, sym, ap, ap₂, subst, arith}
+use Rattle.std.proofs.Common.{◌≡◌, suc, List, [], ◌∷◌, Option, Some, None, map, refl, ap, ap₂, arith}
 use Rattle.std.specs.Prelude.{All}
 use Rattle.std.proofs.lemmas.List.Elements.{All-weaker}
 use Rattle.std.specs.Option.{option_map}
-use Rattle.swreq_param.specs.declared.ids.TermId.{TermId}
-use Rattle.swreq_param.specs.Tables.{Extends, IsOf, term_at}
-use Rattle.swreq_param.specs.Terms.{Term}
-use Rattle.swreq_derive.specs.declared.requirements.Requirement.{Requirement}
-use Rattle.swreq_derive.specs.declared.requirements.Requirement.TheVariants.{Conf, Layout, Same}
-use Rattle.swreq_derive.specs.Facts.{requirement_of}
-use Rattle.swreq_lexicon.specs.Views.{LexiconView}
-use Rattle.swreq_lowering.specs.ByTable.{HasIdsOf}
-use Rattle.swreq_lowering.proofs.Growing.{ids_stay, of_stays}
-use Rattle.swreq_world.specs.Closed.{IsRequirementOf, IsTermOf}
-use Rattle.swreq_world.specs.Worlds.{IdWorld}
-use Rattle.swreq_symbols.specs.Known.{IsRequirementIn, IsTypeIn}
+use Rattle.swreq_machine.specs.swreq_param.declared.ids.TermId.{TermId}
+use Rattle.swreq_machine.specs.swreq_param.Tables.{Extends, IsOf, term_at}
+use Rattle.swreq_machine.specs.swreq_param.Terms.{Term}
+use Rattle.swreq_machine.specs.swreq_lexicon.Views.{LexiconView}
+use Rattle.swreq_machine.proofs.swreq_symbols.Growing.{type_in_stays}
+use Rattle.swreq_machine.specs.swreq_world.Worlds.{IdWorld}
+use Rattle.swreq_machine.specs.swreq_symbols.Known.{IsTypeIn}
 use Rattle.swreq_subst.specs.declared.calls.Call.{Call}
 use Rattle.swreq_subst.specs.Calls.{IsArgumentIn, IsCallIn, call_by}
 
@@ -25,26 +20,15 @@ module _ (old new : List Term) (more : Extends old new) where
   types_stay [] h = refl
   types_stay (t ∷ ts) h = ap₂ ◌∷◌ (more.stands t (h 0 t (omega arith))) (types_stay ts (λ k d l. h (suc k) d (omega arith)))
 
-  type_stays : (x : LexiconView) (t : TermId) → IsTypeIn old x t → IsTypeIn new x t
-  type_stays x t h = (of_stays old new t more h.0, subst (IsTermOf x) (sym (more.stands t h.0)) h.1)
-
   pub types_in_stay : (x : LexiconView) (args : List TermId) → All (IsTypeIn old x) args → All (IsTypeIn new x) args
-  types_in_stay x args h = All-weaker (IsTypeIn old x) (IsTypeIn new x) (type_stays x) args h
-
-  pub requirement_stays : (r : Requirement) → HasIdsOf old r → requirement_of new r ≡ requirement_of old r
-  requirement_stays (Conf t p) h = let e = more.stands t h in cc
-  requirement_stays (Layout t) h = let e = more.stands t h in cc
-  requirement_stays (Same t u) h = let e = more.stands t h.0 in let f = more.stands u h.1 in cc
-
-  pub requirement_in_stays : (x : LexiconView) (r : Requirement) → IsRequirementIn old x r → IsRequirementIn new x r
-  requirement_in_stays x r h = (ids_stay old new r more h.0, subst (IsRequirementOf x) (sym (requirement_stays r h.0)) h.1)
+  types_in_stay x args h = All-weaker (IsTypeIn old x) (IsTypeIn new x) (type_in_stays old new more x) args h
 
   -- ---- calls
 
   module _ (x : LexiconView) where
     argument_in_stays : (a : Option TermId) → IsArgumentIn old x a → IsArgumentIn new x a
     argument_in_stays None h = tt
-    argument_in_stays (Some t) h = type_stays x t h
+    argument_in_stays (Some t) h = type_in_stays old new more x t h
 
     pub arguments_in_stay : (args : List (Option TermId)) → All (IsArgumentIn old x) args → All (IsArgumentIn new x) args
     arguments_in_stay args h = All-weaker (IsArgumentIn old x) (IsArgumentIn new x) argument_in_stays args h

@@ -4,21 +4,21 @@ use Rattle.std.specs.Prelude.{not}
 use Rattle.std.specs.List.{flat_map}
 use Rattle.std.proofs.lemmas.List.{take_more}
 use Rattle.std.proofs.lemmas.Option.{slice_get_within}
-use Rattle.swreq_decl.specs.declared.skeleton.Span.{Span}
-use Rattle.swreq_decl.specs.declared.skeleton.StepDecl.{StepDecl}
-use Rattle.swreq_decl.specs.declared.skeleton.StepDecl.TheVariants as decls
-use Rattle.swreq_names.specs.Spaces.{Spaces, word, declares}
-use Rattle.swreq_param.specs.declared.ids.Step.{Step}
-use Rattle.swreq_param.specs.declared.ids.Step.TheVariants as steps
-use Rattle.swreq_param.specs.Terms.{Term, with_steps}
-use Rattle.swreq_param.specs.Terms.Term.{Member}
-use Rattle.swreq_rank.specs.Ranks.{Bytes}
+use Rattle.swreq_resolve.specs.swreq_decl.declared.skeleton.Span.{Span}
+use Rattle.swreq_resolve.specs.swreq_decl.declared.skeleton.StepDecl.{StepDecl}
+use Rattle.swreq_resolve.specs.swreq_decl.declared.skeleton.StepDecl.TheVariants as decls
+use Rattle.swreq_resolve.specs.swreq_names.Spaces.{Spaces, word, declares}
+use Rattle.swreq_machine.specs.swreq_param.declared.ids.Step.{Step}
+use Rattle.swreq_machine.specs.swreq_param.declared.ids.Step.TheVariants as steps
+use Rattle.swreq_machine.specs.swreq_param.Terms.{Term, with_steps}
+use Rattle.swreq_machine.specs.swreq_param.Terms.Term.{Member}
+use Rattle.swreq_resolve.specs.swreq_rank.Ranks.{Bytes}
 use Rattle.swreq_resolve.specs.declared.refusal.Fault.{Fault}
 use Rattle.swreq_resolve.specs.First.{when}
 use Rattle.swreq_resolve.specs.Refusals.{of_bound}
-use Rattle.swreq_lexicon.specs.Views.{LexiconView}
-use Rattle.swreq_world.specs.Closed.{IsStepOf, IsTermOf}
-use Rattle.swreq_world.specs.ReadBack.{SaySteps, SaysStep}
+use Rattle.swreq_machine.specs.swreq_lexicon.Views.{LexiconView}
+use Rattle.swreq_machine.specs.swreq_world.Closed.{IsStepOf, IsTermOf}
+use Rattle.swreq_machine.specs.swreq_world.ReadBack.{SaySteps, SaysStep}
 
 -- ---- nothing is refused
 

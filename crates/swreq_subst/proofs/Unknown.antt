@@ -1,28 +1,28 @@
 -- Types with names that the world lacks.
 use Rattle.std.proofs.Common.{◌≡◌, List, [], ◌∷◌, Some, slice_get, inl, inr, subst}
 use Rattle.std.proofs.lemmas.Option.{slice_get_within}
-use Rattle.swreq_lemmas.proofs.Elements.{get_contains}
-use Rattle.swreq_lemmas.proofs.Members.{member_cases, no_member}
-use Rattle.swreq_decl.specs.declared.skeleton.StepDecl.{StepDecl}
-use Rattle.swreq_decl.specs.declared.skeleton.StepDecl.TheVariants as decls
-use Rattle.swreq_names.specs.Spaces.{word}
-use Rattle.swreq_param.specs.declared.ids.AssocId.{AssocId}
-use Rattle.swreq_param.specs.declared.ids.NameId.{NameId}
-use Rattle.swreq_param.specs.declared.ids.ProtoId.{ProtoId}
-use Rattle.swreq_param.specs.declared.ids.Step.{Step}
-use Rattle.swreq_param.specs.declared.ids.Step.TheVariants as steps
-use Rattle.swreq_param.specs.Terms.{Term}
-use Rattle.swreq_param.specs.Terms.Term.{Generic, Member}
-use Rattle.swreq_derive.specs.Derivation.{Declares, Derivable, Source}
-use Rattle.swreq_derive.specs.Derivation.TermStatement.{IsValid}
-use Rattle.swreq_rank.specs.Ranks.{Bytes}
-use Rattle.swreq_lexicon.specs.Lexicons.{pair}
-use Rattle.swreq_lexicon.proofs.RankLaws.{ranked}
-use Rattle.swreq_correspondence.proofs.Readings.{valid_base, valid_bound, valid_name}
-use Rattle.swreq_world.specs.Closed.{IsClosed, IsStepOf, IsTermOf}
-use Rattle.swreq_world.specs.FactsAt.{facts_of}
-use Rattle.swreq_world.specs.ReadBack.{SaySteps, SaysStep}
-use Rattle.swreq_world.specs.Worlds.{IdWorld, TextWorld, WorldOver}
+use Rattle.swreq_print.proofs.swreq_lemmas.Elements.{get_contains}
+use Rattle.swreq_print.proofs.swreq_lemmas.Members.{member_cases, no_member}
+use Rattle.swreq_resolve.specs.swreq_decl.declared.skeleton.StepDecl.{StepDecl}
+use Rattle.swreq_resolve.specs.swreq_decl.declared.skeleton.StepDecl.TheVariants as decls
+use Rattle.swreq_resolve.specs.swreq_names.Spaces.{word}
+use Rattle.swreq_machine.specs.swreq_param.declared.ids.AssocId.{AssocId}
+use Rattle.swreq_machine.specs.swreq_param.declared.ids.NameId.{NameId}
+use Rattle.swreq_machine.specs.swreq_param.declared.ids.ProtoId.{ProtoId}
+use Rattle.swreq_machine.specs.swreq_param.declared.ids.Step.{Step}
+use Rattle.swreq_machine.specs.swreq_param.declared.ids.Step.TheVariants as steps
+use Rattle.swreq_machine.specs.swreq_param.Terms.{Term}
+use Rattle.swreq_machine.specs.swreq_param.Terms.Term.{Generic, Member}
+use Rattle.swreq_machine.specs.swreq_derive.Derivation.{Declares, Derivable, Source}
+use Rattle.swreq_machine.specs.swreq_derive.Derivation.TermStatement.{IsValid}
+use Rattle.swreq_resolve.specs.swreq_rank.Ranks.{Bytes}
+use Rattle.swreq_machine.specs.swreq_lexicon.Lexicons.{pair}
+use Rattle.swreq_print.proofs.swreq_lexicon.RankLaws.{ranked}
+use Rattle.swreq_machine.proofs.swreq_correspondence.Readings.{valid_base, valid_bound, valid_name}
+use Rattle.swreq_machine.specs.swreq_world.Closed.{IsClosed, IsStepOf, IsTermOf}
+use Rattle.swreq_machine.specs.swreq_world.FactsAt.{facts_of}
+use Rattle.swreq_machine.specs.swreq_world.ReadBack.{SaySteps, SaysStep}
+use Rattle.swreq_machine.specs.swreq_world.Worlds.{IdWorld, TextWorld, WorldOver}
 use Rattle.swreq_subst.specs.Saying.{HasUnknown, IsUnknown}
 
 module _ {R Q : Type 0} (w : WorldOver R Q) (text : Bytes) where

@@ -4,20 +4,20 @@ use Rattle.std.specs.List.{AllPairs}
 use Rattle.std.proofs.lemmas.List.Elements.{Contains-get_or}
 use Rattle.std.proofs.lemmas.List.Kept.{AllPairs-from_increasing}
 use Rattle.std.proofs.lemmas.Option.{same_Some, slice_get_within}
-use Rattle.swreq_lemmas.proofs.Elements.{contains_get, get_contains, same_heads, same_tails}
-use Rattle.swreq_lemmas.proofs.Members.{contains_of_map, first_member, later_member, member_cases, no_member}
-use Rattle.swreq_param.specs.Terms.{Term, self}
-use Rattle.swreq_derive.specs.declared.known.Params.{Params}
-use Rattle.swreq_derive.specs.Derivation.{Derivable, Source, TermFacts, TermRequirement, TermStatement}
-use Rattle.swreq_derive.specs.Derivation.Source.{Written}
-use Rattle.swreq_derive.specs.Derivation.TermStatement.{IsValid}
-use Rattle.swreq_derive.specs.Facts.{generic_params}
-use Rattle.swreq_derive.specs.Instances.{HasNumber}
-use Rattle.swreq_derive.specs.Substitution.{substitute_into}
-use Rattle.swreq_derive.proofs.Substitution.{derives_with}
+use Rattle.swreq_print.proofs.swreq_lemmas.Elements.{contains_get, get_contains, same_heads, same_tails}
+use Rattle.swreq_print.proofs.swreq_lemmas.Members.{contains_of_map, first_member, later_member, member_cases, no_member}
+use Rattle.swreq_machine.specs.swreq_param.Terms.{Term, self}
+use Rattle.swreq_machine.specs.swreq_derive.declared.known.Params.{Params}
+use Rattle.swreq_machine.specs.swreq_derive.Derivation.{Derivable, Source, TermFacts, TermRequirement, TermStatement}
+use Rattle.swreq_machine.specs.swreq_derive.Derivation.Source.{Written}
+use Rattle.swreq_machine.specs.swreq_derive.Derivation.TermStatement.{IsValid}
+use Rattle.swreq_machine.specs.swreq_derive.Facts.{generic_params}
+use Rattle.swreq_machine.specs.swreq_derive.Instances.{HasNumber}
+use Rattle.swreq_machine.specs.swreq_derive.Substitution.{substitute_into}
+use Rattle.swreq_machine.proofs.swreq_derive.Substitution.{derives_with}
 use Rattle.swreq_print.specs.Names.{Text}
-use Rattle.swreq_world.specs.FactsAt.{facts_of, source_of, written_list}
-use Rattle.swreq_world.specs.Worlds.{TextWorld, signature_at}
+use Rattle.swreq_machine.specs.swreq_world.FactsAt.{facts_of, source_of, written_list}
+use Rattle.swreq_machine.specs.swreq_world.Worlds.{TextWorld, signature_at}
 use Rattle.swreq_subst.specs.Arguments.{argument_of, param_count, place_of}
 use Rattle.swreq_subst.specs.Calls.{TermCall}
 use Rattle.swreq_subst.specs.Failing.{AreFailing, Holds}

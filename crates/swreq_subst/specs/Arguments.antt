@@ -1,10 +1,10 @@
 -- Type parameters and requirements with types in place of their generic parameters.
 use Rattle.std.specs.Prelude.{ℕ, ◌+◌, ◌==◌, cond, List, slice_index_or}
-use Rattle.swreq_param.specs.declared.ids.ParamId.{ParamId}
-use Rattle.swreq_param.specs.Terms.{Term, self}
-use Rattle.swreq_derive.specs.declared.known.Params.{Params}
-use Rattle.swreq_derive.specs.Derivation.{TermRequirement, substitute}
-use Rattle.swreq_derive.specs.Substitution.{substitute_in}
+use Rattle.swreq_machine.specs.swreq_param.declared.ids.ParamId.{ParamId}
+use Rattle.swreq_machine.specs.swreq_param.Terms.{Term, self}
+use Rattle.swreq_machine.specs.swreq_derive.declared.known.Params.{Params}
+use Rattle.swreq_machine.specs.swreq_derive.Derivation.{TermRequirement, substitute}
+use Rattle.swreq_machine.specs.swreq_derive.Substitution.{substitute_in}
 
 -- how many generic parameters there are
 abbrev pub param_count : Params → ℕ

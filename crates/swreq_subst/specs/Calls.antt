@@ -1,17 +1,17 @@
 -- Calls, over type parameters and over the ids of a table.
 use Rattle.std.specs.Prelude.{◌≡◌, ◌≢◌, ◌<◌, List, All, Contains, Option, Some, None, length, map}
 use Rattle.std.specs.Option.{option_map}
-use Rattle.swreq_param.specs.declared.ids.TermId.{TermId}
-use Rattle.swreq_param.specs.Tables.{term_at}
-use Rattle.swreq_param.specs.Terms.{Term}
-use Rattle.swreq_derive.specs.Derivation.{TermStatement}
-use Rattle.swreq_derive.specs.Derivation.TermStatement.{IsValid}
-use Rattle.swreq_lexicon.specs.Views.{LexiconView}
-use Rattle.swreq_lowering.specs.declared.ids.FuncId.{FuncId}
-use Rattle.swreq_symbols.specs.Known.{IsTypeIn}
+use Rattle.swreq_machine.specs.swreq_param.declared.ids.TermId.{TermId}
+use Rattle.swreq_machine.specs.swreq_param.Tables.{term_at}
+use Rattle.swreq_machine.specs.swreq_param.Terms.{Term}
+use Rattle.swreq_machine.specs.swreq_derive.Derivation.{TermStatement}
+use Rattle.swreq_machine.specs.swreq_derive.Derivation.TermStatement.{IsValid}
+use Rattle.swreq_machine.specs.swreq_lexicon.Views.{LexiconView}
+use Rattle.swreq_machine.specs.swreq_lowering.declared.ids.FuncId.{FuncId}
+use Rattle.swreq_machine.specs.swreq_symbols.Known.{IsTypeIn}
 use Rattle.swreq_machine.specs.Machines.{IsMachineOf, MachineView}
-use Rattle.swreq_world.specs.FactsAt.{written_list}
-use Rattle.swreq_world.specs.Worlds.{IdWorld, TextWorld, signature_at}
+use Rattle.swreq_machine.specs.swreq_world.FactsAt.{written_list}
+use Rattle.swreq_machine.specs.swreq_world.Worlds.{IdWorld, TextWorld, signature_at}
 use Rattle.swreq_subst.specs.declared.calls.Call.{Call}
 use Rattle.swreq_subst.specs.Arguments.{param_count}
 

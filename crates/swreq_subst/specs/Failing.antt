@@ -1,13 +1,13 @@
 -- Which requirements of a signature fail where it is called.
 use Rattle.std.specs.Prelude.{◌≡◌, ◌⊎◌, ℕ, ◌≤◌, List, Contains, Some, length, map}
 use Rattle.std.specs.List.Sorted.{IsStrictlyIncreasing}
-use Rattle.swreq_derive.specs.declared.known.Params.{Params}
-use Rattle.swreq_derive.specs.Derivation.{TermFacts, TermRequirement, Source, Derivable}
-use Rattle.swreq_derive.specs.Derivation.TermStatement.{Requires}
-use Rattle.swreq_derive.specs.Instances.{HasNumber}
-use Rattle.swreq_param.specs.Terms.{Term}
-use Rattle.swreq_world.specs.FactsAt.{facts_of, source_of, written_list}
-use Rattle.swreq_world.specs.Worlds.{TextWorld, signature_at}
+use Rattle.swreq_machine.specs.swreq_derive.declared.known.Params.{Params}
+use Rattle.swreq_machine.specs.swreq_derive.Derivation.{TermFacts, TermRequirement, Source, Derivable}
+use Rattle.swreq_machine.specs.swreq_derive.Derivation.TermStatement.{Requires}
+use Rattle.swreq_machine.specs.swreq_derive.Instances.{HasNumber}
+use Rattle.swreq_machine.specs.swreq_param.Terms.{Term}
+use Rattle.swreq_machine.specs.swreq_world.FactsAt.{facts_of, source_of, written_list}
+use Rattle.swreq_machine.specs.swreq_world.Worlds.{TextWorld, signature_at}
 use Rattle.swreq_subst.specs.Arguments.{requirement_with}
 use Rattle.swreq_subst.specs.Calls.{TermCall}
 

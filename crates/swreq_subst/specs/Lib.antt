@@ -1,3 +1,4 @@
+pub use Rattle.swreq_machine.specs as swreq_machine
 pub mod Arguments
 pub mod Calls
 pub mod Refusals

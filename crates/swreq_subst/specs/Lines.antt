@@ -2,14 +2,14 @@
 use Rattle.std.specs.Prelude.{◌≡◌, ◌⊎◌, ℕ, ◌-◌, List, [], ◌∷◌, ◌++◌, Contains, Option, Some, None, codes, map, slice_get}
 use Rattle.std.specs.Option.{option_map_or}
 use Rattle.swreq_text.specs.Joined.{joined}
-use Rattle.swreq_derive.specs.Derivation.{Derivable, TermRequirement}
-use Rattle.swreq_derive.specs.Derivation.TermStatement.{IsValid}
-use Rattle.swreq_param.specs.Terms.{Term}
+use Rattle.swreq_machine.specs.swreq_derive.Derivation.{Derivable, TermRequirement}
+use Rattle.swreq_machine.specs.swreq_derive.Derivation.TermStatement.{IsValid}
+use Rattle.swreq_machine.specs.swreq_param.Terms.{Term}
 use Rattle.swreq_print.specs.Names.{Text}
 use Rattle.swreq_print.specs.Signatures.{requirement_text}
-use Rattle.swreq_lexicon.specs.Views.{LexiconView}
-use Rattle.swreq_world.specs.FactsAt.{facts_of, source_of, written_list}
-use Rattle.swreq_world.specs.Worlds.{TextWorld, signature_at}
+use Rattle.swreq_machine.specs.swreq_lexicon.Views.{LexiconView}
+use Rattle.swreq_machine.specs.swreq_world.FactsAt.{facts_of, source_of, written_list}
+use Rattle.swreq_machine.specs.swreq_world.Worlds.{TextWorld, signature_at}
 use Rattle.swreq_subst.specs.Calls.{TermCall}
 use Rattle.swreq_subst.specs.Failing.{AreFailingWith}
 

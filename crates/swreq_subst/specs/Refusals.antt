@@ -2,13 +2,13 @@
 use Rattle.std.specs.Prelude.{◌≡◌, ℕ, nat_eq, not, List, [], ◌++◌, length, Option, Some, None}
 use Rattle.std.specs.List.{flat_map}
 use Rattle.std.specs.Option.{option_map}
-use Rattle.swreq_decl.specs.declared.skeleton.CallDecl.{CallDecl}
-use Rattle.swreq_decl.specs.declared.skeleton.Ask.TheVariants as asks
-use Rattle.swreq_decl.specs.declared.skeleton.QueryDecl.{QueryDecl}
-use Rattle.swreq_decl.specs.declared.skeleton.Span.{Span}
-use Rattle.swreq_decl.specs.declared.skeleton.TypeDecl.{TypeDecl}
-use Rattle.swreq_names.specs.declared.signature.Signature.{Signature}
-use Rattle.swreq_names.specs.Spaces.{Spaces, word}
+use Rattle.swreq_resolve.specs.swreq_decl.declared.skeleton.CallDecl.{CallDecl}
+use Rattle.swreq_resolve.specs.swreq_decl.declared.skeleton.Ask.TheVariants as asks
+use Rattle.swreq_resolve.specs.swreq_decl.declared.skeleton.QueryDecl.{QueryDecl}
+use Rattle.swreq_resolve.specs.swreq_decl.declared.skeleton.Span.{Span}
+use Rattle.swreq_resolve.specs.swreq_decl.declared.skeleton.TypeDecl.{TypeDecl}
+use Rattle.swreq_resolve.specs.swreq_names.declared.signature.Signature.{Signature}
+use Rattle.swreq_resolve.specs.swreq_names.Spaces.{Spaces, word}
 use Rattle.swreq_resolve.specs.declared.refusal.Fault.TheVariants.{WrongArity}
 use Rattle.swreq_resolve.specs.declared.refusal.NameErr.{NameErr}
 use Rattle.swreq_resolve.specs.declared.refusal.Refusal.{Refusal}
@@ -16,10 +16,10 @@ use Rattle.swreq_resolve.specs.Errors.{error_of}
 use Rattle.swreq_resolve.specs.First.{IsFirst, when}
 use Rattle.swreq_resolve.specs.RefusedTypes.{of_type_on}
 use Rattle.swreq_resolve.specs.Refusals.{of_query}
-use Rattle.swreq_lowering.specs.declared.ids.FuncId.{FuncId}
-use Rattle.swreq_lowering.specs.Queries.{signature_named}
-use Rattle.swreq_world.specs.Lookups.{func_named}
-use Rattle.swreq_world.specs.Worlds.{WorldOver, signature_at}
+use Rattle.swreq_machine.specs.swreq_lowering.declared.ids.FuncId.{FuncId}
+use Rattle.swreq_machine.specs.swreq_lowering.Queries.{signature_named}
+use Rattle.swreq_machine.specs.swreq_world.Lookups.{func_named}
+use Rattle.swreq_machine.specs.swreq_world.Worlds.{WorldOver, signature_at}
 use Rattle.swreq_subst.specs.Arguments.{param_count}
 
 -- the query `S.f()` or `f()`

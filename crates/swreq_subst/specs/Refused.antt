@@ -1,18 +1,18 @@
 -- Which names of a call are refused, and as what.
 use Rattle.std.specs.Prelude.{◌≡◌, ◌≢◌, ◌⊎◌, true, length, Contains, Option, Some, None}
 use Rattle.std.specs.Option.{option_map}
-use Rattle.swreq_decl.specs.declared.skeleton.CallDecl.{CallDecl}
-use Rattle.swreq_decl.specs.declared.skeleton.Span.{Span}
-use Rattle.swreq_decl.specs.declared.skeleton.TypeDecl.{TypeDecl}
-use Rattle.swreq_names.specs.Spaces.{word}
-use Rattle.swreq_rank.specs.Ranks.{Bytes}
+use Rattle.swreq_resolve.specs.swreq_decl.declared.skeleton.CallDecl.{CallDecl}
+use Rattle.swreq_resolve.specs.swreq_decl.declared.skeleton.Span.{Span}
+use Rattle.swreq_resolve.specs.swreq_decl.declared.skeleton.TypeDecl.{TypeDecl}
+use Rattle.swreq_resolve.specs.swreq_names.Spaces.{word}
+use Rattle.swreq_resolve.specs.swreq_rank.Ranks.{Bytes}
 use Rattle.swreq_resolve.specs.declared.refusal.Fault.TheVariants.{UnknownSignature, WrongArity}
 use Rattle.swreq_resolve.specs.declared.refusal.Refusal.{Refusal}
 use Rattle.swreq_resolve.specs.Refused.{refused}
 use Rattle.swreq_resolve.specs.RefusedTypes.{of_type_on}
-use Rattle.swreq_lowering.specs.declared.ids.FuncId.{FuncId}
-use Rattle.swreq_world.specs.Lookups.{is_struct, IsNamedAt}
-use Rattle.swreq_world.specs.Worlds.{IdWorld, signature_at}
+use Rattle.swreq_machine.specs.swreq_lowering.declared.ids.FuncId.{FuncId}
+use Rattle.swreq_machine.specs.swreq_world.Lookups.{is_struct, IsNamedAt}
+use Rattle.swreq_machine.specs.swreq_world.Worlds.{IdWorld, signature_at}
 use Rattle.swreq_subst.specs.Arguments.{param_count}
 use Rattle.swreq_subst.specs.Refusals.{declared}
 

@@ -1,22 +1,22 @@
 -- The calls that are written, by the names of a world.
 use Rattle.std.specs.Prelude.{◌≡◌, ◌↔◌, ℕ, true, List, [], ◌∷◌, Option, Some, None, Contains, slice_get}
 use Rattle.std.specs.Option.{option_map}
-use Rattle.swreq_decl.specs.declared.skeleton.CallDecl.{CallDecl}
-use Rattle.swreq_decl.specs.declared.skeleton.StepDecl.{StepDecl}
-use Rattle.swreq_decl.specs.declared.skeleton.StepDecl.TheVariants as decls
-use Rattle.swreq_decl.specs.declared.skeleton.TypeDecl.{TypeDecl}
-use Rattle.swreq_names.specs.declared.signature.Signature.{Signature}
-use Rattle.swreq_names.specs.Spaces.{word, protocol_of, declares}
-use Rattle.swreq_param.specs.declared.ids.ParamId.{ParamId}
-use Rattle.swreq_param.specs.Terms.{Term}
-use Rattle.swreq_rank.specs.Ranks.{Bytes}
-use Rattle.swreq_lexicon.specs.Lexicons.{assoc_by, name_by, pair, proto_by}
-use Rattle.swreq_lexicon.specs.Views.{LexiconView}
-use Rattle.swreq_lowering.specs.declared.ids.FuncId.{FuncId}
-use Rattle.swreq_lowering.specs.Queries.{signature_named}
-use Rattle.swreq_world.specs.Lookups.{func_named, param_of_signature, IsNamedAt}
-use Rattle.swreq_world.specs.ReadBack.{SaysFrom}
-use Rattle.swreq_world.specs.Worlds.{WorldOver, signature_at}
+use Rattle.swreq_resolve.specs.swreq_decl.declared.skeleton.CallDecl.{CallDecl}
+use Rattle.swreq_resolve.specs.swreq_decl.declared.skeleton.StepDecl.{StepDecl}
+use Rattle.swreq_resolve.specs.swreq_decl.declared.skeleton.StepDecl.TheVariants as decls
+use Rattle.swreq_resolve.specs.swreq_decl.declared.skeleton.TypeDecl.{TypeDecl}
+use Rattle.swreq_resolve.specs.swreq_names.declared.signature.Signature.{Signature}
+use Rattle.swreq_resolve.specs.swreq_names.Spaces.{word, protocol_of, declares}
+use Rattle.swreq_machine.specs.swreq_param.declared.ids.ParamId.{ParamId}
+use Rattle.swreq_machine.specs.swreq_param.Terms.{Term}
+use Rattle.swreq_resolve.specs.swreq_rank.Ranks.{Bytes}
+use Rattle.swreq_machine.specs.swreq_lexicon.Lexicons.{assoc_by, name_by, pair, proto_by}
+use Rattle.swreq_machine.specs.swreq_lexicon.Views.{LexiconView}
+use Rattle.swreq_machine.specs.swreq_lowering.declared.ids.FuncId.{FuncId}
+use Rattle.swreq_machine.specs.swreq_lowering.Queries.{signature_named}
+use Rattle.swreq_machine.specs.swreq_world.Lookups.{func_named, param_of_signature, IsNamedAt}
+use Rattle.swreq_machine.specs.swreq_world.ReadBack.{SaysFrom}
+use Rattle.swreq_machine.specs.swreq_world.Worlds.{WorldOver, signature_at}
 use Rattle.swreq_subst.specs.Calls.{TermCall}
 
 -- ---- names and their ids

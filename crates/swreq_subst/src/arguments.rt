@@ -1,15 +1,13 @@
 //! Type parameters of a table with types in place of their generic parameters.
 ghost use Rattle.std.specs.Prelude.{◌≡◌, ◌<◌, All, IfOk, length, map};
-ghost use Rattle.swreq_param.specs.Tables.{Extends, IsOf, term_at};
-ghost use Rattle.swreq_param.specs.Terms.{head, with_steps};
-ghost use Rattle.swreq_derive.specs.Facts.{requirement_of};
-ghost use Rattle.swreq_lowering.specs.ByTable.{HasIdsOf};
-ghost use Rattle.swreq_lowering.specs.Heads.{IsOver};
+ghost use Rattle.swreq_machine.specs.swreq_param.{Tables.{Extends, IsOf, term_at}, Terms.{head, with_steps}};
+ghost use Rattle.swreq_machine.specs.swreq_derive.Facts.{requirement_of};
+ghost use Rattle.swreq_machine.specs.swreq_lowering.{ByTable.{HasIdsOf}, Heads.{IsOver}};
 ghost use Rattle.swreq_subst.specs.Arguments.{place_of, requirement_with, with_arguments};
 
 use std::alloc::{AllocError, Global};
-use swreq_derive::{Params, Requirement};
-use swreq_param::{ParamId, ParamTable, Step, TermId};
+use swreq_machine::derive::{Params, Requirement};
+use swreq_machine::param::{ParamId, ParamTable, Step, TermId};
 
 /// The id of a type parameter of the table followed by these steps.
 pub(crate) fn followed(

@@ -1,6 +1,6 @@
 //! Calls over the ids of a table.
-use swreq_lowering::FuncId;
-use swreq_param::TermId;
+use swreq_machine::param::TermId;
+use swreq_print::lowering::FuncId;
 use swreq_text::Seq;
 
 /// A call: the signature f calls the signature g with these types, one for each generic parameter of g in order. A type with a

@@ -1,31 +1,22 @@
 //! The requirements of a callee that fail.
 ghost use Rattle.std.specs.Prelude.{◌≡◌, ◌↔◌, ◌<◌, ◌^◌, ◌∷◌, ◌++◌, [], if◌then◌else◌, OnOk, List, All, IsTrue, IfOk, Some, length, map};
-ghost use Rattle.swreq_param.specs.Tables.{Extends, term_at};
-ghost use Rattle.swreq_param.specs.declared.ids.TermId.{TermId};
-ghost use Rattle.swreq_derive.specs.Derivation.{TermRequirement};
-ghost use Rattle.swreq_derive.specs.Derivation.Source.{Written};
-ghost use Rattle.swreq_derive.specs.Derivation.TermStatement.{Requires};
-ghost use Rattle.swreq_derive.specs.Facts.{generic_params, requirement_of};
-ghost use Rattle.swreq_lowering.specs.Heads.{IsOver};
-ghost use Rattle.swreq_symbols.specs.Known.{IsRequirementIn, IsTextOver, IsTypeIn};
-ghost use Rattle.swreq_machine.specs.Asked.{IsDerivable};
-ghost use Rattle.swreq_machine.specs.Machines.{IsMachineOf};
-ghost use Rattle.swreq_valid.specs.Plans.{listed};
-ghost use Rattle.swreq_world.specs.ByTable.{world_by};
-ghost use Rattle.swreq_world.specs.FactsAt.{facts_of};
-ghost use Rattle.swreq_world.specs.Short.{IsShort};
-ghost use Rattle.swreq_subst.specs.Arguments.{place_of, requirement_with};
-ghost use Rattle.swreq_subst.specs.Calls.{AreThere, IsCallIn, IsMachineOn, call_by};
-ghost use Rattle.swreq_subst.specs.Failing.{AreFailing, AreFailingIn};
+ghost use Rattle.swreq_machine.specs.swreq_param.{Tables.{Extends, term_at}, declared.ids.TermId.{TermId}};
+ghost use Rattle.swreq_machine.specs.swreq_derive.{Derivation.{TermRequirement}, Derivation.Source.{Written}, Derivation.TermStatement.{Requires}, Facts.{generic_params, requirement_of}};
+ghost use Rattle.swreq_machine.specs.swreq_lowering.Heads.{IsOver};
+ghost use Rattle.swreq_machine.specs.swreq_symbols.Known.{IsRequirementIn, IsTextOver, IsTypeIn};
+ghost use Rattle.swreq_machine.specs.{Asked.{IsDerivable}, Machines.{IsMachineOf}};
+ghost use Rattle.swreq_machine.specs.swreq_valid.Plans.{listed};
+ghost use Rattle.swreq_machine.specs.swreq_world.{ByTable.{world_by}, FactsAt.{facts_of}, Short.{IsShort}};
+ghost use Rattle.swreq_subst.specs.{Arguments.{place_of, requirement_with}, Calls.{AreThere, IsCallIn, IsMachineOn, call_by}, Failing.{AreFailing, AreFailingIn}};
 
 use crate::arguments::requirement_with;
 use crate::calls::Call;
 use std::alloc::{AllocError, Global};
-use swreq_derive::{Params, Requirement};
 use swreq_machine::Machine;
-use swreq_param::{ParamTable, TermId};
-use swreq_symbols::Text;
-use swreq_world::World;
+use swreq_machine::derive::{Params, Requirement};
+use swreq_machine::param::{ParamTable, TermId};
+use swreq_machine::symbols::Text;
+use swreq_machine::world::World;
 
 /// By what the requirements of a callee are judged: the machine of the caller, and types for the generic parameters of the callee.
 #[derive(Clone, Copy)]

@@ -1,37 +1,16 @@
 //! What holds of calls.
 ghost use Rattle.std.specs.Prelude.{◌≡◌, ◌↔◌, [], ℕ, Contains, List, Some, length, slice_get};
-ghost use Rattle.swreq_decl.specs.declared.skeleton.CallDecl.{CallDecl};
-ghost use Rattle.swreq_decl.specs.declared.skeleton.Skeleton.{Skeleton};
-ghost use Rattle.swreq_decl.specs.declared.skeleton.TypeDecl.{TypeDecl};
-ghost use Rattle.swreq_decl.specs.Skeletons.{StandsFor};
-ghost use Rattle.swreq_param.specs.declared.ids.ParamId.{ParamId};
-ghost use Rattle.swreq_param.specs.Terms.{Term};
-ghost use Rattle.swreq_derive.specs.declared.known.Params.{Params};
-ghost use Rattle.swreq_derive.specs.Derivation.{Derivable, Source, TermFacts, TermRequirement, TermStatement};
-ghost use Rattle.swreq_derive.specs.Derivation.Source.{Written};
-ghost use Rattle.swreq_derive.specs.Derivation.TermStatement.{IsValid};
-ghost use Rattle.swreq_derive.specs.Facts.{generic_params};
-ghost use Rattle.swreq_derive.specs.Substitution.{substitute_into};
-ghost use Rattle.swreq_resolve.specs.declared.refusal.Refusal.{Refusal};
-ghost use Rattle.swreq_resolve.specs.Resolving.{Resolve};
-ghost use Rattle.swreq_lowering.specs.declared.ids.FuncId.{FuncId};
-ghost use Rattle.swreq_print.specs.Names.{Text};
-ghost use Rattle.swreq_print.specs.Reading.{TellsApart};
-ghost use Rattle.swreq_rank.specs.Ranks.{Bytes};
-ghost use Rattle.swreq_world.specs.ByTable.{world_by};
-ghost use Rattle.swreq_world.specs.Closed.{IsClosed, IsTermOf};
-ghost use Rattle.swreq_world.specs.FactsAt.{facts_of, source_of};
-ghost use Rattle.swreq_world.specs.WorldOf.{IsWorldOf};
-ghost use Rattle.swreq_world.specs.Worlds.{IdWorld, TextWorld, signature_at};
-ghost use Rattle.swreq_subst.specs.Arguments.{argument_of, param_count, place_of};
-ghost use Rattle.swreq_subst.specs.Calls.{TermCall};
-ghost use Rattle.swreq_subst.specs.Failing.{AreFailing, Holds};
-ghost use Rattle.swreq_subst.specs.Lines.{IsLineOf};
-ghost use Rattle.swreq_subst.specs.Refusals.{refusals};
-ghost use Rattle.swreq_subst.specs.Refused.{IsRefused};
-ghost use Rattle.swreq_subst.specs.Saying.{HasUnknown, HaveIds, SayCalls, SaysType};
+ghost use Rattle.swreq_resolve.specs.swreq_decl.{declared.skeleton.CallDecl.{CallDecl}, declared.skeleton.Skeleton.{Skeleton}, declared.skeleton.TypeDecl.{TypeDecl}, Skeletons.{StandsFor}};
+ghost use Rattle.swreq_machine.specs.swreq_param.{declared.ids.ParamId.{ParamId}, Terms.{Term}};
+ghost use Rattle.swreq_machine.specs.swreq_derive.{declared.known.Params.{Params}, Derivation.{Derivable, Source, TermFacts, TermRequirement, TermStatement}, Derivation.Source.{Written}, Derivation.TermStatement.{IsValid}, Facts.{generic_params}, Substitution.{substitute_into}};
+ghost use Rattle.swreq_resolve.specs.{declared.refusal.Refusal.{Refusal}, Resolving.{Resolve}};
+ghost use Rattle.swreq_machine.specs.swreq_lowering.declared.ids.FuncId.{FuncId};
+ghost use Rattle.swreq_print.specs.{Names.{Text}, Reading.{TellsApart}};
+ghost use Rattle.swreq_resolve.specs.swreq_rank.Ranks.{Bytes};
+ghost use Rattle.swreq_machine.specs.swreq_world.{ByTable.{world_by}, Closed.{IsClosed, IsTermOf}, FactsAt.{facts_of, source_of}, WorldOf.{IsWorldOf}, Worlds.{IdWorld, TextWorld, signature_at}};
+ghost use Rattle.swreq_subst.specs.{Arguments.{argument_of, param_count, place_of}, Calls.{TermCall}, Failing.{AreFailing, Holds}, Lines.{IsLineOf}, Refusals.{refusals}, Refused.{IsRefused}, Saying.{HasUnknown, HaveIds, SayCalls, SaysType}};
 
-use swreq_world::laws::signatures_are_found_by_name;
+use swreq_machine::world::signatures_are_found_by_name;
 
 /// Where the names of a text resolve, what names refer to has ids in its world.
 pub fn names_have_ids(text: &[u8])

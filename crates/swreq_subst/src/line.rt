@@ -1,28 +1,23 @@
 //! The line that answers a call.
 ghost use Rattle.std.specs.Prelude.{◌≡◌, ◌↔◌, ◌++◌, ◌<◌, ◌≤◌, List, All, IsTrue, IfOk, OnOk, OnErr, MatchBool, length, map};
-ghost use Rattle.swreq_param.specs.Tables.{Extends, term_at};
-ghost use Rattle.swreq_derive.specs.Derivation.{TermRequirement};
-ghost use Rattle.swreq_derive.specs.Derivation.TermStatement.{IsValid};
-ghost use Rattle.swreq_derive.specs.Facts.{requirement_of};
-ghost use Rattle.swreq_lowering.specs.ByTable.{HasIdsOf};
-ghost use Rattle.swreq_symbols.specs.Known.{IsTextOver, IsTypeIn};
-ghost use Rattle.swreq_machine.specs.Asked.{IsDerivable};
-ghost use Rattle.swreq_machine.specs.Machines.{IsMachineOf};
-ghost use Rattle.swreq_world.specs.ByTable.{world_by};
-ghost use Rattle.swreq_world.specs.Short.{IsShort};
-ghost use Rattle.swreq_subst.specs.Calls.{AreAllValid, IsArgumentIn, IsCallIn, IsMachineOn, IsOneInvalid, IsValidThere, call_by};
-ghost use Rattle.swreq_subst.specs.Lines.{AppendsLine, text_at, verdict_text};
+ghost use Rattle.swreq_machine.specs.swreq_param.Tables.{Extends, term_at};
+ghost use Rattle.swreq_machine.specs.swreq_derive.{Derivation.{TermRequirement}, Derivation.TermStatement.{IsValid}, Facts.{requirement_of}};
+ghost use Rattle.swreq_machine.specs.swreq_lowering.ByTable.{HasIdsOf};
+ghost use Rattle.swreq_machine.specs.swreq_symbols.Known.{IsTextOver, IsTypeIn};
+ghost use Rattle.swreq_machine.specs.{Asked.{IsDerivable}, Machines.{IsMachineOf}};
+ghost use Rattle.swreq_machine.specs.swreq_world.{ByTable.{world_by}, Short.{IsShort}};
+ghost use Rattle.swreq_subst.specs.{Calls.{AreAllValid, IsArgumentIn, IsCallIn, IsMachineOn, IsOneInvalid, IsValidThere, call_by}, Lines.{AppendsLine, text_at, verdict_text}};
 
 use crate::calls::Call;
 use crate::failures::failing;
 use std::alloc::{AllocError, Global};
-use swreq_derive::Requirement;
-use swreq_lexicon::Lexicon;
+use swreq_machine::derive::Requirement;
+use swreq_machine::param::{ParamTable, TermId};
+use swreq_machine::world::World;
 use swreq_machine::{Machine, Scratch};
-use swreq_param::{ParamTable, TermId};
+use swreq_print::lexicon::Lexicon;
 use swreq_print::requirement_text;
 use swreq_text::{Print, append_bytes, put_joined};
-use swreq_world::World;
 
 /// Whether t is derivable from the list of the machine.
 fn is_valid(

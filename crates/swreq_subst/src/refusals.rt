@@ -1,20 +1,16 @@
 //! The first name of calls that is refused.
 ghost use Rattle.std.specs.Prelude.{◌≡◌, None, Some};
-ghost use Rattle.swreq_names.specs.Spaces.{struct_of, word};
+ghost use Rattle.swreq_resolve.specs.swreq_names.Spaces.{struct_of, word};
 ghost use Rattle.swreq_resolve.specs.First as order;
-ghost use Rattle.swreq_resolve.specs.First.{least, walk, when};
-ghost use Rattle.swreq_resolve.specs.RefusedTypes.{of_type_on};
-ghost use Rattle.swreq_resolve.specs.Refusals.{of_nested_query};
-ghost use Rattle.swreq_subst.specs.Arguments.{param_count};
-ghost use Rattle.swreq_subst.specs.Refusals.{declared, func_called, of_call, of_count, of_name, of_types, query_on, refusals, signature_called};
-ghost use Rattle.swreq_subst.specs.Saying.{HaveIds};
+ghost use Rattle.swreq_resolve.specs.{First.{least, walk, when}, RefusedTypes.{of_type_on}, Refusals.{of_nested_query}};
+ghost use Rattle.swreq_subst.specs.{Arguments.{param_count}, Refusals.{declared, func_called, of_call, of_count, of_name, of_types, query_on, refusals, signature_called}, Saying.{HaveIds}};
 
-use swreq_decl::{CallDecl, Span, TypeDecl};
-use swreq_derive::Params;
-use swreq_lowering::FuncId;
-use swreq_names::{Declared, Signature, word};
+use swreq_machine::derive::Params;
+use swreq_machine::world::World;
+use swreq_print::decl::{CallDecl, Span, TypeDecl};
+use swreq_print::lowering::FuncId;
+use swreq_print::names::{Declared, Signature, word};
 use swreq_resolve::{Fault, Refusal, resolve_type};
-use swreq_world::World;
 
 /// The first of what was refused before and this one.
 fn earlier(best: Option<Refusal>, here: Refusal) -> Option<Refusal>

@@ -1,27 +1,21 @@
 //! The calls that are written, or the first name that is refused.
-ghost use Rattle.std.specs.Prelude.{◌≡◌, ◌≢◌, ◌<◌, ◌⊎◌, [], All, Err, None, Some, IfErr, IfOk, IsOk, map, length};
-ghost use Rattle.std.specs.List.{flat_map};
-ghost use Rattle.std.specs.Option.{option_map};
-ghost use Rattle.swreq_names.specs.Spaces.{word};
-ghost use Rattle.swreq_param.specs.Tables.{Extends, term_at};
-ghost use Rattle.swreq_resolve.specs.declared.refusal.NameErr.{NameErr};
-ghost use Rattle.swreq_resolve.specs.declared.refusal.NameErr.TheVariants.{Memory};
-ghost use Rattle.swreq_resolve.specs.Refusals.{of_step};
-ghost use Rattle.swreq_world.specs.Lookups.{param_of_signature};
-ghost use Rattle.swreq_subst.specs.Calls.{IsArgumentIn, IsCallIn, call_by};
-ghost use Rattle.swreq_subst.specs.Refusals.{RefusesCalls, declared, func_called, of_call, refusals};
-ghost use Rattle.swreq_subst.specs.Saying.{HaveIds, OneByOne, SayCalls, SaysArgument, SaysCall};
+ghost use Rattle.std.specs.{Prelude.{◌≡◌, ◌≢◌, ◌<◌, ◌⊎◌, [], All, Err, None, Some, IfErr, IfOk, IsOk, map, length}, List.{flat_map}, Option.{option_map}};
+ghost use Rattle.swreq_resolve.specs.swreq_names.Spaces.{word};
+ghost use Rattle.swreq_machine.specs.swreq_param.Tables.{Extends, term_at};
+ghost use Rattle.swreq_resolve.specs.{declared.refusal.NameErr.{NameErr}, declared.refusal.NameErr.TheVariants.{Memory}, Refusals.{of_step}};
+ghost use Rattle.swreq_machine.specs.swreq_world.Lookups.{param_of_signature};
+ghost use Rattle.swreq_subst.specs.{Calls.{IsArgumentIn, IsCallIn, call_by}, Refusals.{RefusesCalls, declared, func_called, of_call, refusals}, Saying.{HaveIds, OneByOne, SayCalls, SaysArgument, SaysCall}};
 
 use crate::calls::Call;
 use crate::refusals::{first_refusal, func_called};
 use crate::types::type_of;
 use std::alloc::{AllocError, Global};
-use swreq_decl::{CallDecl, Span, TypeDecl};
-use swreq_lowering::FuncId;
-use swreq_param::{ParamTable, TermId};
+use swreq_machine::param::{ParamTable, TermId};
+use swreq_machine::world::World;
+use swreq_print::decl::{CallDecl, Span, TypeDecl};
+use swreq_print::lowering::FuncId;
 use swreq_resolve::{NameErr, error_of};
 use swreq_text::Seq;
-use swreq_world::World;
 
 /// The signature of this name, which there is.
 fn called(world: &World, text: &[u8], outer: Option<Span>, name: Span) -> FuncId

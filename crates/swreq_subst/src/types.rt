@@ -1,24 +1,19 @@
 //! The type parameter that a written type is.
-ghost use Rattle.std.specs.Prelude.{◌≡◌, ◌≢◌, ◌<◌, [], IfOk, MatchOption, None, length};
-ghost use Rattle.std.specs.List.{flat_map};
-ghost use Rattle.std.specs.Option.{option_map};
-ghost use Rattle.swreq_param.specs.Tables.{Extends, term_at};
-ghost use Rattle.swreq_decl.specs.declared.skeleton.StepDecl.TheVariants.{Bound};
-ghost use Rattle.swreq_names.specs.Spaces.{protocol_of, word};
+ghost use Rattle.std.specs.{Prelude.{◌≡◌, ◌≢◌, ◌<◌, [], IfOk, MatchOption, None, length}, List.{flat_map}, Option.{option_map}};
+ghost use Rattle.swreq_machine.specs.swreq_param.Tables.{Extends, term_at};
+ghost use Rattle.swreq_resolve.specs.swreq_decl.declared.skeleton.StepDecl.TheVariants.{Bound};
+ghost use Rattle.swreq_resolve.specs.swreq_names.Spaces.{protocol_of, word};
 ghost use Rattle.swreq_resolve.specs.Refusals.{of_bound, of_step};
-ghost use Rattle.swreq_world.specs.Lookups.{param_of_signature};
-ghost use Rattle.swreq_world.specs.ReadBack.{SaySteps, SaysStep};
-ghost use Rattle.swreq_subst.specs.Calls.{IsArgumentIn};
-ghost use Rattle.swreq_subst.specs.Refusals.{declared};
-ghost use Rattle.swreq_subst.specs.Saying.{HasUnknown, HaveIds, IsUnknown, SaysArgument};
+ghost use Rattle.swreq_machine.specs.swreq_world.{Lookups.{param_of_signature}, ReadBack.{SaySteps, SaysStep}};
+ghost use Rattle.swreq_subst.specs.{Calls.{IsArgumentIn}, Refusals.{declared}, Saying.{HasUnknown, HaveIds, IsUnknown, SaysArgument}};
 
 use crate::arguments::followed;
 use std::alloc::{AllocError, Global};
-use swreq_decl::{Span, StepDecl, TypeDecl};
-use swreq_lowering::FuncId;
-use swreq_names::word;
-use swreq_param::{ParamTable, Step, TermId};
-use swreq_world::World;
+use swreq_machine::param::{ParamTable, Step, TermId};
+use swreq_machine::world::World;
+use swreq_print::decl::{Span, StepDecl, TypeDecl};
+use swreq_print::lowering::FuncId;
+use swreq_print::names::word;
 
 /// `.[P]A`, where P declares A.
 fn bound_step(world: &World, text: &[u8], proto: Span, name: Span) -> Step

@@ -2,14 +2,14 @@
 use Rattle.std.proofs.Common.{◌≡◌, ℕ, ◌<◌, length, get_or, map, slice_get, Some, inl, ap, sym, subst, ◌∙◌}
 use Rattle.std.proofs.lemmas.List.{length-map, get_or-map}
 use Rattle.std.proofs.lemmas.Option.{get_or_from_slice_get, slice_get-get_or, slice_get_within}
-use Rattle.swreq_lemmas.proofs.Elements.{get_contains}
-use Rattle.swreq_param.specs.declared.ids.AssocId.{AssocId}
-use Rattle.swreq_param.specs.declared.ids.NameId.{NameId}
-use Rattle.swreq_param.specs.declared.ids.ProtoId.{ProtoId}
-use Rattle.swreq_lexicon.specs.declared.pair.ProtocolName.{ProtocolName}
-use Rattle.swreq_lexicon.specs.Lexicons.{pair}
-use Rattle.swreq_lexicon.specs.Views.{LexiconView, IsName, IsProtocol}
-use Rattle.swreq_lexicon.proofs.RankLaws.{assoc_is, ranked}
+use Rattle.swreq_complete.proofs.swreq_lemmas.Elements.{get_contains}
+use Rattle.swreq_correspondence.specs.swreq_param.declared.ids.AssocId.{AssocId}
+use Rattle.swreq_correspondence.specs.swreq_param.declared.ids.NameId.{NameId}
+use Rattle.swreq_correspondence.specs.swreq_param.declared.ids.ProtoId.{ProtoId}
+use Rattle.swreq_world.specs.swreq_lexicon.declared.pair.ProtocolName.{ProtocolName}
+use Rattle.swreq_world.specs.swreq_lexicon.Lexicons.{pair}
+use Rattle.swreq_world.specs.swreq_lexicon.Views.{LexiconView, IsName, IsProtocol}
+use Rattle.swreq_world.proofs.swreq_lexicon.RankLaws.{assoc_is, ranked}
 use Rattle.swreq_correspondence.specs.Symbols.{member_at}
 use Rattle.swreq_world.specs.Closed.{AreIds}
 use Rattle.swreq_symbols.specs.Meaning.{associated_at, member_name, rank_in, symbols_of}

@@ -1,10 +1,10 @@
 -- Type parameters without their last members.
 use Rattle.std.proofs.Common.{◌≡◌, ℕ, zero, suc, ◌+◌, ◌-◌, ◌<◌, ◌≤◌, refl, sym, ◌∙◌, ap, subst, arith}
-use Rattle.swreq_param.specs.declared.ids.ParamId.{ParamId}
-use Rattle.swreq_param.specs.declared.ids.Step.{Step}
-use Rattle.swreq_param.specs.Terms.{Term, head, member_count}
-use Rattle.swreq_param.specs.Terms.Term.{Generic, Member}
-use Rattle.swreq_lexicon.specs.Views.{LexiconView}
+use Rattle.swreq_correspondence.specs.swreq_param.declared.ids.ParamId.{ParamId}
+use Rattle.swreq_correspondence.specs.swreq_param.declared.ids.Step.{Step}
+use Rattle.swreq_correspondence.specs.swreq_param.Terms.{Term, head, member_count}
+use Rattle.swreq_correspondence.specs.swreq_param.Terms.Term.{Generic, Member}
+use Rattle.swreq_world.specs.swreq_lexicon.Views.{LexiconView}
 use Rattle.swreq_world.specs.Closed.{IsTermOf}
 use Rattle.swreq_symbols.specs.Fronts.{without}
 

@@ -3,15 +3,15 @@ use Rattle.std.proofs.Common.{◌≡◌, ◌∙◌, inl, inr, refl, sym, ap, sub
 use Rattle.std.specs.Bool.{Decides}
 use Rattle.std.proofs.lemmas.Bool.{cases_eq, cases_lt}
 use Rattle.std.proofs.lemmas.Option.{same_Some, slice_get_within}
-use Rattle.swreq_param.specs.declared.ids.AssocId.{AssocId}
-use Rattle.swreq_param.specs.declared.ids.NameId.{NameId}
-use Rattle.swreq_param.specs.declared.ids.ProtoId.{ProtoId}
-use Rattle.swreq_param.specs.declared.ids.Step.TheVariants.{Bound}
-use Rattle.swreq_word.specs.declared.symbols.Symbol.TheVariants.{Proto}
-use Rattle.swreq_rule.specs.declared.rules.Rule.{Rule}
-use Rattle.swreq_lexicon.specs.declared.pair.ProtocolName.{ProtocolName}
-use Rattle.swreq_lexicon.specs.Lexicons.{pair}
-use Rattle.swreq_lexicon.specs.Views.{LexiconView}
+use Rattle.swreq_correspondence.specs.swreq_param.declared.ids.AssocId.{AssocId}
+use Rattle.swreq_correspondence.specs.swreq_param.declared.ids.NameId.{NameId}
+use Rattle.swreq_correspondence.specs.swreq_param.declared.ids.ProtoId.{ProtoId}
+use Rattle.swreq_correspondence.specs.swreq_param.declared.ids.Step.TheVariants.{Bound}
+use Rattle.swreq_correspondence.specs.swreq_word.declared.symbols.Symbol.TheVariants.{Proto}
+use Rattle.swreq_complete.specs.swreq_rule.declared.rules.Rule.{Rule}
+use Rattle.swreq_world.specs.swreq_lexicon.declared.pair.ProtocolName.{ProtocolName}
+use Rattle.swreq_world.specs.swreq_lexicon.Lexicons.{pair}
+use Rattle.swreq_world.specs.swreq_lexicon.Views.{LexiconView}
 use Rattle.swreq_correspondence.specs.Symbols.{Word}
 use Rattle.swreq_map.specs.Properties.{Vanishes}
 use Rattle.swreq_symbols.specs.Vanishing.{HasStep, DeclaresType, IsFirstBehind, IsGivenBehind}

@@ -2,14 +2,14 @@
 use Rattle.std.proofs.Common.{◌≡◌, refl, sym, ap₂, subst, arith, suc, List, [], ◌∷◌, map}
 use Rattle.std.specs.Prelude.{All}
 use Rattle.std.proofs.lemmas.List.Elements.{All-weaker}
-use Rattle.swreq_param.specs.declared.ids.TermId.{TermId}
-use Rattle.swreq_param.specs.Tables.{Extends}
-use Rattle.swreq_param.specs.Terms.{Term}
-use Rattle.swreq_derive.specs.declared.requirements.Requirement.{Requirement}
-use Rattle.swreq_lexicon.specs.Views.{LexiconView}
-use Rattle.swreq_lowering.specs.declared.ids.Written.{Written}
-use Rattle.swreq_lowering.specs.ByTable.{AreOf, HasQueryIdsOf, placed, query_by}
-use Rattle.swreq_lowering.proofs.Growing.{are_of_stay, ids_stay, of_stays, placed_stay, requirement_stays}
+use Rattle.swreq_correspondence.specs.swreq_param.declared.ids.TermId.{TermId}
+use Rattle.swreq_correspondence.specs.swreq_param.Tables.{Extends}
+use Rattle.swreq_correspondence.specs.swreq_param.Terms.{Term}
+use Rattle.swreq_correspondence.specs.swreq_derive.declared.requirements.Requirement.{Requirement}
+use Rattle.swreq_world.specs.swreq_lexicon.Views.{LexiconView}
+use Rattle.swreq_world.specs.swreq_lowering.declared.ids.Written.{Written}
+use Rattle.swreq_world.specs.swreq_lowering.ByTable.{AreOf, HasQueryIdsOf, placed, query_by}
+use Rattle.swreq_world.proofs.swreq_lowering.Growing.{are_of_stay, ids_stay, of_stays, placed_stay, requirement_stays}
 use Rattle.swreq_world.specs.ByTable.{IsOverTable, signature_by, world_by}
 use Rattle.swreq_world.specs.Closed.{IsClosed, IsRequirementOf, IsTermOf}
 use Rattle.swreq_world.specs.Worlds.{IdWorld, SignatureOver}

@@ -1,12 +1,12 @@
 -- Parts of least words, and the associated type that is first after a word.
 use Rattle.std.proofs.Common.{◌≡◌, inl, inr, sym, subst, List, ◌++◌, arith}
-use Rattle.swreq_param.specs.declared.ids.AssocId.{AssocId}
-use Rattle.swreq_param.specs.declared.ids.NameId.{NameId}
-use Rattle.swreq_word.specs.Order.{WordLess}
-use Rattle.swreq_word.proofs.Comparing.{less_after, not_below_itself, not_both_below, trichotomy}
-use Rattle.swreq_rule.specs.declared.rules.Rule.{Rule}
-use Rattle.swreq_rule.proofs.Context.{Linked-after}
-use Rattle.swreq_lexicon.specs.Views.{LexiconView}
+use Rattle.swreq_correspondence.specs.swreq_param.declared.ids.AssocId.{AssocId}
+use Rattle.swreq_correspondence.specs.swreq_param.declared.ids.NameId.{NameId}
+use Rattle.swreq_correspondence.specs.swreq_word.Order.{WordLess}
+use Rattle.swreq_correspondence.proofs.swreq_word.Comparing.{less_after, not_below_itself, not_both_below, trichotomy}
+use Rattle.swreq_complete.specs.swreq_rule.declared.rules.Rule.{Rule}
+use Rattle.swreq_complete.proofs.swreq_rule.Context.{Linked-after}
+use Rattle.swreq_world.specs.swreq_lexicon.Views.{LexiconView}
 use Rattle.swreq_correspondence.specs.Symbols.{Word}
 use Rattle.swreq_correspondence.proofs.OneType.{one_assoc}
 use Rattle.swreq_symbols.specs.Vanishing.{IsFirstBehind, IsLeastBy}

@@ -7,25 +7,28 @@ use Rattle.std.proofs.lemmas.List.{get_or_past, length-map}
 use Rattle.std.proofs.lemmas.List.Elements.{All-contains, All-get_or, Contains-get_or}
 use Rattle.std.proofs.lemmas.Simd.{map-map}
 use mathlib.Core.Path.{fun_ext}
-use Rattle.swreq_lemmas.proofs.Members.{no_member, contains_map, contains_of_map}
-use Rattle.swreq_param.specs.declared.ids.ProtoId.{ProtoId}
-use Rattle.swreq_param.specs.Terms.{Term}
-use Rattle.swreq_derive.specs.Derivation.{TermRequirement}
-use Rattle.swreq_derive.specs.Derivation.Source.{Written as WrittenList}
-use Rattle.swreq_derive.specs.declared.requirements.Requirement.{Requirement}
-use Rattle.swreq_derive.specs.declared.requirements.Requirement.TheVariants.{Conf, Layout, Same}
-use Rattle.swreq_derive.specs.Facts.{AreFactsOf, generic_params, requirement_of, term_facts, term_source, IsRequirementOver}
-use Rattle.swreq_lexicon.specs.Lexicons.{associated_types}
-use Rattle.swreq_lowering.specs.declared.ids.FuncId.{FuncId}
-use Rattle.swreq_lowering.specs.declared.ids.Query.{Query}
-use Rattle.swreq_lowering.specs.declared.ids.Written.{Written}
-use Rattle.swreq_lowering.specs.ByTable.{AreOf, HasIdsOf, HasQueryIdsOf, placed, placed_by, query_by}
-use Rattle.swreq_lowering.specs.Requirements.{PlacedRequirement}
+use Rattle.swreq_complete.proofs.swreq_lemmas.Members.{no_member, contains_map, contains_of_map}
+use Rattle.swreq_correspondence.specs.swreq_param.declared.ids.ProtoId.{ProtoId}
+use Rattle.swreq_correspondence.specs.swreq_param.Terms.{Term}
+use Rattle.swreq_correspondence.specs.swreq_derive.declared.known.Params.{Params}
+use Rattle.swreq_correspondence.specs.swreq_derive.Derivation.{TermRequirement}
+use Rattle.swreq_correspondence.specs.swreq_derive.Derivation.Source.{Written as WrittenList}
+use Rattle.swreq_correspondence.specs.swreq_derive.declared.requirements.Requirement.{Requirement}
+use Rattle.swreq_correspondence.specs.swreq_derive.declared.requirements.Requirement.TheVariants.{Conf, Layout, Same}
+use Rattle.swreq_correspondence.specs.swreq_derive.Facts.{AreFactsOf, generic_params, requirement_of, term_facts, term_source, IsRequirementOver}
+use Rattle.swreq_world.specs.swreq_lexicon.Lexicons.{associated_types}
+use Rattle.swreq_world.specs.swreq_lowering.declared.ids.FuncId.{FuncId}
+use Rattle.swreq_world.specs.swreq_lowering.declared.ids.Asks.{Asks}
+use Rattle.swreq_world.specs.swreq_lowering.declared.ids.Asks.TheVariants as ids
+use Rattle.swreq_world.specs.swreq_lowering.declared.ids.Query.{Query}
+use Rattle.swreq_world.specs.swreq_lowering.declared.ids.Written.{Written}
+use Rattle.swreq_world.specs.swreq_lowering.ByTable.{AreOf, HasAskedIdsOf, HasIdsOf, HasQueryIdsOf, asks_by, placed, placed_by, query_by}
+use Rattle.swreq_world.specs.swreq_lowering.Requirements.{PlacedRequirement}
 use Rattle.swreq_world.specs.ByTable.{signature_by, world_by}
-use Rattle.swreq_world.specs.Closed.{HasOwn, IsOfProtocol, IsOfSignature, IsQueryOf}
+use Rattle.swreq_world.specs.Closed.{HasOwn, IsAskedOf, IsOfProtocol, IsOfSignature, IsQueryOf}
 use Rattle.swreq_world.specs.FactsAt.{facts_at, facts_of, source_of}
 use Rattle.swreq_world.specs.Worlds.{IdWorld, SignatureOver, no_signature, requirements_of, signature_at}
-use Rattle.swreq_symbols.specs.Known.{IsRequirementIn, IsTextOver}
+use Rattle.swreq_symbols.specs.Known.{IsAskedIn, IsQueryIn, IsRequirementIn, IsTextOver}
 
 -- the requirements without their places, over ids and over type parameters
 pub requirements_placed : (terms : List Term) (rs : List Written)
@@ -94,7 +97,7 @@ module _ (w : IdWorld) (terms : List Term) where
         )
 
     -- a requirement of the table and of the text is one of the facts
-    of_facts : (f : FuncId) (r : Requirement) → IsRequirementIn terms w.lexicon r → IsRequirementOver terms (facts_at w f) r
+    pub of_facts : (f : FuncId) (r : Requirement) → IsRequirementIn terms w.lexicon r → IsRequirementOver terms (facts_at w f) r
     of_facts f (Conf t p) h = (h.0, h.1.1)
     of_facts f (Layout t) h = h.0
     of_facts f (Same t u) h = h.0
@@ -109,15 +112,23 @@ module _ (w : IdWorld) (terms : List Term) where
 
     -- ---- queries
 
-    query_known : (q : Query) → Contains w.queries q → HasQueryIdsOf terms q × IsQueryOf (world_by terms w) (query_by terms q)
-    query_known q c = (
-      All-contains (HasQueryIdsOf terms) w.queries q text.table.queries c,
-      All-contains (IsQueryOf (world_by terms w)) (map (query_by terms) w.queries) (query_by terms q) text.closed.queries
-          (contains_map (query_by terms) w.queries q c),
-    )
+    asked_in : (params : Params) (a : Asks) → HasAskedIdsOf terms a → IsAskedOf w.lexicon params (asks_by terms a)
+        → IsAskedIn terms w.lexicon a
+    asked_in params ids.Signature h is = tt
+    asked_in params (ids.Reduced t) h is = (h, is.0)
+    asked_in params (ids.Requirement r) h is = (h, is.0)
+
+    query_known : (q : Query) → Contains w.queries q → IsQueryIn terms w q
+    query_known q c =
+        let of = All-contains (IsQueryOf (world_by terms w)) (map (query_by terms) w.queries) (query_by terms q) text.closed.queries
+        (contains_map (query_by terms) w.queries q c) in (
+          (let l = of.0 in let e = length-map w.signatures (signature_by terms) in omega arith),
+          asked_in (signature_at (world_by terms w) q.f).params q.asks
+              (All-contains (HasQueryIdsOf terms) w.queries q text.table.queries c) of.1,
+        )
 
     -- a query of the text
     pub query_at : (list : List Query) (k : ℕ) (d : Query) → list ≡ w.queries → k < length list
-        → HasQueryIdsOf terms (get_or list k d) × IsQueryOf (world_by terms w) (query_by terms (get_or list k d))
+        → IsQueryIn terms w (get_or list k d)
     query_at list k d e l =
         query_known (get_or list k d) (subst (λ (qs : List Query). Contains qs (get_or list k d)) e (Contains-get_or list k d l))

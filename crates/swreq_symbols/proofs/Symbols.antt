@@ -5,22 +5,22 @@ use Rattle.std.proofs.lemmas.Bool.{cases_lt}
 use Rattle.std.proofs.lemmas.List.{get_or_past}
 use Rattle.std.proofs.lemmas.List.Elements.{All-contains, All-get_or, All-map, All-weaker}
 use Rattle.std.proofs.lemmas.Option.{same_Some}
-use Rattle.swreq_param.specs.declared.ids.ParamId.{ParamId}
-use Rattle.swreq_param.specs.declared.ids.ProtoId.{ProtoId}
-use Rattle.swreq_derive.specs.Derivation.{TermRequirement}
-use Rattle.swreq_derive.specs.Derivation.Source.{Written}
-use Rattle.swreq_derive.specs.Derivation.TermRequirement.{Conforms}
-use Rattle.swreq_lemmas.proofs.Members.{no_member}
-use Rattle.swreq_lexicon.specs.declared.pair.ProtocolName.{ProtocolName}
-use Rattle.swreq_lexicon.specs.Lexicons.{pair}
-use Rattle.swreq_lexicon.specs.Views.{LexiconView, IsProtocol}
+use Rattle.swreq_correspondence.specs.swreq_param.declared.ids.ParamId.{ParamId}
+use Rattle.swreq_correspondence.specs.swreq_param.declared.ids.ProtoId.{ProtoId}
+use Rattle.swreq_correspondence.specs.swreq_derive.Derivation.{TermRequirement}
+use Rattle.swreq_correspondence.specs.swreq_derive.Derivation.Source.{Written}
+use Rattle.swreq_correspondence.specs.swreq_derive.Derivation.TermRequirement.{Conforms}
+use Rattle.swreq_complete.proofs.swreq_lemmas.Members.{no_member}
+use Rattle.swreq_world.specs.swreq_lexicon.declared.pair.ProtocolName.{ProtocolName}
+use Rattle.swreq_world.specs.swreq_lexicon.Lexicons.{pair}
+use Rattle.swreq_world.specs.swreq_lexicon.Views.{LexiconView, IsProtocol}
 use Rattle.swreq_correspondence.specs.Symbols.{AreOfText, AreSymbolsOf, IsInText}
 use Rattle.swreq_correspondence.specs.Types.{AreRanked}
-use Rattle.swreq_lowering.specs.Requirements.{PlacedRequirement}
+use Rattle.swreq_world.specs.swreq_lowering.Requirements.{PlacedRequirement}
 use Rattle.swreq_world.specs.Closed.{AreIds, IsClosed, IsOfProtocol, IsRequirementOf}
 use Rattle.swreq_world.specs.Worlds.{TextWorld, requirements_of}
 use Rattle.swreq_symbols.specs.Meaning.{facts_of, symbols_of}
-use Rattle.swreq_lemmas.proofs.Elements.{get_contains}
+use Rattle.swreq_complete.proofs.swreq_lemmas.Elements.{get_contains}
 use Rattle.swreq_symbols.proofs.Declared.{at_rank, is_rank, member_is, of_rank, symbol_at}
 
 pub symbols_law : (w : TextWorld) → IsClosed w → AreSymbolsOf (symbols_of w.lexicon) (facts_of w)

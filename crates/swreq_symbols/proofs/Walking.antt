@@ -1,19 +1,19 @@
 -- The walk along the members of a type parameter.
 use Rattle.std.proofs.Common.{◌≡◌, ℕ, zero, suc, inl, inr, sym, subst, List, [], ◌∷◌, ◌++◌}
-use Rattle.swreq_param.specs.declared.ids.ParamId.{ParamId}
-use Rattle.swreq_param.specs.declared.ids.ProtoId.{ProtoId}
-use Rattle.swreq_param.specs.declared.ids.Step.{Step}
-use Rattle.swreq_param.specs.declared.ids.Step.TheVariants.{Bound, Name}
-use Rattle.swreq_param.specs.Terms.{Term, head, member_count}
-use Rattle.swreq_param.specs.Terms.Term.{Generic, Member}
-use Rattle.swreq_word.specs.declared.symbols.Symbol.{Symbol}
-use Rattle.swreq_word.specs.declared.symbols.Symbol.TheVariants.{Proto}
-use Rattle.swreq_word.proofs.Chains.{linked_back, linked_on}
-use Rattle.swreq_word.proofs.Comparing.{not_both_below}
-use Rattle.swreq_rule.specs.declared.rules.Rule.{Rule}
-use Rattle.swreq_rule.proofs.Context.{Linked-after}
-use Rattle.swreq_derive.specs.Derivation.{HasParam, Source}
-use Rattle.swreq_lexicon.specs.Views.{LexiconView}
+use Rattle.swreq_correspondence.specs.swreq_param.declared.ids.ParamId.{ParamId}
+use Rattle.swreq_correspondence.specs.swreq_param.declared.ids.ProtoId.{ProtoId}
+use Rattle.swreq_correspondence.specs.swreq_param.declared.ids.Step.{Step}
+use Rattle.swreq_correspondence.specs.swreq_param.declared.ids.Step.TheVariants.{Bound, Name}
+use Rattle.swreq_correspondence.specs.swreq_param.Terms.{Term, head, member_count}
+use Rattle.swreq_correspondence.specs.swreq_param.Terms.Term.{Generic, Member}
+use Rattle.swreq_correspondence.specs.swreq_word.declared.symbols.Symbol.{Symbol}
+use Rattle.swreq_correspondence.specs.swreq_word.declared.symbols.Symbol.TheVariants.{Proto}
+use Rattle.swreq_correspondence.proofs.swreq_word.Chains.{linked_back, linked_on}
+use Rattle.swreq_correspondence.proofs.swreq_word.Comparing.{not_both_below}
+use Rattle.swreq_complete.specs.swreq_rule.declared.rules.Rule.{Rule}
+use Rattle.swreq_complete.proofs.swreq_rule.Context.{Linked-after}
+use Rattle.swreq_correspondence.specs.swreq_derive.Derivation.{HasParam, Source}
+use Rattle.swreq_world.specs.swreq_lexicon.Views.{LexiconView}
 use Rattle.swreq_correspondence.specs.Shown.{ShowsConformance, ShowsValid}
 use Rattle.swreq_correspondence.specs.Symbols.{Symbols, Word, start, symbol, word_of}
 use Rattle.swreq_correspondence.proofs.Spelling.{spell-append}

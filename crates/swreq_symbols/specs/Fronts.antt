@@ -1,7 +1,7 @@
 -- The type parameters with whose members a type parameter begins.
 use Rattle.std.specs.Prelude.{ℕ, zero, suc}
-use Rattle.swreq_param.specs.Terms.{Term}
-use Rattle.swreq_param.specs.Terms.Term.{Generic, Member}
+use Rattle.swreq_correspondence.specs.swreq_param.Terms.{Term}
+use Rattle.swreq_correspondence.specs.swreq_param.Terms.Term.{Generic, Member}
 
 -- T without its last n members
 abbrev pub without : ℕ → Term → Term

@@ -1,9 +1,9 @@
 -- What machines take from the world of a text: the symbols of its words, and the facts from which requirements are derived.
 use Rattle.std.specs.Prelude.{ℕ, List, map, position, unwrap_or, slice_index_or}
-use Rattle.swreq_param.specs.declared.ids.AssocId.{AssocId}
-use Rattle.swreq_lexicon.specs.declared.pair.ProtocolName.{ProtocolName}
-use Rattle.swreq_lexicon.specs.Lexicons.{pair, is_pair}
-use Rattle.swreq_lexicon.specs.Views.{LexiconView}
+use Rattle.swreq_correspondence.specs.swreq_param.declared.ids.AssocId.{AssocId}
+use Rattle.swreq_world.specs.swreq_lexicon.declared.pair.ProtocolName.{ProtocolName}
+use Rattle.swreq_world.specs.swreq_lexicon.Lexicons.{pair, is_pair}
+use Rattle.swreq_world.specs.swreq_lexicon.Views.{LexiconView}
 use Rattle.swreq_correspondence.specs.Symbols.{Symbols, MemberName}
 pub use Rattle.swreq_world.specs.FactsAt.{facts_of}
 

@@ -1,13 +1,13 @@
 -- Over what type parameters are read.
 use Rattle.std.specs.Prelude.{[], ◌∷◌, Option, Some, None}
-use Rattle.swreq_param.specs.declared.ids.ProtoId.{ProtoId}
-use Rattle.swreq_derive.specs.Derivation.{Source}
-use Rattle.swreq_derive.specs.Derivation.Source.{Written, SelfOf}
-use Rattle.swreq_derive.specs.Facts.{generic_params}
+use Rattle.swreq_correspondence.specs.swreq_param.declared.ids.ProtoId.{ProtoId}
+use Rattle.swreq_correspondence.specs.swreq_derive.Derivation.{Source}
+use Rattle.swreq_correspondence.specs.swreq_derive.Derivation.Source.{Written, SelfOf}
+use Rattle.swreq_correspondence.specs.swreq_derive.Facts.{generic_params}
 use Rattle.swreq_correspondence.specs.Symbols.{Word}
 use Rattle.swreq_symbols.specs.declared.over.Over.{Over}
 use Rattle.swreq_symbols.specs.declared.over.Over.TheVariants.{Signature, Protocol}
-use Rattle.swreq_word.specs.declared.symbols.Symbol.{Symbol}
+use Rattle.swreq_correspondence.specs.swreq_word.declared.symbols.Symbol.{Symbol}
 
 -- a list with these generic parameters, or [τ_0_0 : P]
 abbrev pub source_over : Over → Source

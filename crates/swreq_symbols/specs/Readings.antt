@@ -1,5 +1,5 @@
 -- What rules show of a type parameter with its word.
-use Rattle.swreq_param.specs.Terms.{Term}
+use Rattle.swreq_correspondence.specs.swreq_param.Terms.{Term}
 use Rattle.swreq_correspondence.specs.Shown.{ShowsValid}
 use Rattle.swreq_correspondence.specs.Symbols.{Word, word_of}
 use Rattle.swreq_world.specs.ByTable.{world_by}

@@ -1,17 +1,17 @@
 -- What rules show of a type parameter, asked of a word that they link to its word.
 use Rattle.std.specs.Prelude.{◌≤◌, List, Contains}
-use Rattle.swreq_param.specs.declared.ids.AssocId.{AssocId}
-use Rattle.swreq_param.specs.declared.ids.NameId.{NameId}
-use Rattle.swreq_param.specs.declared.ids.ProtoId.{ProtoId}
-use Rattle.swreq_param.specs.declared.ids.Step.{Step}
-use Rattle.swreq_param.specs.declared.ids.Step.TheVariants.{Bound, Name}
-use Rattle.swreq_word.specs.declared.symbols.Symbol.TheVariants.{Proto}
-use Rattle.swreq_word.specs.Least.{IsLeast}
-use Rattle.swreq_word.specs.Relations.{Linked}
-use Rattle.swreq_rule.specs.declared.rules.Rule.{Rule}
-use Rattle.swreq_rule.specs.Steps.{Step as RuleStep}
-use Rattle.swreq_lexicon.specs.Lexicons.{associated_types}
-use Rattle.swreq_lexicon.specs.Views.{LexiconView}
+use Rattle.swreq_correspondence.specs.swreq_param.declared.ids.AssocId.{AssocId}
+use Rattle.swreq_correspondence.specs.swreq_param.declared.ids.NameId.{NameId}
+use Rattle.swreq_correspondence.specs.swreq_param.declared.ids.ProtoId.{ProtoId}
+use Rattle.swreq_correspondence.specs.swreq_param.declared.ids.Step.{Step}
+use Rattle.swreq_correspondence.specs.swreq_param.declared.ids.Step.TheVariants.{Bound, Name}
+use Rattle.swreq_correspondence.specs.swreq_word.declared.symbols.Symbol.TheVariants.{Proto}
+use Rattle.swreq_correspondence.specs.swreq_word.Least.{IsLeast}
+use Rattle.swreq_correspondence.specs.swreq_word.Relations.{Linked}
+use Rattle.swreq_complete.specs.swreq_rule.declared.rules.Rule.{Rule}
+use Rattle.swreq_complete.specs.swreq_rule.Steps.{Step as RuleStep}
+use Rattle.swreq_world.specs.swreq_lexicon.Lexicons.{associated_types}
+use Rattle.swreq_world.specs.swreq_lexicon.Views.{LexiconView}
 use Rattle.swreq_correspondence.specs.Symbols.{Word}
 use Rattle.swreq_map.specs.Properties.{Vanishes}
 

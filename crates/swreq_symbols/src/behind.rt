@@ -1,13 +1,13 @@
 //! The first associated type with a name whose protocol vanishes after a word, without memory.
 ghost use Rattle.std.specs.Prelude.{◌≡◌, ◌↔◌, ◌+◌, ◌≤◌, ◌<◌, length, vec_capacity, IsTrue, MatchOption};
-ghost use Rattle.swreq_param.specs.declared.ids.AssocId.{AssocId};
+ghost use Rattle.swreq_correspondence.specs.swreq_param.declared.ids.AssocId.{AssocId};
 ghost use Rattle.swreq_symbols.specs.Vanishing.{IsFirstBehind, IsGivenBehind, IsLeastBy};
 
 use swreq_complete::CompleteRules;
+use swreq_complete::word::Symbol;
 use swreq_map::vanishes;
-use swreq_param::{AssocId, NameId};
-use swreq_word::Symbol;
 use swreq_world::World;
+use swreq_world::param::{AssocId, NameId};
 
 /// Whether it is an associated type with this name, and its protocol vanishes after the word.
 fn is_given(

@@ -1,21 +1,12 @@
 //! Laws on the symbols and facts of the world of a text, over the definitions alone.
 ghost use Rattle.std.specs.Prelude.{◌≡◌, ◌<◌, List, All, length};
-ghost use Rattle.swreq_param.specs.declared.ids.ParamId.{ParamId};
-ghost use Rattle.swreq_param.specs.Tables.{Extends};
-ghost use Rattle.swreq_param.specs.Terms.{Term};
-ghost use Rattle.swreq_derive.specs.Derivation.{TermRequirement};
-ghost use Rattle.swreq_derive.specs.Derivation.Source.{Written};
-ghost use Rattle.swreq_derive.specs.Facts.{AreFactsOf, term_facts, term_source};
-ghost use Rattle.swreq_lexicon.specs.Views.{LexiconView};
-ghost use Rattle.swreq_correspondence.specs.Symbols.{AreOfText, AreSymbolsOf, IsInText};
-ghost use Rattle.swreq_correspondence.specs.Types.{AreRanked};
-ghost use Rattle.swreq_lowering.specs.declared.ids.FuncId.{FuncId};
-ghost use Rattle.swreq_world.specs.ByTable.{world_by};
-ghost use Rattle.swreq_world.specs.Closed.{AreIds, IsClosed, IsRequirementOf};
-ghost use Rattle.swreq_world.specs.FactsAt.{facts_at, source_of};
-ghost use Rattle.swreq_world.specs.Worlds.{IdWorld, TextWorld, signature_at};
-ghost use Rattle.swreq_symbols.specs.Known.{IsTextOver};
-ghost use Rattle.swreq_symbols.specs.Meaning.{facts_of, symbols_of};
+ghost use Rattle.swreq_correspondence.specs.swreq_param.{declared.ids.ParamId.{ParamId}, Tables.{Extends}, Terms.{Term}};
+ghost use Rattle.swreq_correspondence.specs.swreq_derive.{Derivation.{TermRequirement}, Derivation.Source.{Written}, Facts.{AreFactsOf, term_facts, term_source}};
+ghost use Rattle.swreq_world.specs.swreq_lexicon.Views.{LexiconView};
+ghost use Rattle.swreq_correspondence.specs.{Symbols.{AreOfText, AreSymbolsOf, IsInText}, Types.{AreRanked}};
+ghost use Rattle.swreq_world.specs.swreq_lowering.declared.ids.FuncId.{FuncId};
+ghost use Rattle.swreq_world.specs.{ByTable.{world_by}, Closed.{AreIds, IsClosed, IsRequirementOf}, FactsAt.{facts_at, source_of}, Worlds.{IdWorld, TextWorld, signature_at}};
+ghost use Rattle.swreq_symbols.specs.{Known.{IsTextOver}, Meaning.{facts_of, symbols_of}};
 
 /// Each associated type has the symbol of its protocol and name, requirements and member names are those of protocols of the text and
 /// speak of no others, and the ranks of associated types and of member symbols go by name first.

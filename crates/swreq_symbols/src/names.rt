@@ -3,8 +3,8 @@ ghost use Rattle.std.specs.Prelude.{◌≡◌, MatchOption};
 ghost use Rattle.swreq_correspondence.specs.Symbols.{IsRank, name_of};
 ghost use Rattle.swreq_symbols.specs.Meaning.{symbols_of};
 
-use swreq_param::NameId;
 use swreq_world::World;
+use swreq_world::param::NameId;
 
 /// The name of the member symbol with this rank, or None where there is none.
 pub fn name_at(world: &World, rank: u64) -> Option<NameId>

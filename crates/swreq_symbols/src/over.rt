@@ -1,10 +1,10 @@
 //! Over what type parameters are read.
 ghost use Rattle.std.specs.Prelude.{◌≡◌, ◌↔◌, IsTrue};
-ghost use Rattle.swreq_derive.specs.Derivation.{HasParam};
+ghost use Rattle.swreq_correspondence.specs.swreq_derive.Derivation.{HasParam};
 ghost use Rattle.swreq_symbols.specs.Overs.{owner_of, source_over};
 
-use swreq_derive::Params;
-use swreq_param::{ParamId, ProtoId};
+use swreq_world::derive::Params;
+use swreq_world::param::{ParamId, ProtoId};
 
 /// Over what a type parameter is read.
 #[derive(Clone, Copy, Debug, PartialEq, Eq)]

@@ -2,8 +2,8 @@
 
 use crate::over::Over;
 use swreq_complete::CompleteRules;
-use swreq_param::ParamTable;
 use swreq_world::World;
+use swreq_world::param::ParamTable;
 
 /// What type parameters are read by: a text, a table, and rules over the list of a signature or over a protocol.
 #[derive(Clone, Copy)]

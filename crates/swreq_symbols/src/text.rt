@@ -1,7 +1,7 @@
 //! A text with the table of its type parameters.
 
-use swreq_param::ParamTable;
 use swreq_world::World;
+use swreq_world::param::ParamTable;
 
 /// A text with the table of its type parameters.
 #[derive(Clone, Copy)]

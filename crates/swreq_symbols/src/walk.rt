@@ -1,30 +1,20 @@
 //! Whether rules show that a type parameter is valid, and its least word, without memory.
-ghost use Rattle.std.specs.Prelude.{◌≡◌, ◌↔◌, ◌+◌, ◌≤◌, ◌<◌, [], ◌∷◌, ◌++◌, length, vec_len, vec_capacity, IsTrue};
-ghost use Rattle.std.specs.Bool.{OnTrue};
-ghost use Rattle.swreq_param.specs.declared.ids.Step.TheVariants.{Bound, Name};
-ghost use Rattle.swreq_param.specs.Tables.{IsOf, term_at};
-ghost use Rattle.swreq_param.specs.Terms.{member_count};
-ghost use Rattle.swreq_derive.specs.Derivation.{HasParam};
-ghost use Rattle.swreq_correspondence.specs.Shown.{ShowsValid};
-ghost use Rattle.swreq_correspondence.specs.Symbols.{start};
-ghost use Rattle.swreq_world.specs.ByTable.{world_by};
-ghost use Rattle.swreq_world.specs.Closed.{AreIds, IsStepOf};
-ghost use Rattle.swreq_symbols.specs.Fronts.{without};
-ghost use Rattle.swreq_symbols.specs.Known.{IsTextOver, IsTypeIn};
-ghost use Rattle.swreq_symbols.specs.Meaning.{facts_of, symbols_of};
-ghost use Rattle.swreq_symbols.specs.Overs.{source_over};
-ghost use Rattle.swreq_symbols.specs.Readings.{IsReadAs};
-ghost use Rattle.swreq_symbols.specs.Vanishing.{HasStep, IsLeastBy, Links};
+ghost use Rattle.std.specs.{Prelude.{◌≡◌, ◌↔◌, ◌+◌, ◌≤◌, ◌<◌, [], ◌∷◌, ◌++◌, length, vec_len, vec_capacity, IsTrue}, Bool.{OnTrue}};
+ghost use Rattle.swreq_correspondence.specs.swreq_param.{declared.ids.Step.TheVariants.{Bound, Name}, Tables.{IsOf, term_at}, Terms.{member_count}};
+ghost use Rattle.swreq_correspondence.specs.swreq_derive.Derivation.{HasParam};
+ghost use Rattle.swreq_correspondence.specs.{Shown.{ShowsValid}, Symbols.{start}};
+ghost use Rattle.swreq_world.specs.{ByTable.{world_by}, Closed.{AreIds, IsStepOf}};
+ghost use Rattle.swreq_symbols.specs.{Fronts.{without}, Known.{IsTextOver, IsTypeIn}, Meaning.{facts_of, symbols_of}, Overs.{source_over}, Readings.{IsReadAs}, Vanishing.{HasStep, IsLeastBy, Links}};
 
 use crate::behind::first_behind;
 use crate::over::Over;
 use crate::reading::Reading;
 use crate::words::{start_of, symbol_of};
 use swreq_complete::CompleteRules;
+use swreq_complete::word::Symbol;
 use swreq_map::{append, vanishes};
-use swreq_param::{AssocId, NameId, ParamId, ParamTable, Step, TermId};
-use swreq_word::Symbol;
 use swreq_world::World;
+use swreq_world::param::{AssocId, NameId, ParamId, ParamTable, Step, TermId};
 
 /// Puts the symbol last, where there is room for it.
 fn put(v: &mut Vec<Symbol>, x: Symbol)

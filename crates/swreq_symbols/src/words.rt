@@ -1,19 +1,16 @@
 //! The words of type parameters, and the equations of requirements.
 ghost use Rattle.std.specs.Prelude.{◌≡◌, ◌<◌, length, IfOk};
-ghost use Rattle.swreq_param.specs.declared.ids.Step.TheVariants.{Bound};
-ghost use Rattle.swreq_param.specs.Tables.{term_at};
-ghost use Rattle.swreq_derive.specs.Facts.{requirement_of};
+ghost use Rattle.swreq_correspondence.specs.swreq_param.{declared.ids.Step.TheVariants.{Bound}, Tables.{term_at}};
+ghost use Rattle.swreq_correspondence.specs.swreq_derive.Facts.{requirement_of};
 ghost use Rattle.swreq_correspondence.specs.Symbols.{left_side, right_side, spell, start, symbol};
 ghost use Rattle.swreq_world.specs.Closed.{AreIds, IsStepOf};
-ghost use Rattle.swreq_symbols.specs.Known.{IsRequirementIn, IsTextOver, IsTypeIn};
-ghost use Rattle.swreq_symbols.specs.Meaning.{symbols_of};
-ghost use Rattle.swreq_symbols.specs.Overs.{ending, source_by};
+ghost use Rattle.swreq_symbols.specs.{Known.{IsRequirementIn, IsTextOver, IsTypeIn}, Meaning.{symbols_of}, Overs.{ending, source_by}};
 
 use std::alloc::{AllocError, Global};
-use swreq_derive::Requirement;
-use swreq_param::{AssocId, ParamId, ParamTable, ProtoId, Step, TermId};
-use swreq_word::{Symbol, Word};
+use swreq_complete::word::{Symbol, Word};
 use swreq_world::World;
+use swreq_world::derive::Requirement;
+use swreq_world::param::{AssocId, ParamId, ParamTable, ProtoId, Step, TermId};
 
 /// The symbol of an associated type.
 fn symbol_of_assoc(world: &World, d: AssocId) -> Symbol

@@ -1,7 +1,6 @@
 //! Bytes and numbers at the end of a list.
 
-ghost use Rattle.std.specs.Prelude.{◌≡◌, ◌++◌, OnErr, OnOk};
-ghost use Rattle.std.specs.Fmt.{decimal};
+ghost use Rattle.std.specs.{Prelude.{◌≡◌, ◌++◌, OnErr, OnOk}, Fmt.{decimal}};
 
 use itoa::Buffer;
 use std::alloc::AllocError;

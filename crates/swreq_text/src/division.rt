@@ -1,7 +1,6 @@
 // An input in two parts.
 ghost use Rattle.std.specs.Prelude.{◌≡◌, ◌++◌, ◌∷◌, Contains, IfSome, MatchOption};
-ghost use Rattle.swreq_text.specs.Lines.{lines};
-ghost use Rattle.swreq_text.specs.Divided.{Divides, divider};
+ghost use Rattle.swreq_text.specs.{Lines.{lines}, Divided.{Divides, divider}};
 
 use crate::line::first_line;
 

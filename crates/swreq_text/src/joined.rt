@@ -1,7 +1,6 @@
 //! The texts of a list, with a separator between them.
 
-ghost use Rattle.std.specs.Prelude.{◌≡◌, ◌++◌, ℕ, List, OnErr, OnOk, map};
-ghost use Rattle.std.specs.List.{All};
+ghost use Rattle.std.specs.{Prelude.{◌≡◌, ◌++◌, ℕ, List, OnErr, OnOk, map}, List.{All}};
 ghost use Rattle.swreq_text.specs.Joined.{GrewByPart, followed, joined};
 
 use crate::append_bytes;

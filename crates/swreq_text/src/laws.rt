@@ -1,9 +1,7 @@
 //! Which streams tell their bytes, which count no fault, and how an input is divided, over the definitions alone.
 
 ghost use Rattle.std.specs.Prelude.{◌≡◌, ℕ, List, None, Some, Contains};
-ghost use Rattle.swreq_text.specs.Divided.{Divides, divider};
-ghost use Rattle.swreq_text.specs.Lines.{lines};
-ghost use Rattle.swreq_text.specs.Memory.{SinkState, SourceState};
+ghost use Rattle.swreq_text.specs.{Divided.{Divides, divider}, Lines.{lines}, Memory.{SinkState, SourceState}};
 
 use crate::{CountSink, MemSink, MemSource, Sink, Source, StdSink, StdSource, SureSource};
 use std::io::{Read, Write};

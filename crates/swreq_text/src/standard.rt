@@ -1,6 +1,5 @@
 // A reader and a writer of std as a source and a sink.
-ghost use Rattle.std.specs.Prelude.{◌≡◌, ◌<◌, ◌≤◌, length, take, is_ok, if◌then◌else◌, IfOk, IfSome, OnErr, None, Some};
-ghost use Rattle.std.specs.Io.KnownBytes.{Appends, Consumes, IsAtEnd, Keeps};
+ghost use Rattle.std.specs.{Prelude.{◌≡◌, ◌<◌, ◌≤◌, length, take, is_ok, if◌then◌else◌, IfOk, IfSome, OnErr, None, Some}, Io.KnownBytes.{Appends, Consumes, IsAtEnd, Keeps}};
 ghost use Rattle.swreq_text.specs.Faults.{HasRisen, one_more};
 
 use crate::{IoFailed, Sink, Source};

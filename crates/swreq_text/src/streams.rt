@@ -1,6 +1,5 @@
 // A source and a sink of bytes.
-ghost use Rattle.std.specs.Prelude.{◌≡◌, ◌<◌, ◌≤◌, List, ℕ, Option, length, take, IfOk, OnOk, OnErr};
-ghost use Rattle.std.specs.Io.KnownBytes.{Appends, Consumes, IsAtEnd, Keeps};
+ghost use Rattle.std.specs.{Prelude.{◌≡◌, ◌<◌, ◌≤◌, List, ℕ, Option, length, take, IfOk, OnOk, OnErr}, Io.KnownBytes.{Appends, Consumes, IsAtEnd, Keeps}};
 ghost use Rattle.swreq_text.specs.Faults.{HasRisen};
 
 /// A read or a write failed. The stream's count of faults has risen.

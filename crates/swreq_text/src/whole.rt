@@ -1,9 +1,6 @@
 // A source read to its end, and a piece written whole.
-ghost use Rattle.std.specs.Prelude.{◌≡◌, ◌⊎◌, ℕ, ◌+◌, ◌^◌, ◌≤◌, ◌<◌, length, IfOk, OnOk, OnErr, IsErrOf};
-ghost use Rattle.std.specs.Io.KnownBytes.{Appends, Consumes, IsAtEnd};
-ghost use Rattle.swreq_text.specs.Faults.{HasRisen};
-ghost use Rattle.swreq_text.specs.declared.whole.ReadErr.TheVariants.{Fault, Memory};
-ghost use Rattle.swreq_text.specs.Given.{AppendsPart, GivesCount, HasGiven};
+ghost use Rattle.std.specs.{Prelude.{◌≡◌, ◌⊎◌, ℕ, ◌+◌, ◌^◌, ◌≤◌, ◌<◌, length, IfOk, OnOk, OnErr, IsErrOf}, Io.KnownBytes.{Appends, Consumes, IsAtEnd}};
+ghost use Rattle.swreq_text.specs.{Faults.{HasRisen}, declared.whole.ReadErr.TheVariants.{Fault, Memory}, Given.{AppendsPart, GivesCount, HasGiven}};
 
 use crate::{IoFailed, Sink, Source};
 use std::alloc::{AllocError, Global};

@@ -1,14 +1,15 @@
 //! What is found in a world by its name.
 ghost use Rattle.std.specs.Prelude.{◌≡◌, ◌<◌, ◌≤◌, length};
-ghost use Rattle.swreq_decl.specs.Skeletons.{StandsFor};
+ghost use Rattle.swreq_samples.specs.swreq_decl.Skeletons.{StandsFor};
 
 use std::alloc::Global;
 use std::process::Abort;
 use std::test::Fail;
-use swreq_decl::Skeleton;
-use swreq_param::{NameId, ParamId, ParamTable, ProtoId};
 use swreq_samples::skeleton_of;
-use swreq_world::{FuncId, World};
+use swreq_world::World;
+use swreq_world::decl::Skeleton;
+use swreq_world::lowering::FuncId;
+use swreq_world::param::{NameId, ParamId, ParamTable, ProtoId};
 
 /// A text with two protocols that declare one name, and a struct.
 const TEXT: &[u8] = b"\

@@ -2,8 +2,8 @@
 
 use std::alloc::Global;
 use std::process::Abort;
-use swreq_decl::{ParseErr, parse};
-use swreq_lex::TEXT_LIMIT;
+use swreq_world::decl::{ParseErr, parse};
+use swreq_world::lex::TEXT_LIMIT;
 
 /// Texts of the grammar by name, with a space between all tokens.
 const WHOLES: &[(&str, &str)] = &[

@@ -3,7 +3,7 @@
 use std::alloc::{AllocError, Global};
 use std::fmt::Write;
 use std::process::Abort;
-use swreq_lex::{TEXT_LIMIT, Token, tokens_from};
+use swreq_world::lex::{TEXT_LIMIT, Token, tokens_from};
 
 /// The tokens as one line.
 fn put_tokens(out: &mut String, tokens: &[Token]) -> Result<(), AllocError> {

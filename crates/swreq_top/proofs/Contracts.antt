@@ -10,7 +10,7 @@ use Rattle.swreq_reply.specs.declared.outcome.Outcome.{Outcome}
 use Rattle.swreq_reply.specs.Replies.{IsOnlyRefusal, IsToldVerdict}
 use Rattle.swreq_reply.specs.Inputs.{Parts}
 use Rattle.swreq_reply.specs.Verdict.{IsCutShort, IsRefused, IsVerdict}
-use Rattle.swreq_check.specs.declared.content.Content.{Content}
+use Rattle.swreq_reply.specs.swreq_check.declared.content.Content.{Content}
 use Rattle.swreq_world.specs.Worlds.{TextWorld}
 use Rattle.swreq_reply.specs.Verdict.IsVerdict.{answered as is_answered, cut_short as is_cut_short, judged as is_judged, refused as is_refused}
 use Rattle.swreq_top.specs.Contract.{IsRun}

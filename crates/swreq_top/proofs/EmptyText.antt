@@ -2,58 +2,57 @@
 use Rattle.std.proofs.Common.{◌≡◌, ◌≢◌, ◌∙◌, ◌⊎◌, refl, sym, ap, subst, inl, inr, ℕ, ◌≤◌, arith, le_refl, Bool, length, length-append, List, [], ◌∷◌, Contains, Option, Some}
 use Rattle.std.proofs.lemmas.Option.{none-some}
 use Rattle.std.proofs.lemmas.Str.{IsUtf8-nil, chars-nil}
-use Rattle.swreq_lex.specs.declared.refusal.LexErr.{LexErr}
-use Rattle.swreq_lex.specs.Refusals.{HasRefusal}
-use Rattle.swreq_lex.specs.Tokens.{HasTokens, Reads, after_byte_order_mark, first_offset}
-use Rattle.swreq_lex.specs.Tokens.Reads.{done}
-use Rattle.swreq_lex.proofs.TextLemmas.{never_both, one_list}
-use Rattle.swreq_decl.specs.declared.kind.Kind.{Kind}
-use Rattle.swreq_decl.specs.declared.skeleton.Skeleton.{Skeleton}
-use Rattle.swreq_decl.specs.Skeletons.{RefusedFor, StandsFor, skeleton_of}
-use Rattle.swreq_decl.specs.Source.{source}
-use Rattle.swreq_decl.proofs.Answering.{not_both, one_skeleton}
-use Rattle.swreq_lemmas.proofs.Members.{first_member, no_member}
-use Rattle.swreq_resolve.specs.declared.refusal.NameErr.{NameErr}
-use Rattle.swreq_resolve.specs.Resolving.{RefusesSkeleton}
-use Rattle.swreq_rule.specs.declared.rules.Birth.{Birth}
-use Rattle.swreq_rule.specs.declared.rules.Birth.TheVariants.{Given, Pair}
-use Rattle.swreq_rule.specs.declared.rules.Rule.{Rule}
+use Rattle.swreq_print.specs.swreq_lex.declared.refusal.LexErr.{LexErr}
+use Rattle.swreq_print.specs.swreq_lex.Refusals.{HasRefusal}
+use Rattle.swreq_print.specs.swreq_lex.Tokens.{HasTokens, Reads, after_byte_order_mark, first_offset}
+use Rattle.swreq_print.specs.swreq_lex.Tokens.Reads.{done}
+use Rattle.swreq_print.proofs.swreq_lex.TextLemmas.{never_both, one_list}
+use Rattle.swreq_print.specs.swreq_decl.declared.kind.Kind.{Kind}
+use Rattle.swreq_print.specs.swreq_decl.declared.skeleton.Skeleton.{Skeleton}
+use Rattle.swreq_print.specs.swreq_decl.Skeletons.{RefusedFor, StandsFor, skeleton_of}
+use Rattle.swreq_print.specs.swreq_decl.Source.{source}
+use Rattle.swreq_world.proofs.swreq_decl.Answering.{not_both, one_skeleton}
+use Rattle.swreq_world.proofs.swreq_lemmas.Members.{first_member, no_member}
+use Rattle.swreq_world.specs.swreq_resolve.declared.refusal.NameErr.{NameErr}
+use Rattle.swreq_world.specs.swreq_resolve.Resolving.{RefusesSkeleton}
+use Rattle.swreq_print.specs.swreq_rule.declared.rules.Birth.{Birth}
+use Rattle.swreq_print.specs.swreq_rule.declared.rules.Birth.TheVariants.{Given, Pair}
+use Rattle.swreq_print.specs.swreq_rule.declared.rules.Rule.{Rule}
 use Rattle.swreq_watch.specs.declared.events.Event.{Event}
-use Rattle.swreq_complete.specs.declared.limit.Limits.{Limits}
-use Rattle.swreq_complete.specs.declared.limit.Which.{Which}
-use Rattle.swreq_complete.specs.Limits.{Passes}
-use Rattle.swreq_complete.specs.Reached.{IsBorn}
-use Rattle.swreq_rounds.specs.Plan.{Item, given}
-use Rattle.swreq_rounds.specs.Rounds.{IsStoppedRound}
-use Rattle.swreq_rounds.proofs.Turning.{round_within, stops_here}
+use Rattle.swreq_reply.specs.swreq_complete.declared.limit.Limits.{Limits}
+use Rattle.swreq_reply.specs.swreq_complete.declared.limit.Which.{Which}
+use Rattle.swreq_reply.specs.swreq_complete.Limits.{Passes}
+use Rattle.swreq_reply.specs.swreq_complete.Reached.{IsBorn}
+use Rattle.swreq_reply.specs.swreq_rounds.Plan.{Item, given}
+use Rattle.swreq_reply.specs.swreq_rounds.Rounds.{IsStoppedRound}
+use Rattle.swreq_reply.proofs.swreq_rounds.Turning.{round_within, stops_here}
 use Rattle.swreq_print.specs.declared.refusal.RefusalKind.{RefusalKind}
 use Rattle.swreq_print.specs.declared.refusal.RefusalKind.TheVariants as refusals
-use Rattle.swreq_valid.specs.declared.refused.Refused.{Refused}
-use Rattle.swreq_valid.specs.declared.refused.Refused.TheVariants.{Limit, NotATypeParameter, Memory}
-use Rattle.swreq_valid.specs.Protocols.{protocols_of}
+use Rattle.swreq_reply.specs.swreq_valid.declared.refused.Refused.{Refused}
+use Rattle.swreq_reply.specs.swreq_valid.declared.refused.Refused.TheVariants.{Limit, NotATypeParameter, Memory}
+use Rattle.swreq_reply.specs.swreq_valid.Protocols.{protocols_of}
 use Rattle.swreq_words.specs.declared.command.CommandLine.{CommandLine}
 use Rattle.swreq_words.specs.declared.command.Input.{Input}
 use Rattle.swreq_words.specs.declared.command.Input.TheVariants.{OnePart}
 use Rattle.swreq_words.specs.Commands.{input as reads}
 use Rattle.swreq_world.specs.WorldOf.{IsWorldOf}
 use Rattle.swreq_world.specs.Worlds.{SignatureOver, TextWorld}
-use Rattle.swreq_lowering.specs.Queries.TermQuery.{AsksSignature}
-use Rattle.swreq_lowering.specs.Requirements.{PlacedRequirement}
+use Rattle.swreq_world.specs.swreq_lowering.Requirements.{PlacedRequirement}
 use Rattle.swreq_reply.specs.declared.outcome.Outcome.{Outcome}
-use Rattle.swreq_query.specs.Ended.{IsWorldOfText}
-use Rattle.swreq_check.specs.Machines.{IsChecked}
-use Rattle.swreq_check.specs.Machines.IsChecked.{protocols_built, protocols_refused}
+use Rattle.swreq_reply.specs.swreq_query.Ended.{IsWorldOfText}
+use Rattle.swreq_reply.specs.swreq_check.Machines.{IsChecked}
+use Rattle.swreq_reply.specs.swreq_check.Machines.IsChecked.{protocols_built, protocols_refused}
 use Rattle.swreq_reply.proofs.Verdicts.{prints_of_one}
 use Rattle.swreq_top.specs.Run.{IsAnswerable, Run, known_for, known_text}
 use Rattle.swreq_words.specs.Form.{Says}
-use Rattle.swreq_check.specs.Told.{IsListMade}
-use Rattle.swreq_reqsig.specs.Families.{owned}
-use Rattle.swreq_reqsig.specs.Told.{WasReduced}
-use Rattle.swreq_reqsig.specs.Told.WasReduced.{further, start}
-use Rattle.swreq_check.specs.declared.content.Made.{Made}
-use Rattle.swreq_check.specs.declared.content.Made.TheVariants.{Lines, Lists}
+use Rattle.swreq_reply.specs.swreq_check.Told.{IsListMade}
+use Rattle.swreq_reply.specs.swreq_reqsig.Families.{owned}
+use Rattle.swreq_reply.specs.swreq_reqsig.Told.{WasReduced}
+use Rattle.swreq_reply.specs.swreq_reqsig.Told.WasReduced.{further, start}
+use Rattle.swreq_reply.specs.swreq_check.declared.content.Made.{Made}
+use Rattle.swreq_reply.specs.swreq_check.declared.content.Made.TheVariants.{Lines, Lists}
 use Rattle.swreq_reply.specs.Commands.{content_of}
-use Rattle.swreq_check.specs.Contents.{makes}
+use Rattle.swreq_reply.specs.swreq_check.Contents.{makes}
 use Rattle.swreq_reply.specs.Inputs.{AreParts, Parts}
 use Rattle.swreq_reply.specs.Verdict.{HasNoWorld, HasWorld, IsCutShort, IsRefused, RefusesNames, limits_of}
 use Rattle.swreq_reply.specs.Verdict.IsRefused.{bad_calls, in_one_part, misfit, past_a_limit_of_families, too_long, unchecked, without_world}
@@ -150,7 +149,7 @@ module _ (w : TextWorld) (limits : Limits) where
 -- ---- what is told after the check
 
 none_minimised : (a : Made) (w : TextWorld) (g : SignatureOver PlacedRequirement) → IsListMade a (emptied w) g → ⊥
-none_minimised Lines w g (f, has, is) = no_member (AsksSignature f) has
+none_minimised Lines w g (q, has, asks, is) = no_member q has
 none_minimised Lists w g has = no_member g has
 none_minimised _ w g asked = asked
 

@@ -5,87 +5,89 @@ use Rattle.std.specs.Io.KnownBytes.{Appends}
 use Rattle.std.proofs.lemmas.List.{append_cancel_left}
 use Rattle.std.proofs.lemmas.List.Elements.{All-contains, Contains-get_or, Contains-push}
 use Rattle.std.proofs.lemmas.Option.{IfSome_then, none-some, same_Some}
-use Rattle.swreq_lemmas.proofs.Elements.{get_contains}
-use Rattle.swreq_param.specs.Terms.{Term}
-use Rattle.swreq_derive.specs.Derivation.{Derivable, Source, TermFacts, TermRequirement, TermStatement}
-use Rattle.swreq_derive.specs.Derivation.TermStatement.{IsValid, Requires}
-use Rattle.swreq_derive.specs.Facts.{generic_params}
-use Rattle.swreq_derive.specs.WellFormed.{HasValidSides, IsWellFormed}
-use Rattle.swreq_derive.proofs.Guard.{from_function}
-use Rattle.swreq_derive.proofs.Substitution.{valid_sides}
-use Rattle.swreq_canonical.proofs.Agreement.{minimised_independent}
-use Rattle.swreq_rule.specs.declared.rules.Rule.{Rule}
+use Rattle.swreq_world.proofs.swreq_lemmas.Elements.{get_contains}
+use Rattle.swreq_world.specs.swreq_param.Terms.{Term}
+use Rattle.swreq_world.specs.swreq_derive.Derivation.{Derivable, Source, TermFacts, TermRequirement, TermStatement}
+use Rattle.swreq_world.specs.swreq_derive.Derivation.TermRequirement.{Conforms, Equals, IsAnyObject}
+use Rattle.swreq_world.specs.swreq_derive.Derivation.TermStatement.{IsValid, Requires}
+use Rattle.swreq_world.specs.swreq_derive.Facts.{generic_params}
+use Rattle.swreq_world.specs.swreq_derive.WellFormed.{HasValidSides, IsWellFormed}
+use Rattle.swreq_world.proofs.swreq_derive.Guard.{from_function}
+use Rattle.swreq_world.proofs.swreq_derive.Substitution.{valid_sides}
+use Rattle.swreq_reply.proofs.swreq_canonical.Agreement.{minimised_independent}
+use Rattle.swreq_print.specs.swreq_rule.declared.rules.Rule.{Rule}
 use Rattle.swreq_watch.specs.declared.events.Event.{Event}
-use Rattle.swreq_complete.specs.declared.limit.Limits.{Limits}
+use Rattle.swreq_reply.specs.swreq_complete.declared.limit.Limits.{Limits}
 use Rattle.swreq_words.specs.Form.{Says}
 use Rattle.swreq_words.specs.declared.command.CommandLine.{CommandLine}
-use Rattle.swreq_lowering.specs.declared.ids.FuncId.{FuncId}
-use Rattle.swreq_lowering.specs.Queries.{TermQuery}
-use Rattle.swreq_lowering.specs.Queries.TermQuery.{AsksSignature, AsksReduced, AsksConforms, AsksAnyObject, AsksEquals}
-use Rattle.swreq_lowering.specs.Requirements.{PlacedRequirement}
+use Rattle.swreq_world.specs.swreq_lowering.Queries.{TermAsks, TermQuery}
+use Rattle.swreq_world.specs.swreq_lowering.Queries.TermAsks.{AsksReduced, AsksRequirement, AsksSignature}
+use Rattle.swreq_world.specs.swreq_lowering.Requirements.{PlacedRequirement}
 use Rattle.swreq_world.specs.Closed.{IsClosed, IsQueryOf}
 use Rattle.swreq_world.specs.Worlds.{SignatureOver, TextWorld, no_signature, signature_at}
-use Rattle.swreq_symbols.specs.Meaning.{facts_of}
+use Rattle.swreq_reply.specs.swreq_symbols.Meaning.{facts_of}
 use Rattle.swreq_print.specs.Names.{Text}
-use Rattle.swreq_query.specs.Answers.{Answer, IsLeastEqual, IsSide, answer_line, asked}
-use Rattle.swreq_query.specs.Answers.Answer.{Invalid, Yes, Reduced}
-use Rattle.swreq_query.proofs.OneAnswer.{one_answer}
-use Rattle.swreq_query.specs.Ended.{HasEnded, IsWorldOfText}
-use Rattle.swreq_query.specs.Signatures.{IsMinimisedLine, full_name}
+use Rattle.swreq_print.specs.Types.{type_text}
+use Rattle.swreq_reply.specs.swreq_query.Answers.{Answer, IsLeastEqual, IsSide, IsSideOf, answer_line}
+use Rattle.swreq_reply.specs.swreq_query.Answers.Answer.{Invalid, Yes, Reduced}
+use Rattle.swreq_reply.proofs.swreq_query.OneAnswer.{one_answer}
+use Rattle.swreq_reply.specs.swreq_query.Ended.{HasEnded, IsWorldOfText}
+use Rattle.swreq_reply.specs.swreq_query.Signatures.{IsMinimisedLine, full_name}
 use Rattle.swreq_world.specs.FactsAt.{source_of, written_list}
-use Rattle.swreq_query.proofs.PrintingAlike.{closed_world, equivalent_by_one_line, lines_alike, params_of_one_line}
+use Rattle.swreq_reply.proofs.swreq_query.PrintingAlike.{closed_world, equivalent_by_one_line, lines_alike, params_of_one_line}
 use Rattle.swreq_reply.specs.declared.outcome.Outcome.{Outcome}
 use Rattle.swreq_top.specs.Headline.{HasPathWhereImplied, IsDerivedWhereImplied, AsksImplied, IsImplied, IsLeastWhereValid, IsYes, IsYesWhereImplied, PrintsOf, SayAlike, SayDerivations, SayEqualLists, SayFailing, SayFamily, SayPaths, SayTheLeast, SayYesWhereImplied, SaysOf}
-use Rattle.swreq_check.specs.Lines.{AreLines}
-use Rattle.swreq_check.specs.Lines.AreLines.{none, more}
-use Rattle.swreq_check.specs.declared.content.Backing.{Backing}
-use Rattle.swreq_check.specs.declared.content.Backing.TheVariants.{Derivation, Path}
-use Rattle.swreq_check.specs.declared.content.Content.{Content}
-use Rattle.swreq_check.specs.declared.content.Content.TheVariants.{Answers, Calls, Families, Judgements, Signatures}
-use Rattle.swreq_check.specs.declared.content.Shown.TheVariants.{Counts, Each}
+use Rattle.swreq_reply.specs.swreq_check.Lines.{AreLines}
+use Rattle.swreq_reply.specs.swreq_check.Lines.AreLines.{none, more}
+use Rattle.swreq_reply.specs.swreq_check.declared.content.Backing.{Backing}
+use Rattle.swreq_reply.specs.swreq_check.declared.content.Backing.TheVariants.{Derivation, Nothing, Path}
+use Rattle.swreq_reply.specs.swreq_check.declared.content.Content.{Content}
+use Rattle.swreq_reply.specs.swreq_check.declared.content.Content.TheVariants.{Answers, Calls, Families, Judgements, Signatures}
+use Rattle.swreq_reply.specs.swreq_check.declared.content.Shown.TheVariants.{Counts, Each}
 use Rattle.swreq_reply.specs.Commands.{content_of}
 use Rattle.swreq_reply.specs.Inputs.{AreParts, Parts}
-use Rattle.swreq_check.specs.QueryLines.{AnswersByTypes, HasAnswer, IsLineOf, signature_of}
+use Rattle.swreq_reply.specs.swreq_check.QueryLines.{AnswersByTypes, BacksYes, HasAnswer, IsLineOf, IsLineWhere}
 use Rattle.swreq_reply.specs.Outputs.{AnswersLast, ArePrinted, IsOutput}
 use Rattle.swreq_top.specs.Run.{HasVerdict, Run, known_text}
 use Rattle.swreq_reply.specs.Verdict.{HasWorld, IsVerdict, limits_of}
 use Rattle.swreq_reply.specs.Verdict.IsVerdict.{answered as is_answered, cut_short as is_cut_short, judged as is_judged, refused as is_refused}
-use Rattle.swreq_reqsig.proofs.Signatures.{numbered_signatures}
-use Rattle.swreq_check.specs.Machines.{IsBuiltOver}
-use Rattle.swreq_check.proofs.OfChecks.{each_comes, is_formed}
+use Rattle.swreq_reply.proofs.swreq_reqsig.Signatures.{numbered_signatures}
+use Rattle.swreq_reply.specs.swreq_check.Machines.{IsBuiltOver}
+use Rattle.swreq_reply.proofs.swreq_check.OfChecks.{each_comes, is_formed}
 use Rattle.swreq_reply.proofs.OneOutput.{refused_status}
 use Rattle.swreq_reply.proofs.ByBook.{asked_list}
 use Rattle.swreq_reply.proofs.Counted.{counted_by}
-use Rattle.swreq_check.proofs.Lines.{lines_by}
+use Rattle.swreq_reply.proofs.swreq_check.Lines.{lines_by}
 
 -- ---- answers of queries
 
--- what follows for each value of an option holds if it has one
-if_some : {A : Type 0} (o : Option A) {P : A → Type 0} → ((x : A) → o ≡ Some x → P x) → IfSome o P
-if_some None each = tt
-if_some (Some x) each = each x refl
-
--- the sides of a query are those of the requirement that it asks
-sides_of_asked : (f : TermFacts) (s : Source) (q : TermQuery)
-    → IfSome (asked q) (λ r. HasValidSides f s r → (side : Term) → IsSide q side → Derivable f s (IsValid side))
-sides_of_asked f s (AsksEquals g t u) = λ valid side is. elim is [ inl e ↦ rw e valid.0 | inr e ↦ rw e valid.1 ]
-sides_of_asked f s (AsksConforms g t p) = λ valid side is. rw is valid
-sides_of_asked f s (AsksAnyObject g t) = λ valid side is. rw is valid
-sides_of_asked f s _ = tt
+-- the sides of a requirement are valid where it is derivable
+sides_valid : (f : TermFacts) (s : Source) (r : TermRequirement) → HasValidSides f s r → (side : Term) → IsSideOf r side
+    → Derivable f s (IsValid side)
+sides_valid f s (Equals t u) valid side is = elim is [ inl e ↦ rw e valid.0 | inr e ↦ rw e valid.1 ]
+sides_valid f s (Conforms t p) valid side is = rw is valid
+sides_valid f s (IsAnyObject t) valid side is = rw is valid
 
 -- a query of a type parameter prints the least one
-least_where_valid : (w : TextWorld) (b : Backing) (q : TermQuery) (piece : Text) → IsLineOf w false b q piece → IsLeastWhereValid w q piece
-least_where_valid w b (AsksReduced f t) piece (Invalid, rest, (side, is, fails), backs, e) =
-    λ valid. absurd (fails (subst (λ z. IsImplied w (AsksReduced f t) (IsValid z)) (sym is) valid))
-least_where_valid w b (AsksReduced f t) piece (Reduced u, rest, (sides, (g, v, same, some)), backs, e) =
-    let is : v ≡ t = cc in
-    λ valid. (
+least_by : (w : TextWorld) (b : Backing) (q : TermQuery) (piece : Text) (t : Term) → q.asks ≡ AsksReduced t
+    → AnswersByTypes w false b q piece
+    → IsImplied w q (IsValid t) → (r : Term) × IsLeastEqual (IsImplied w q) t r × (piece ≡ type_text w.lexicon r ++ codes "\n")
+least_by w b q piece t asks (Invalid, rest, (side, is, fails), backs, e) valid =
+    let of : side ≡ t = subst (λ (z : TermAsks). IsSide z side) asks is in
+    absurd (fails (subst (λ (z : Term). IsImplied w q (IsValid z)) (sym of) valid))
+least_by w b q piece t asks (Reduced u, rest, (sides, (v, same, some)), backs, e) valid =
+    let one : AsksReduced v ≡ AsksReduced t = sym same ∙ asks in
+    let is : v ≡ t = cc in (
       u,
-      subst (λ z. IsLeastEqual (IsImplied w (AsksReduced f t)) z u) is some,
+      subst (λ (z : Term). IsLeastEqual (IsImplied w q) z u) is some,
       e ∙ ap (λ (z : Text). answer_line w.lexicon (Reduced u) ++ z) backs ∙ append-nil (answer_line w.lexicon (Reduced u)),
     )
-least_where_valid w b (AsksReduced f t) piece (a, rest, is, backs, e) = absurd (none-some is.1.0 is.1.1)
-least_where_valid w b _ piece line = tt
+least_by w b q piece t asks (a, rest, is, backs, e) valid =
+    let clash : AsksRequirement is.1.0 ≡ AsksReduced t = sym is.1.1 ∙ asks in absurd cc
+
+least_where_valid : (w : TextWorld) (b : Backing) (q : TermQuery) (piece : Text) → IsLineOf w false b q piece → IsLeastWhereValid w q piece
+least_where_valid w b q piece line t asks =
+    least_by w b q piece t asks (subst (λ (z : TermAsks). IsLineWhere w false z b q piece) asks line)
 
 -- ---- lines at their places
 
@@ -98,11 +100,12 @@ line_at {P} (more {x} {xs} {line} is rest) zero y other e d =
 line_at (more is rest) (suc k) y other e d = line_at rest k y other e d
 
 -- the answer to the last query, where it asks for a signature
-last_list : (w : TextWorld) (qs : List TermQuery) (f : FuncId) (line : Text) → AnswersLast w false (qs ++ AsksSignature f ∷ []) line
-    → IsMinimisedLine w (signature_at w f) line
-last_list w [] f line h = h
-last_list w (q ∷ []) f line h = h
-last_list w (q ∷ r ∷ qs) f line h = last_list w (r ∷ qs) f line h
+last_list : (w : TextWorld) (qs : List TermQuery) (p : TermQuery) (line : Text) → p.asks ≡ AsksSignature
+    → AnswersLast w false (qs ++ p ∷ []) line
+    → IsMinimisedLine w (signature_at w p.f) line
+last_list w [] p line asks h = subst (λ (z : TermAsks). IsLineWhere w false z Nothing p line) asks h
+last_list w (q ∷ []) p line asks h = subst (λ (z : TermAsks). IsLineWhere w false z Nothing p line) asks h
+last_list w (q ∷ r ∷ qs) p line asks h = last_list w (r ∷ qs) p line asks h
 
 -- ---- texts that pass the check
 
@@ -142,43 +145,47 @@ module _ (w : TextWorld) (has : HasPassed w) where
   -- a query whose requirement is implied has the answer `yes`
   answers_yes : (q : TermQuery) → IsQueryOf w q → AsksImplied w q → HasAnswer w false Yes q
   answers_yes q of (r, asks, h) =
-      let s : Source = source_of (signature_at w (signature_of q)) in
+      let s : Source = source_of (signature_at w q.f) in
       let book = λ (st : TermStatement). from_function (facts_of w) (map source_of w.signatures) s st formed (asked_list w q of) in (
         λ side is. (book (IsValid side)).1
-            ((rw asks at (sides_of_asked (facts_of w) s q)) (valid_sides (facts_of w) s r ((book (Requires r)).0 h)) side is),
+            (sides_valid (facts_of w) s r (valid_sides (facts_of w) s r ((book (Requires r)).0 h)) side
+            (subst (λ (z : TermAsks). IsSide z side) asks is)),
         (r, asks, h),
       )
 
   -- a piece that begins as that of a `yes` is one
-  only_yes : (q : TermQuery) (r : TermRequirement) → asked q ≡ Some r → (a : Answer) (rest behind : Text) → HasAnswer w false a q
+  only_yes : (q : TermQuery) (r : TermRequirement) → q.asks ≡ AsksRequirement r → (a : Answer) (rest behind : Text) → HasAnswer w false a q
       → answer_line w.lexicon a ++ rest ≡ codes "yes\n" ++ behind → HasAnswer w false Yes q
   only_yes q r asks Yes rest behind h e = h
-  only_yes q r asks (Reduced u) rest behind (sides, (f, t, is, some)) e = absurd (none-some r (sym (ap asked is) ∙ asks))
+  only_yes q r asks (Reduced u) rest behind (sides, (t, is, some)) e =
+      let clash : AsksRequirement r ≡ AsksReduced t = sym asks ∙ is in absurd cc
   only_yes q r asks _ rest behind h e = absurd (cc)
 
   -- so the piece of a query is that of a `yes` if and only if its requirement is implied
   yes_where_implied : (b : Backing) (q : TermQuery) (piece : Text) → IsQueryOf w q → IsLineOf w false b q piece
       → IsYesWhereImplied w b q piece
-  yes_where_implied b q piece of line = if_some (asked q) (λ r asks. both r asks (by_types q line r asks))
+  yes_where_implied b q piece of line r asks = both (subst (λ (z : TermAsks). IsLineWhere w false z b q piece) asks line)
     where
-      by_types : (q : TermQuery) → IsLineOf w false b q piece → (r : TermRequirement) → asked q ≡ Some r → AnswersByTypes w false b q piece
-      by_types (AsksSignature f) line r asks = absurd (none-some r asks)
-      by_types _ line r asks = line
+      one : (p : TermRequirement) → q.asks ≡ AsksRequirement p → p ≡ r
+      one p also = let e : AsksRequirement p ≡ AsksRequirement r = sym also ∙ asks in cc
 
-      both : (r : TermRequirement) → asked q ≡ Some r → AnswersByTypes w false b q piece → IsYes w b q piece ↔ IsImplied w q (Requires r)
-      both r asks (a, rest, answers, backs, e) = (
+      both : AnswersByTypes w false b q piece → IsYes w b q r piece ↔ IsImplied w q (Requires r)
+      both (a, rest, answers, backs, e) = (
         λ (behind, backed, is).
             let yes = only_yes q r asks a rest behind answers (sym e ∙ is) in
-            rw (same_Some yes.1.0 r (sym yes.1.1 ∙ asks)) at yes.1.2,
+            subst (λ (z : TermRequirement). IsImplied w q (Requires z)) (one yes.1.0 yes.1.1) yes.1.2,
         λ h.
-            let same : a ≡ Yes = one_answer (IsImplied w q) q a Yes answers (answers_yes q of (r, asks, h)) in
-            (rest, rw same at backs, e ∙ ap (λ (z : Answer). answer_line w.lexicon z ++ rest) same),
+            let same : a ≡ Yes = one_answer (IsImplied w q) q.asks a Yes answers (answers_yes q of (r, asks, h)) in
+            let (p, also, backed) = rw same at backs in (
+              rest,
+              subst (λ (z : TermRequirement). BacksYes w b q.f z rest) (one p also) backed,
+              e ∙ ap (λ (z : Answer). answer_line w.lexicon z ++ rest) same,
+            ),
       )
 
   -- and where paths are printed, a path follows it
   path_where_implied : (q : TermQuery) (piece : Text) → IsQueryOf w q → IsLineOf w false Path q piece → HasPathWhereImplied w q piece
-  path_where_implied (AsksConforms f t p) piece of line = (yes_where_implied Path (AsksConforms f t p) piece of line).1
-  path_where_implied _ piece of line = tt
+  path_where_implied q piece of line t p asks = (yes_where_implied Path q piece of line (Conforms t p) asks).1
 
   -- the answers to the queries of the text, each by a sentence on its query
   of_queries : (b : Backing) (Sentence : TermQuery → Text → Type 0)
@@ -187,10 +194,10 @@ module _ (w : TextWorld) (has : HasPassed w) where
   of_queries b Sentence each are = lines_by (IsLineOf w false b) Sentence (λ q line c of. each q line (is_query q c) of) are
 
   -- the signature that a query asks is one of the text
-  asked_signature : (f : FuncId) (g : SignatureOver PlacedRequirement) (line : Text) → Contains w.queries (AsksSignature f)
-      → g ≡ signature_at w f → IsMinimisedLine w (signature_at w f) line → Contains w.signatures g × IsMinimisedLine w g line
-  asked_signature f g line c is minimised =
-      rw is (Contains-get_or w.signatures f.place no_signature (is_query (AsksSignature f) c), minimised)
+  asked_signature : (q : TermQuery) (g : SignatureOver PlacedRequirement) (line : Text) → Contains w.queries q
+      → g ≡ signature_at w q.f → IsMinimisedLine w (signature_at w q.f) line → Contains w.signatures g × IsMinimisedLine w g line
+  asked_signature q g line c is minimised =
+      rw is (Contains-get_or w.signatures q.f.place no_signature (is_query q c).0, minimised)
 
 -- ---- the sentences, of what is printed
 
@@ -223,16 +230,19 @@ say_least w _ has p lines are = tt
 listed : (w : TextWorld) (c : Content) → (c ≢ Judgements → HasPassed w) → (p : Parts) (lines : List Text) → ArePrinted w false c p lines
     → (k : ℕ) (g : SignatureOver PlacedRequirement) (line : Text) → PrintsOf w c lines k g line
     → HasPassed w × (Contains w.signatures g × IsMinimisedLine w g line)
-listed w (Answers (Each b)) has p lines are k g line (f, asks, is, at) =
+listed w (Answers (Each b)) has p lines are k g line (q, at_q, asks, is, at) =
     let passed = has (λ e. (cc)) in
-    let member = get_contains w.queries k (AsksSignature f) asks in
-    (passed, asked_signature w passed f g line member is (line_at are k (AsksSignature f) line asks at))
-listed w (Answers (Counts n)) has p lines are k g line (f, qs, split, is, second, at) =
+    let member = get_contains w.queries k q at_q in (
+      passed,
+      asked_signature w passed q g line member is
+          (subst (λ (z : TermAsks). IsLineWhere w false z b q line) asks (line_at are k q line at_q at)),
+    )
+listed w (Answers (Counts n)) has p lines are k g line (q, qs, split, asks, is, second, at) =
     let passed = has (λ e. (cc)) in
     let same : are.last ≡ line = same_Some are.last line (sym (ap₂ slice_get are.pieces_are second) ∙ at) in
-    let member : Contains w.queries (AsksSignature f) = rw split (Contains-push qs (AsksSignature f)) in
+    let member : Contains w.queries q = rw split (Contains-push qs q) in
     let ends = subst (λ (all : List TermQuery). AnswersLast w false all line) split (rw same at are.ends) in
-    (passed, asked_signature w passed f g line member is (last_list w qs f line ends))
+    (passed, asked_signature w passed q g line member is (last_list w qs q line asks ends))
 listed w Signatures has p lines are k g line (at_g, at) =
     let named = line_at are k g (full_name w g ++ (codes ": " ++ line)) at_g at in
     let same = append_cancel_left (full_name w g) (codes ": " ++ line) (codes ": " ++ named.0) named.2 in
@@ -265,7 +275,7 @@ pub say_derivations : Holds SayDerivations
 say_derivations w (Answers (Each Derivation)) has p lines are =
     let passed = has (λ e. (cc)) in
     of_queries w passed Derivation (IsDerivedWhereImplied w)
-    (λ q piece of line. IfSome_then (asked q) (yes_where_implied w passed Derivation q piece of line) (λ r both. both.1)) are
+    (λ q piece of line r asks. (yes_where_implied w passed Derivation q piece of line r asks).1) are
 say_derivations w _ has p lines are = tt
 
 pub say_paths : Holds SayPaths

@@ -1,36 +1,36 @@
 -- Nothing refuses a text that is in order.
 use Rattle.std.proofs.Common.{◌≡◌, ◌⊎◌, inl, inr, refl, subst, ℕ, ◌≤◌, arith, List, Contains, length, Option, Some, Ok}
-use Rattle.swreq_lex.specs.declared.refusal.LexErr.{LexErr}
-use Rattle.swreq_lex.specs.Refusals.{HasRefusal}
-use Rattle.swreq_lex.proofs.TextLemmas.{never_both, never_both_from, one_list, one_list_from, one_refusal_from}
-use Rattle.swreq_decl.specs.declared.kind.Kind.{Kind}
-use Rattle.swreq_decl.specs.declared.skeleton.Skeleton.{Skeleton}
-use Rattle.swreq_decl.specs.Skeletons.{RefusedFor, StandsFor}
-use Rattle.swreq_decl.proofs.Answering.{not_both, one_skeleton}
-use Rattle.swreq_decl.proofs.AnsweringCalls as calls
-use Rattle.swreq_lemmas.proofs.Members.{first_member, later_member}
-use Rattle.swreq_resolve.specs.declared.refusal.NameErr.{NameErr}
-use Rattle.swreq_resolve.specs.Resolving.{Resolve}
-use Rattle.swreq_resolve.proofs.Answers.{not_refused}
-use Rattle.swreq_rule.specs.declared.rules.Rule.{Rule}
+use Rattle.swreq_print.specs.swreq_lex.declared.refusal.LexErr.{LexErr}
+use Rattle.swreq_print.specs.swreq_lex.Refusals.{HasRefusal}
+use Rattle.swreq_print.proofs.swreq_lex.TextLemmas.{never_both, never_both_from, one_list, one_list_from, one_refusal_from}
+use Rattle.swreq_print.specs.swreq_decl.declared.kind.Kind.{Kind}
+use Rattle.swreq_print.specs.swreq_decl.declared.skeleton.Skeleton.{Skeleton}
+use Rattle.swreq_print.specs.swreq_decl.Skeletons.{RefusedFor, StandsFor}
+use Rattle.swreq_world.proofs.swreq_decl.Answering.{not_both, one_skeleton}
+use Rattle.swreq_world.proofs.swreq_decl.AnsweringCalls as calls
+use Rattle.swreq_world.proofs.swreq_lemmas.Members.{first_member, later_member}
+use Rattle.swreq_world.specs.swreq_resolve.declared.refusal.NameErr.{NameErr}
+use Rattle.swreq_world.specs.swreq_resolve.Resolving.{Resolve}
+use Rattle.swreq_world.proofs.swreq_resolve.Answers.{not_refused}
+use Rattle.swreq_print.specs.swreq_rule.declared.rules.Rule.{Rule}
 use Rattle.swreq_watch.specs.declared.events.Event.{Event}
-use Rattle.swreq_complete.specs.declared.limit.Which.{Which}
+use Rattle.swreq_reply.specs.swreq_complete.declared.limit.Which.{Which}
 use Rattle.swreq_text.specs.Lines.{lines}
 use Rattle.swreq_print.specs.declared.refusal.RefusalKind.{RefusalKind}
 use Rattle.swreq_print.specs.declared.refusal.RefusalKind.TheVariants as refusals
-use Rattle.swreq_valid.specs.declared.refused.Refused.{Refused}
-use Rattle.swreq_valid.specs.declared.refused.Refused.TheVariants.{Limit, NotATypeParameter, Memory}
+use Rattle.swreq_reply.specs.swreq_valid.declared.refused.Refused.{Refused}
+use Rattle.swreq_reply.specs.swreq_valid.declared.refused.Refused.TheVariants.{Limit, NotATypeParameter, Memory}
 use Rattle.swreq_words.specs.declared.command.CommandLine.{CommandLine}
 use Rattle.swreq_world.specs.WorldOf.{IsWorldOf}
 use Rattle.swreq_world.specs.Worlds.{SignatureOver, TextWorld}
-use Rattle.swreq_lowering.specs.Requirements.{PlacedRequirement}
-use Rattle.swreq_query.specs.Ended.{IsWorldOfText}
+use Rattle.swreq_world.specs.swreq_lowering.Requirements.{PlacedRequirement}
+use Rattle.swreq_reply.specs.swreq_query.Ended.{IsWorldOfText}
 use Rattle.swreq_reply.specs.declared.outcome.Outcome.{Outcome}
 use Rattle.swreq_reply.specs.Commands.{content_of}
 use Rattle.swreq_reply.specs.Inputs.{AreParts, Parts, second_at}
-use Rattle.swreq_check.specs.Machines.{IsChecked, ProtocolsCome, SignaturesCome}
-use Rattle.swreq_check.specs.Machines.IsChecked.{protocols_built, protocols_refused}
-use Rattle.swreq_check.specs.Machines.SignaturesCome.{next, stopped}
+use Rattle.swreq_reply.specs.swreq_check.Machines.{IsChecked, ProtocolsCome, SignaturesCome}
+use Rattle.swreq_reply.specs.swreq_check.Machines.IsChecked.{protocols_built, protocols_refused}
+use Rattle.swreq_reply.specs.swreq_check.Machines.SignaturesCome.{next, stopped}
 use Rattle.swreq_reply.specs.Verdict.{ChecksMachines, HasNoWorld, HasWorld, IsCutShort, IsRefused, RefusesNames, limits_of}
 use Rattle.swreq_reply.specs.Verdict.IsRefused.{bad_calls, in_one_part, misfit, past_a_limit_of_families, too_long, unchecked, without_world}
 use Rattle.swreq_reply.proofs.Misfits.{no_sections}

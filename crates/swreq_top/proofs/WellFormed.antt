@@ -1,25 +1,25 @@
 -- No text that is well formed is refused for a side.
 use Rattle.std.proofs.Common.{sym, subst, inl, inr, ℕ, List, [], ◌∷◌, Contains, Some, map}
 use Rattle.std.proofs.lemmas.List.Elements.{Contains-append_cases, Contains-append_right}
-use Rattle.swreq_lemmas.proofs.Members.{contains_map, each_member, first_member, later_member, no_member}
-use Rattle.swreq_param.specs.declared.ids.ProtoId.{ProtoId}
-use Rattle.swreq_derive.specs.Derivation.{Source, TermFacts, TermRequirement}
-use Rattle.swreq_derive.specs.Derivation.Source.{SelfOf}
-use Rattle.swreq_derive.specs.Derivation.TermRequirement.{Equals}
-use Rattle.swreq_derive.specs.WellFormed.{HasValidSides, IsWellFormed}
-use Rattle.swreq_rule.specs.declared.rules.Rule.{Rule}
+use Rattle.swreq_world.proofs.swreq_lemmas.Members.{contains_map, each_member, first_member, later_member, no_member}
+use Rattle.swreq_world.specs.swreq_param.declared.ids.ProtoId.{ProtoId}
+use Rattle.swreq_world.specs.swreq_derive.Derivation.{Source, TermFacts, TermRequirement}
+use Rattle.swreq_world.specs.swreq_derive.Derivation.Source.{SelfOf}
+use Rattle.swreq_world.specs.swreq_derive.Derivation.TermRequirement.{Equals}
+use Rattle.swreq_world.specs.swreq_derive.WellFormed.{HasValidSides, IsWellFormed}
+use Rattle.swreq_print.specs.swreq_rule.declared.rules.Rule.{Rule}
 use Rattle.swreq_watch.specs.declared.events.Event.{Event}
-use Rattle.swreq_complete.specs.declared.limit.Limits.{Limits}
-use Rattle.swreq_lowering.specs.Requirements.{PlacedRequirement}
+use Rattle.swreq_reply.specs.swreq_complete.declared.limit.Limits.{Limits}
+use Rattle.swreq_world.specs.swreq_lowering.Requirements.{PlacedRequirement}
 use Rattle.swreq_world.specs.FactsAt.{source_of}
 use Rattle.swreq_world.specs.Worlds.{SignatureOver, TextWorld, requirements_of}
-use Rattle.swreq_symbols.specs.Meaning.{facts_of}
-use Rattle.swreq_machine.specs.OfSignatures.{signature_sides}
-use Rattle.swreq_valid.specs.Sides.{FailsFirst, HoldsOfEach, IsValidSide, Side, protocol_sides, sides, sides_at, sides_in, sides_of}
-use Rattle.swreq_valid.specs.declared.refused.Refused.TheVariants.{NotATypeParameter}
-use Rattle.swreq_check.specs.Machines.{IsChecked, SignaturesCome}
-use Rattle.swreq_check.specs.Machines.IsChecked.{protocols_built, protocols_refused}
-use Rattle.swreq_check.specs.Machines.SignaturesCome.{next, stopped}
+use Rattle.swreq_reply.specs.swreq_symbols.Meaning.{facts_of}
+use Rattle.swreq_reply.specs.swreq_machine.OfSignatures.{signature_sides}
+use Rattle.swreq_reply.specs.swreq_valid.Sides.{FailsFirst, HoldsOfEach, IsValidSide, Side, protocol_sides, sides, sides_at, sides_in, sides_of}
+use Rattle.swreq_reply.specs.swreq_valid.declared.refused.Refused.TheVariants.{NotATypeParameter}
+use Rattle.swreq_reply.specs.swreq_check.Machines.{IsChecked, SignaturesCome}
+use Rattle.swreq_reply.specs.swreq_check.Machines.IsChecked.{protocols_built, protocols_refused}
+use Rattle.swreq_reply.specs.swreq_check.Machines.SignaturesCome.{next, stopped}
 
 module _ (f : TermFacts) (s : Source) where
   sides_hold : (r : TermRequirement) (left right : ℕ) → HasValidSides f s r → HoldsOfEach (IsValidSide f) (sides_at s r left right)

@@ -2,40 +2,40 @@
 use Rattle.std.specs.Prelude.{◌≡◌, ◌↔◌, ℕ, false, List, [], ◌∷◌, ◌++◌, Option, Some, IfSome, codes, slice_get}
 use Rattle.std.specs.List.{concat}
 use Rattle.std.specs.Io.KnownBytes.{Appends}
-use Rattle.swreq_param.specs.Terms.{Term}
-use Rattle.swreq_derive.specs.Derivation.{BookDerivable, TermRequirement, TermStatement}
-use Rattle.swreq_derive.specs.Derivation.TermRequirement.{Conforms}
-use Rattle.swreq_derive.specs.Derivation.TermStatement.{IsValid, Requires}
-use Rattle.swreq_derive.specs.Equivalence.{AreEquivalent}
-use Rattle.swreq_derive.specs.Facts.{generic_params}
-use Rattle.swreq_canonical.specs.Minimised.{IsIndependent}
+use Rattle.swreq_world.specs.swreq_param.declared.ids.ProtoId.{ProtoId}
+use Rattle.swreq_world.specs.swreq_param.Terms.{Term}
+use Rattle.swreq_world.specs.swreq_derive.Derivation.{BookDerivable, TermRequirement, TermStatement}
+use Rattle.swreq_world.specs.swreq_derive.Derivation.TermRequirement.{Conforms}
+use Rattle.swreq_world.specs.swreq_derive.Derivation.TermStatement.{IsValid, Requires}
+use Rattle.swreq_world.specs.swreq_derive.Equivalence.{AreEquivalent}
+use Rattle.swreq_world.specs.swreq_derive.Facts.{generic_params}
+use Rattle.swreq_reply.specs.swreq_canonical.Minimised.{IsIndependent}
 use Rattle.swreq_words.specs.declared.command.CommandLine.{CommandLine}
 use Rattle.swreq_words.specs.Form.{Says}
-use Rattle.swreq_lowering.specs.declared.ids.FuncId.{FuncId}
-use Rattle.swreq_lowering.specs.Queries.{TermQuery}
-use Rattle.swreq_lowering.specs.Queries.TermQuery.{AsksConforms, AsksReduced, AsksSignature}
-use Rattle.swreq_lowering.specs.Requirements.{PlacedRequirement}
+use Rattle.swreq_world.specs.swreq_lowering.Queries.{TermQuery}
+use Rattle.swreq_world.specs.swreq_lowering.Queries.TermAsks.{AsksReduced, AsksRequirement, AsksSignature}
+use Rattle.swreq_world.specs.swreq_lowering.Requirements.{PlacedRequirement}
 use Rattle.swreq_world.specs.Worlds.{SignatureOver, TextWorld, signature_at}
-use Rattle.swreq_symbols.specs.Meaning.{facts_of}
+use Rattle.swreq_reply.specs.swreq_symbols.Meaning.{facts_of}
 use Rattle.swreq_print.specs.Names.{Text}
 use Rattle.swreq_print.specs.Signatures.{signature_text}
 use Rattle.swreq_print.specs.Types.{type_text}
-use Rattle.swreq_query.specs.Answers.{IsLeastEqual, asked}
-use Rattle.swreq_query.specs.Signatures.{full_name}
+use Rattle.swreq_reply.specs.swreq_query.Answers.{IsLeastEqual}
+use Rattle.swreq_reply.specs.swreq_query.Signatures.{full_name}
 use Rattle.swreq_world.specs.FactsAt.{source_of, written_list}
-use Rattle.swreq_check.specs.Lines.{AreLines, Counted}
-use Rattle.swreq_query.specs.Ended.{IsWorldOfText}
-use Rattle.swreq_check.specs.declared.content.Backing.{Backing}
-use Rattle.swreq_check.specs.declared.content.Content.{Content}
-use Rattle.swreq_check.specs.declared.content.Content.TheVariants.{Answers, Calls, Families, Signatures}
-use Rattle.swreq_check.specs.declared.content.Backing.TheVariants.{Derivation, Path}
-use Rattle.swreq_check.specs.declared.content.Shown.TheVariants.{Counts, Each}
+use Rattle.swreq_reply.specs.swreq_check.Lines.{AreLines, Counted}
+use Rattle.swreq_reply.specs.swreq_query.Ended.{IsWorldOfText}
+use Rattle.swreq_reply.specs.swreq_check.declared.content.Backing.{Backing}
+use Rattle.swreq_reply.specs.swreq_check.declared.content.Content.{Content}
+use Rattle.swreq_reply.specs.swreq_check.declared.content.Content.TheVariants.{Answers, Calls, Families, Signatures}
+use Rattle.swreq_reply.specs.swreq_check.declared.content.Backing.TheVariants.{Derivation, Path}
+use Rattle.swreq_reply.specs.swreq_check.declared.content.Shown.TheVariants.{Counts, Each}
 use Rattle.swreq_reply.specs.Commands.{content_of}
 use Rattle.swreq_reply.specs.Inputs.{AreParts, Parts}
 use Rattle.swreq_reply.specs.Outputs.{AreCallLines, ArePrinted, counts_text}
-use Rattle.swreq_check.specs.QueryLines.{BacksYes, IsDerivationText, IsPathLine, signature_of}
-use Rattle.swreq_reqsig.specs.Families.{AreRequirementSignatures, members}
-use Rattle.swreq_reqsig.specs.Texts.{family_text}
+use Rattle.swreq_reply.specs.swreq_check.QueryLines.{BacksYes, IsDerivationText, IsPathLine}
+use Rattle.swreq_reply.specs.swreq_reqsig.Families.{AreRequirementSignatures, members}
+use Rattle.swreq_reply.specs.swreq_reqsig.Texts.{family_text}
 use Rattle.swreq_top.specs.Run.{Run, known_text}
 
 module _ (w : TextWorld) where
@@ -43,20 +43,20 @@ module _ (w : TextWorld) where
 
   -- The book's rules derive the statement from the written signature that the query asks.
   abbrev pub IsImplied : TermQuery → TermStatement → Type 0
-  IsImplied q = BookDerivable (facts_of w) (source_of (signature_at w (signature_of q)))
+  IsImplied q = BookDerivable (facts_of w) (source_of (signature_at w q.f))
 
   -- The piece is the line `yes`, and after it what backs it: where derivations are printed one that the checker accepts and that ends
-  -- in what is asked, and where paths are printed the one that is given for a conformance.
-  abbrev pub IsYes : Backing → TermQuery → Text → Type 0
-  IsYes b q piece = (behind : Text) × BacksYes w b q behind × (piece ≡ codes "yes\n" ++ behind)
+  -- in the requirement, and where paths are printed the one that is given for a conformance.
+  abbrev pub IsYes : Backing → TermQuery → TermRequirement → Text → Type 0
+  IsYes b q r piece = (behind : Text) × BacksYes w b q.f r behind × (piece ≡ codes "yes\n" ++ behind)
 
   -- The piece of a query for a requirement is that of a `yes` if and only if the requirement is implied.
   abbrev pub IsYesWhereImplied : Backing → TermQuery → Text → Type 0
-  IsYesWhereImplied b q piece = IfSome (asked q) (λ r. IsYes b q piece ↔ IsImplied q (Requires r))
+  IsYesWhereImplied b q piece = (r : TermRequirement) → q.asks ≡ AsksRequirement r → IsYes b q r piece ↔ IsImplied q (Requires r)
 
   -- The query asks a requirement, and it is implied.
   abbrev pub AsksImplied : TermQuery → Type 0
-  AsksImplied q = (r : TermRequirement) × (asked q ≡ Some r) × IsImplied q (Requires r)
+  AsksImplied q = (r : TermRequirement) × (q.asks ≡ AsksRequirement r) × IsImplied q (Requires r)
 
   -- The first line counts as yes the queries whose requirement is implied.
   abbrev pub CountsImplied : ℕ → List Text → Type 0
@@ -65,9 +65,8 @@ module _ (w : TextWorld) where
 
   -- The line of a query for a type parameter of the signature is the least one that is derivably equal to it.
   abbrev pub IsLeastWhereValid : TermQuery → Text → Type 0
-  IsLeastWhereValid (AsksReduced f t) line = IsImplied (AsksReduced f t) (IsValid t)
-      → (r : Term) × IsLeastEqual (IsImplied (AsksReduced f t)) t r × (line ≡ type_text w.lexicon r ++ codes "\n")
-  IsLeastWhereValid _ line = Unit {0}
+  IsLeastWhereValid q line = (t : Term) → q.asks ≡ AsksReduced t → IsImplied q (IsValid t)
+      → (r : Term) × IsLeastEqual (IsImplied q) t r × (line ≡ type_text w.lexicon r ++ codes "\n")
 
   -- ---- printed signatures
 
@@ -87,10 +86,11 @@ module _ (w : TextWorld) where
   -- comes after the line of counts.
   abbrev pub PrintsOf : Content → List Text → ℕ → SignatureOver PlacedRequirement → Text → Type 0
   PrintsOf (Answers (Each b)) lines k g line =
-      (f : FuncId) × (slice_get w.queries k ≡ Some (AsksSignature f)) × (g ≡ signature_at w f) × (slice_get lines k ≡ Some line)
-  PrintsOf (Answers (Counts n)) lines k g line =
-      (f : FuncId) × (qs : List TermQuery) × (w.queries ≡ qs ++ AsksSignature f ∷ []) × (g ≡ signature_at w f) × (k ≡ 1)
+      (q : TermQuery) × (slice_get w.queries k ≡ Some q) × (q.asks ≡ AsksSignature) × (g ≡ signature_at w q.f)
       × (slice_get lines k ≡ Some line)
+  PrintsOf (Answers (Counts n)) lines k g line =
+      (q : TermQuery) × (qs : List TermQuery) × (w.queries ≡ qs ++ q ∷ []) × (q.asks ≡ AsksSignature) × (g ≡ signature_at w q.f)
+      × (k ≡ 1) × (slice_get lines k ≡ Some line)
   PrintsOf Signatures lines k g line =
       (slice_get w.signatures k ≡ Some g) × (slice_get lines k ≡ Some (full_name w g ++ (codes ": " ++ line)))
   PrintsOf _ lines k g line = ⊥
@@ -100,15 +100,14 @@ module _ (w : TextWorld) where
   -- Where the requirement that a query asks is implied, its piece is the line `yes` and a derivation of the requirement, in lines that the
   -- checker of derivations accepts.
   abbrev pub IsDerivedWhereImplied : TermQuery → Text → Type 0
-  IsDerivedWhereImplied q piece = IfSome (asked q)
-      (λ r. IsImplied q (Requires r) → (lines : Text) × IsDerivationText w q lines × (piece ≡ codes "yes\n" ++ lines))
+  IsDerivedWhereImplied q piece = (r : TermRequirement) → q.asks ≡ AsksRequirement r → IsImplied q (Requires r)
+      → (lines : Text) × IsDerivationText w q.f r lines × (piece ≡ codes "yes\n" ++ lines)
 
   -- Where the conformance that a query asks is implied, its piece is the line `yes` and the line of a conformance path: none is
   -- shorter, and of those as long as it none has numbers that come before its own.
   abbrev pub HasPathWhereImplied : TermQuery → Text → Type 0
-  HasPathWhereImplied (AsksConforms f t p) piece = IsImplied (AsksConforms f t p) (Requires (Conforms t p))
-      → (line : Text) × IsPathLine w f t p line × (piece ≡ codes "yes\n" ++ line)
-  HasPathWhereImplied _ piece = Unit {0}
+  HasPathWhereImplied q piece = (t : Term) (p : ProtoId) → q.asks ≡ AsksRequirement (Conforms t p) → IsImplied q (Requires (Conforms t p))
+      → (line : Text) × IsPathLine w q.f t p line × (piece ≡ codes "yes\n" ++ line)
 
   -- ---- the sentences
 

@@ -1,28 +1,28 @@
 -- Texts that are answered, said without their refusals.
 use Rattle.std.specs.Prelude.{◌≡◌, List, Contains, Ok, Err, length, map}
-use Rattle.swreq_rule.specs.declared.rules.Rule.{Rule}
+use Rattle.swreq_print.specs.swreq_rule.declared.rules.Rule.{Rule}
 use Rattle.swreq_watch.specs.declared.events.Event.{Event}
-use Rattle.swreq_complete.specs.declared.limit.Failed.TheVariants.{Limit}
-use Rattle.swreq_complete.specs.declared.limit.Which.{Which}
-use Rattle.swreq_derive.specs.WellFormed.{IsWellFormed}
-use Rattle.swreq_rounds.specs.Rounds.{IsOutcome}
-use Rattle.swreq_lowering.specs.Requirements.{PlacedRequirement}
+use Rattle.swreq_reply.specs.swreq_complete.declared.limit.Failed.TheVariants.{Limit}
+use Rattle.swreq_reply.specs.swreq_complete.declared.limit.Which.{Which}
+use Rattle.swreq_world.specs.swreq_derive.WellFormed.{IsWellFormed}
+use Rattle.swreq_reply.specs.swreq_rounds.Rounds.{IsOutcome}
+use Rattle.swreq_world.specs.swreq_lowering.Requirements.{PlacedRequirement}
 use Rattle.swreq_world.specs.FactsAt.{source_of}
 use Rattle.swreq_world.specs.Worlds.{SignatureOver, TextWorld}
-use Rattle.swreq_symbols.specs.Meaning.{facts_of}
-use Rattle.swreq_valid.specs.Protocols.{protocols_of}
-use Rattle.swreq_machine.specs.OfSignatures.{signature_plan}
+use Rattle.swreq_reply.specs.swreq_symbols.Meaning.{facts_of}
+use Rattle.swreq_reply.specs.swreq_valid.Protocols.{protocols_of}
+use Rattle.swreq_reply.specs.swreq_machine.OfSignatures.{signature_plan}
 use Rattle.swreq_text.specs.Lines.{lines}
-use Rattle.swreq_query.specs.Minimising.{MinimisingFails}
-use Rattle.swreq_reqsig.specs.Told.{IsFamilyOutcome}
-use Rattle.swreq_verify.specs.SecondParts.{AreSections, TermSection}
+use Rattle.swreq_reply.specs.swreq_query.Minimising.{MinimisingFails}
+use Rattle.swreq_reply.specs.swreq_reqsig.Told.{IsFamilyOutcome}
+use Rattle.swreq_reply.specs.swreq_verify.SecondParts.{AreSections, TermSection}
 use Rattle.swreq_words.specs.declared.command.CommandLine.{CommandLine}
-use Rattle.swreq_check.specs.declared.content.Content.{Content}
+use Rattle.swreq_reply.specs.swreq_check.declared.content.Content.{Content}
 use Rattle.swreq_reply.specs.Outputs.{HasCalls}
-use Rattle.swreq_check.specs.Contents.{AreCalls, AreFamilies, AreJudgements}
+use Rattle.swreq_reply.specs.swreq_check.Contents.{AreCalls, AreFamilies, AreJudgements}
 use Rattle.swreq_reply.specs.Commands.{content_of}
 use Rattle.swreq_reply.specs.Inputs.{Parts}
-use Rattle.swreq_check.specs.Told.{IsMinimisedFor}
+use Rattle.swreq_reply.specs.swreq_check.Told.{IsMinimisedFor}
 use Rattle.swreq_reply.specs.Verdict.{ChecksMachines, limits_of}
 
 module _ (line : CommandLine) (w : TextWorld) where

@@ -3,7 +3,7 @@ use Rattle.std.specs.Prelude.{◌≡◌, ◌⊎◌, ℕ, ◌<◌, ◌≤◌, Lis
 use Rattle.std.specs.Io.KnownBytes.{Appends, IsAtEnd}
 use Rattle.swreq_text.specs.Faults.{HasRisen}
 use Rattle.swreq_text.specs.Given.{AppendsPart, GivesCount}
-use Rattle.swreq_gen.specs.Generated.{generated}
+use Rattle.swreq_reply.specs.swreq_gen.Generated.{generated}
 use Rattle.swreq_print.specs.Names.{Text}
 use Rattle.swreq_print.specs.Refusals.{refusal_line}
 use Rattle.swreq_print.specs.declared.refusal.RefusalKind.TheVariants as refusals

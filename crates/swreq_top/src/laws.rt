@@ -1,28 +1,20 @@
 //! What holds of runs and of verdicts on texts, over the definitions alone.
 ghost use Rattle.std.specs.Prelude.{◌≡◌, ◌≢◌, ℕ, List, Some, [], map};
-ghost use Rattle.swreq_complete.specs.declared.limit.Limits.{Limits};
-ghost use Rattle.swreq_decl.specs.declared.skeleton.Skeleton.{Skeleton};
-ghost use Rattle.swreq_decl.specs.Skeletons.{StandsFor};
-ghost use Rattle.swreq_derive.specs.WellFormed.{IsWellFormed};
-ghost use Rattle.swreq_resolve.specs.Resolving.{Resolve};
-ghost use Rattle.swreq_rule.specs.declared.rules.Rule.{Rule};
+ghost use Rattle.swreq_reply.specs.swreq_complete.declared.limit.Limits.{Limits};
+ghost use Rattle.swreq_print.specs.swreq_decl.{declared.skeleton.Skeleton.{Skeleton}, Skeletons.{StandsFor}};
+ghost use Rattle.swreq_world.specs.swreq_derive.WellFormed.{IsWellFormed};
+ghost use Rattle.swreq_world.specs.swreq_resolve.Resolving.{Resolve};
+ghost use Rattle.swreq_print.specs.swreq_rule.declared.rules.Rule.{Rule};
 ghost use Rattle.swreq_watch.specs.declared.events.Event.{Event};
-ghost use Rattle.swreq_words.specs.declared.command.CommandLine.{CommandLine};
-ghost use Rattle.swreq_words.specs.declared.command.Input.TheVariants.{OnePart};
-ghost use Rattle.swreq_words.specs.Commands.{input as reads};
-ghost use Rattle.swreq_words.specs.Form.{Says};
-ghost use Rattle.swreq_world.specs.FactsAt.{source_of};
-ghost use Rattle.swreq_world.specs.WorldOf.{IsWorldOf};
-ghost use Rattle.swreq_world.specs.Worlds.{TextWorld};
-ghost use Rattle.swreq_symbols.specs.Meaning.{facts_of};
-ghost use Rattle.swreq_valid.specs.declared.refused.Refused.TheVariants.{NotATypeParameter};
+ghost use Rattle.swreq_words.specs.{declared.command.CommandLine.{CommandLine}, declared.command.Input.TheVariants.{OnePart}, Commands.{input as reads}, Form.{Says}};
+ghost use Rattle.swreq_world.specs.{FactsAt.{source_of}, WorldOf.{IsWorldOf}, Worlds.{TextWorld}};
+ghost use Rattle.swreq_reply.specs.swreq_symbols.Meaning.{facts_of};
+ghost use Rattle.swreq_reply.specs.swreq_valid.declared.refused.Refused.TheVariants.{NotATypeParameter};
 ghost use Rattle.swreq_print.specs.Names.{Text};
-ghost use Rattle.swreq_query.specs.Ended.{IsWorldOfText};
+ghost use Rattle.swreq_reply.specs.swreq_query.Ended.{IsWorldOfText};
 ghost use Rattle.swreq_reply.specs.Inputs.{AreParts, Parts};
-ghost use Rattle.swreq_check.specs.Machines.{IsBuiltOver, IsChecked};
-ghost use Rattle.swreq_top.specs.Contract.{IsRun};
-ghost use Rattle.swreq_top.specs.InOrder.{IsInOrder};
-ghost use Rattle.swreq_top.specs.Run.{IsAnswerable, Run, known_text};
+ghost use Rattle.swreq_reply.specs.swreq_check.Machines.{IsBuiltOver, IsChecked};
+ghost use Rattle.swreq_top.specs.{Contract.{IsRun}, InOrder.{IsInOrder}, Run.{IsAnswerable, Run, known_text}};
 
 use swreq_text::laws::some_streams_never_fail;
 use swreq_text::{CountSink, Sink, Source, SureSource};
@@ -72,6 +64,6 @@ pub fn runs_in_memory_never_fail()
 pub fn one_world(text: &[u8])
     ensures { (w v : TextWorld) → IsWorldOfText text.now w → IsWorldOfText text.now v → w ≡ v }
 {
-    swreq_decl::laws::one_skeleton(text);
+    swreq_print::decl::one_skeleton(text);
     swreq_world::laws::world_is_one(text);
 }

@@ -1,14 +1,9 @@
 // From the words and the source to the sink and the status.
 ghost use Rattle.std.specs.Prelude.{◌≡◌, ◌≤◌, ◌⊎◌, ℕ, Err, map, string_bytes};
-ghost use Rattle.swreq_complete.specs.Limits.{AreInRange};
-ghost use Rattle.swreq_text.specs.Faults.{HasRisen};
-ghost use Rattle.swreq_text.specs.Given.{GivesCount};
-ghost use Rattle.swreq_text.specs.declared.whole.ReadErr.TheVariants.{Fault};
-ghost use Rattle.swreq_reply.specs.Verdict.{answered_text, limits_of};
-ghost use Rattle.swreq_reply.specs.Requests.{HasCount};
-ghost use Rattle.swreq_top.specs.Contract.{IsRun};
-ghost use Rattle.swreq_top.specs.Run.{AreWrong, IsEnd, ReadsNothing, ReadNothing};
-ghost use Rattle.swreq_top.specs.Steps.{Answers, AnswersText, IsFinished};
+ghost use Rattle.swreq_reply.specs.swreq_complete.Limits.{AreInRange};
+ghost use Rattle.swreq_text.specs.{Faults.{HasRisen}, Given.{GivesCount}, declared.whole.ReadErr.TheVariants.{Fault}};
+ghost use Rattle.swreq_reply.specs.{Verdict.{answered_text, limits_of}, Requests.{HasCount}};
+ghost use Rattle.swreq_top.specs.{Contract.{IsRun}, Run.{AreWrong, IsEnd, ReadsNothing, ReadNothing}, Steps.{Answers, AnswersText, IsFinished}};
 
 use std::alloc::Global;
 use swreq_print::{OUT_OF_MEMORY, READ_FAULT, TOO_LARGE, USAGE};
@@ -19,7 +14,7 @@ use swreq_words::laws::numbers_are_in_range;
 use swreq_words::{CommandLine, Input, UsageErr};
 
 /// The most bytes that a text may have.
-const TEXT_LIMIT: u32 = swreq_lex::TEXT_LIMIT as u32;
+const TEXT_LIMIT: u32 = swreq_world::lex::TEXT_LIMIT as u32;
 
 /// Does what the words say: answers the source's text, or that of `gen`, and gives the status. The watcher is told the events of the
 /// rounds.

@@ -1,8 +1,8 @@
 -- The places of a new side with the sides of two lists.
 use Rattle.std.proofs.Common.{◌≡◌, ◌⊎◌, inl, inr, ℕ, ◌+◌, List, [], ◌++◌, length, slice_get, Some, ◌∙◌}
-use Rattle.swreq_word.specs.declared.symbols.Symbol.{Symbol}
+use Rattle.swreq_rule.specs.swreq_word.declared.symbols.Symbol.{Symbol}
 use Rattle.swreq_rule.specs.declared.rules.Place.{Place}
-use Rattle.swreq_lemmas.proofs.Elements.{get_left, get_after, get_either}
+use Rattle.swreq_rule.proofs.swreq_lemmas.Elements.{get_left, get_after, get_either}
 use Rattle.swreq_trie.specs.declared.trie.Entry.{Entry}
 use Rattle.swreq_trie.specs.Places.{IsOnto, IsFrom, IsPlace}
 use Rattle.swreq_trie.specs.Keys.{Gains, place_of}

@@ -3,12 +3,12 @@ use Rattle.std.proofs.Common.{◌≡◌, ◌⊎◌, inl, inr, ℕ, zero, suc, �
 use Rattle.std.specs.List.{slice_get}
 use Rattle.std.proofs.lemmas.Bool.{cases_eq}
 use Rattle.std.proofs.lemmas.Option.{slice_get_within, slice_get-get_or, get_or_from_slice_get}
-use Rattle.swreq_word.specs.declared.symbols.Symbol.{Symbol}
+use Rattle.swreq_rule.specs.swreq_word.declared.symbols.Symbol.{Symbol}
 use Rattle.swreq_trie.specs.declared.trie.Entry.{Entry}
 use Rattle.swreq_trie.specs.Marks.{Holds}
 use Rattle.swreq_trie.specs.Places.{IsOnto, IsFrom, IsOwn, IsPlace}
 use Rattle.swreq_trie.specs.Keys.{Gains, IsOwnKey, place_of, key_of}
-use Rattle.swreq_lemmas.proofs.Elements.{get_cases}
+use Rattle.swreq_rule.proofs.swreq_lemmas.Elements.{get_cases}
 use Rattle.swreq_trie.proofs.Marks.{holds_last, holds_more}
 
 -- nothing was to be added

@@ -8,7 +8,7 @@ use Rattle.std.proofs.lemmas.Bool.{cases_eq, ltb-true, lt-ltb}
 use Rattle.std.proofs.lemmas.Option.{slice_get_within}
 use Rattle.swreq_trie.specs.declared.spots.Spot.{Spot}
 use Rattle.swreq_trie.specs.Marks.{Holds, Retains, Forgets, ForgetsBelow}
-use Rattle.swreq_lemmas.proofs.Elements.{there_is, set_here, set_cases}
+use Rattle.swreq_rule.proofs.swreq_lemmas.Elements.{there_is, set_here, set_cases}
 
 module _ {X : Type 0} (p : X → Bool) where
   holds_next : (y x : X) (xs : List X) → Holds xs x → Holds (y ∷ xs) x

@@ -10,16 +10,16 @@ use Rattle.std.proofs.lemmas.Bool.{cases_eq}
 use Rattle.std.proofs.lemmas.Cmp.{on_total, then_total, nat_cmp_total, tied_itself}
 use Rattle.std.proofs.lemmas.List.Sorted.{Contains-permutation, IsPermutation-sym}
 use Rattle.std.proofs.lemmas.Option.{slice_get_within, slice_get-get_or, get_or_from_slice_get}
-use Rattle.swreq_word.specs.declared.symbols.Symbol.{Symbol}
-use Rattle.swreq_lemmas.proofs.Orderings.{then_equal}
-use Rattle.swreq_word.specs.OrderLaws.{then_less, nat_equal}
+use Rattle.swreq_rule.specs.swreq_word.declared.symbols.Symbol.{Symbol}
+use Rattle.swreq_rule.proofs.swreq_lemmas.Orderings.{then_equal}
+use Rattle.swreq_rule.specs.swreq_word.OrderLaws.{then_less, nat_equal}
 use Rattle.swreq_rule.specs.declared.rules.Place.{Place}
 use Rattle.swreq_rule.specs.Places.{place_cmp}
 use Rattle.swreq_trie.specs.declared.trie.Entry.{Entry}
 use Rattle.swreq_trie.specs.Marks.{Holds}
 use Rattle.swreq_trie.specs.Places.{IsPlace, ArePlaces}
 use Rattle.swreq_trie.specs.Keys.{Gains, AreTheirPlaces, ArePlacesBelow, place_of, key_of, key_cmp}
-use Rattle.swreq_lemmas.proofs.Elements.{get_cases}
+use Rattle.swreq_rule.proofs.swreq_lemmas.Elements.{get_cases}
 use Rattle.swreq_trie.proofs.Marks.{holds_last, holds_more}
 
 key_total : IsTotalOrder key_cmp

@@ -4,8 +4,8 @@ use Rattle.std.specs.List.{slice_get}
 use Rattle.std.specs.declared.alloc.Global.{Global}
 use Rattle.std.proofs.lemmas.Bool.{cases_lt, cases_eq}
 use Rattle.std.proofs.lemmas.Option.{slice_get_within, get_or_from_slice_get}
-use Rattle.swreq_word.specs.declared.symbols.Symbol.{Symbol}
-use Rattle.swreq_word.proofs.Cuts.{same_cut}
+use Rattle.swreq_rule.specs.swreq_word.declared.symbols.Symbol.{Symbol}
+use Rattle.swreq_rule.proofs.swreq_word.Cuts.{same_cut}
 use Rattle.swreq_trie.specs.declared.edges.Edge.{Edge}
 use Rattle.swreq_trie.specs.declared.lengths.Lengths.{Lengths}
 use Rattle.swreq_trie.specs.declared.spots.Spot.{Spot}
@@ -15,7 +15,7 @@ use Rattle.swreq_trie.specs.Marks.{EndsAt, NoneEndsAt, SameEnds, Marked, IsListe
 use Rattle.swreq_trie.specs.Walk.{NoEnd, FirstEnd}
 use Rattle.swreq_trie.specs.Stored.{NoneBegins, Shortest}
 use Rattle.swreq_trie.specs.Index.{IsIndex, FirstThere, HasSpot, IsPassing, IsPassingUpTo, IsOnWay, IsInside, IsInsideBelow, IsWithin, PassesRight, StandsRight, begin_of, spot_of}
-use Rattle.swreq_lemmas.proofs.Elements.{get_left, get_last, get_cases}
+use Rattle.swreq_rule.proofs.swreq_lemmas.Elements.{get_left, get_last, get_cases}
 use Rattle.swreq_trie.proofs.Paths.{grown_itself, child_kept, leads_kept, one_end, one_word}
 use Rattle.swreq_trie.proofs.Marks.{copies_keep, copies_keep_back, only_like}
 use Rattle.swreq_trie.proofs.Ways.{front_is}

@@ -7,10 +7,10 @@ use Rattle.std.proofs.Math.ListN.{set}
 use Rattle.std.proofs.lemmas.Bool.{cases_eq}
 use Rattle.std.proofs.lemmas.Bool.Decides.{Decides-and, Decides-eqb, Decides-like}
 use Rattle.std.proofs.lemmas.Option.{slice_get_within}
-use Rattle.swreq_lemmas.proofs.Elements.{get_left, get_last, get_cases, get_map, get_of_map, set_here, set_kept, set_cases}
-use Rattle.swreq_word.specs.contracts.symbols.SymbolPartialEq.TheImpl as symbol-impl
-use Rattle.swreq_word.specs.declared.symbols.Symbol.{Symbol}
-use Rattle.swreq_word.proofs.Comparing.{symbol_decides}
+use Rattle.swreq_rule.proofs.swreq_lemmas.Elements.{get_left, get_last, get_cases, get_map, get_of_map, set_here, set_kept, set_cases}
+use Rattle.swreq_rule.specs.swreq_word.contracts.symbols.SymbolPartialEq.TheImpl as symbol-impl
+use Rattle.swreq_rule.specs.swreq_word.declared.symbols.Symbol.{Symbol}
+use Rattle.swreq_rule.proofs.swreq_word.Comparing.{symbol_decides}
 use Rattle.swreq_trie.specs.declared.edges.Edge.{Edge}
 use Rattle.swreq_trie.specs.declared.chains.Link.{Link}
 use Rattle.swreq_trie.specs.contracts.edges.EdgePartialEq.TheImpl as edge-impl

@@ -8,7 +8,7 @@ use Rattle.std.proofs.lemmas.List.{take_more}
 use Rattle.swreq_trie.specs.declared.spots.Spot.{Spot}
 use Rattle.swreq_trie.specs.Marks.{SameEnds, Marked, Holds, IsListed, KeepsListed, ListsOnly, AreCopies}
 use Rattle.std.proofs.lemmas.Option.{slice_get_within}
-use Rattle.swreq_lemmas.proofs.Elements.{get_left, get_last, get_cases, there_is, set_here, set_kept, set_cases}
+use Rattle.swreq_rule.proofs.swreq_lemmas.Elements.{get_left, get_last, get_cases, there_is, set_here, set_kept, set_cases}
 
 pub room_made : (old ends new : List (Option ℕ)) → SameEnds old ends → new ≡ ends ++ None ∷ [] → SameEnds old new
 room_made old ends new s e node place = (

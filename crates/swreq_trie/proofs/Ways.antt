@@ -3,8 +3,8 @@ use Rattle.std.proofs.Common.{◌≡◌, ◌⊎◌, inl, inr, ℕ, ◌+◌, ◌<
 use Rattle.std.proofs.Math.Seq.{take-length}
 use Rattle.std.proofs.lemmas.Bool.{cases_lt}
 use Rattle.std.proofs.lemmas.List.{take_more, take-append-le, take-take, take_all, get_or-take}
-use Rattle.swreq_word.specs.declared.symbols.Symbol.{Symbol}
-use Rattle.swreq_word.proofs.Cuts.{same_cut}
+use Rattle.swreq_rule.specs.swreq_word.declared.symbols.Symbol.{Symbol}
+use Rattle.swreq_rule.proofs.swreq_word.Cuts.{same_cut}
 use Rattle.swreq_trie.specs.declared.edges.Edge.{Edge}
 use Rattle.swreq_trie.specs.Paths.{IsChild, NoChild, IsForked, Leads}
 use Rattle.swreq_trie.specs.Marks.{EndsAt, Holds}

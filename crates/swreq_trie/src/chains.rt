@@ -1,14 +1,12 @@
 //! The chains in which edges are found. Each edge names the one before it in its chain, and a head names the last one.
 
-ghost use Rattle.std.specs.Prelude.{◌≡◌, ℕ, ◌<◌, MatchOption, IfOk};
-ghost use Rattle.std.specs.Bool.{Decides};
-ghost use Rattle.swreq_trie.specs.Paths.{IsChild, IsGrown, NoChild};
-ghost use Rattle.swreq_trie.specs.Chains.{AreChained, AreLinked, IsLeft, chain_of, edges_of, number_of};
+ghost use Rattle.std.specs.{Prelude.{◌≡◌, ℕ, ◌<◌, MatchOption, IfOk}, Bool.{Decides}};
+ghost use Rattle.swreq_trie.specs.{Paths.{IsChild, IsGrown, NoChild}, Chains.{AreChained, AreLinked, IsLeft, chain_of, edges_of, number_of}};
 
 use crate::edges::Edge;
 use crate::ends::{end_at, make_room};
 use std::alloc::AllocError;
-use swreq_word::Symbol;
+use swreq_rule::word::Symbol;
 
 // In how many chains the edges of one node stand, at most.
 const SPREAD: usize = 4096;

@@ -6,7 +6,7 @@ ghost use Rattle.swreq_trie.specs.Paths.{IsChild, IsForked, IsGrown, NoChild};
 use crate::chains::{Link, find_child, make_child};
 use std::alloc::{AllocError, Global};
 use std::marker::Model;
-use swreq_word::Symbol;
+use swreq_rule::word::Symbol;
 
 /// The node that the edge leaves, and its symbol.
 #[derive(Clone, Copy, Debug, PartialEq, Eq)]
@@ -25,8 +25,7 @@ pub(crate) struct Edges {
 
 impl Model for Edges {
     ghost use Rattle.std.specs.Prelude.{List};
-    ghost use Rattle.swreq_trie.specs.declared.edges.Edge.{Edge};
-    ghost use Rattle.swreq_trie.specs.Chains.{AreChained, edges_of};
+    ghost use Rattle.swreq_trie.specs.{declared.edges.Edge.{Edge}, Chains.{AreChained, edges_of}};
 
     ghost Value = { List Edge };
 

@@ -1,20 +1,14 @@
 //! The places at which a new side and a stored one overlap, or one stands in the other.
 
-ghost use Rattle.std.specs.Prelude.{◌≡◌, ℕ, ◌+◌, ◌<◌, ◌≤◌, ◌++◌, ◌∷◌, [], length, OnOk};
-ghost use Rattle.std.specs.Bool.{Decides};
-ghost use Rattle.swreq_trie.specs.declared.spots.Spot.{Spot};
-ghost use Rattle.swreq_trie.specs.declared.walk.Met.{Met};
-ghost use Rattle.swreq_trie.specs.Marks.{Holds, IsListed};
-ghost use Rattle.swreq_trie.specs.Stored.{NoneEmpty};
-ghost use Rattle.swreq_trie.specs.Places.{IsFrom, IsOnto, IsPlace, Meets};
-ghost use Rattle.swreq_trie.specs.Keys.{Gains, IsBeginKey, IsEnded, IsFromKey, IsInsideKey, IsOwnKey, MeetsAt, place_of};
+ghost use Rattle.std.specs.{Prelude.{◌≡◌, ℕ, ◌+◌, ◌<◌, ◌≤◌, ◌++◌, ◌∷◌, [], length, OnOk}, Bool.{Decides}};
+ghost use Rattle.swreq_trie.specs.{declared.spots.Spot.{Spot}, declared.walk.Met.{Met}, Marks.{Holds, IsListed}, Stored.{NoneEmpty}, Places.{IsFrom, IsOnto, IsPlace, Meets}, Keys.{Gains, IsBeginKey, IsEnded, IsFromKey, IsInsideKey, IsOwnKey, MeetsAt, place_of}};
 
 use crate::spots::{Spot, spots_of};
 use crate::walk::{Met, end_of, find_met};
 use crate::{Entry, Trie};
 use std::alloc::AllocError;
+use swreq_rule::word::Symbol;
 use swreq_rule::{contains, overlaps};
-use swreq_word::Symbol;
 
 // The numbers of two rules and a place.
 pub(crate) type Key = (u32, u32, usize);

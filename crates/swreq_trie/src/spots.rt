@@ -1,8 +1,7 @@
 //! Which stored sides are listed at each node.
 
 ghost use Rattle.std.specs.Prelude.{◌≡◌, ℕ, ◌⊎◌, ◌<◌, filter, length, nat_lt, IfOk, OnOk};
-ghost use Rattle.swreq_trie.specs.declared.spots.Spot.{Spot};
-ghost use Rattle.swreq_trie.specs.Marks.{AreCopies, Forgets, Holds, IsListed, KeepsListed, ListsOnly};
+ghost use Rattle.swreq_trie.specs.{declared.spots.Spot.{Spot}, Marks.{AreCopies, Forgets, Holds, IsListed, KeepsListed, ListsOnly}};
 
 use std::alloc::{AllocError, Global};
 

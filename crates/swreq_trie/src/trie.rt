@@ -1,8 +1,7 @@
 //! Stored left sides of rules by their symbols.
 
 ghost use Rattle.std.specs.Prelude.{◌≡◌, ◌<◌, ◌≤◌, [], ◌∷◌, ◌++◌, length, drop, MatchResult, IfOk, OnOk, OnErr};
-ghost use Rattle.swreq_trie.specs.Places.{ArePlaces};
-ghost use Rattle.swreq_trie.specs.Stored.{NoneLonger, Shortest, TellNone};
+ghost use Rattle.swreq_trie.specs.{Places.{ArePlaces}, Stored.{NoneLonger, Shortest, TellNone}};
 
 use crate::edges::Edges;
 use crate::ends::mark;
@@ -15,7 +14,7 @@ use crate::walk::{Met, Side, find, make_way};
 use std::alloc::{AllocError, Global};
 use std::marker::Model;
 use swreq_rule::Place;
-use swreq_word::{Symbol, Word};
+use swreq_rule::word::{Symbol, Word};
 
 /// A left side with the number of its rule.
 #[derive(Debug, Drop)]
@@ -43,8 +42,7 @@ pub struct Trie {
 
 impl Model for Trie {
     ghost use Rattle.std.specs.Prelude.{List};
-    ghost use Rattle.swreq_trie.specs.declared.trie.Entry.{Entry};
-    ghost use Rattle.swreq_trie.specs.Index.{IsIndex};
+    ghost use Rattle.swreq_trie.specs.{declared.trie.Entry.{Entry}, Index.{IsIndex}};
 
     ghost Value = { List Entry };
 

@@ -1,18 +1,13 @@
 //! The ways of words through a trie.
 
 ghost use Rattle.std.specs.Prelude.{◌≡◌, ◌⊎◌, ℕ, ◌+◌, ◌<◌, ◌≤◌, [], ◌∷◌, ◌++◌, MatchOption, MatchResult, IfOk, IfErr, OnOk, length};
-ghost use Rattle.swreq_trie.specs.declared.spots.Spot.{Spot};
-ghost use Rattle.swreq_trie.specs.declared.walk.Met.{Met};
-ghost use Rattle.swreq_trie.specs.Paths.{IsChild, IsForked, IsGrown, Leads};
-ghost use Rattle.swreq_trie.specs.Marks.{EndsAt, Holds, IsListed, KeepsListed, ListsOnly, SameEnds};
-ghost use Rattle.swreq_trie.specs.Index.{HasSpot, IsInside, IsOnWay, IsPassing, IsWithin, begin_of, spot_of};
-ghost use Rattle.swreq_trie.specs.Walk.{AreMet, FirstEnd, TellsNoEnd};
+ghost use Rattle.swreq_trie.specs.{declared.spots.Spot.{Spot}, declared.walk.Met.{Met}, Paths.{IsChild, IsForked, IsGrown, Leads}, Marks.{EndsAt, Holds, IsListed, KeepsListed, ListsOnly, SameEnds}, Index.{HasSpot, IsInside, IsOnWay, IsPassing, IsWithin, begin_of, spot_of}, Walk.{AreMet, FirstEnd, TellsNoEnd}};
 
 use crate::edges::Edges;
 use crate::ends::{end_at, make_room};
 use crate::spots::{Spot, add_spot};
 use std::alloc::{AllocError, Global};
-use swreq_word::Symbol;
+use swreq_rule::word::Symbol;
 
 /// A node on the way of a word, and how many symbols lead to it.
 #[derive(Clone, Copy, Debug)]

@@ -1,8 +1,8 @@
 -- From the rounds and the sides to what building comes to.
 use Rattle.std.proofs.Common.{◌≡◌, ◌⊎◌, inl, inr, refl, sym, ap, ap₂, subst, List, length, Contains, Option, Result, Ok, Err}
-use Rattle.swreq_derive.specs.Derivation.{TermFacts}
-use Rattle.swreq_rule.specs.declared.rules.Rule.{Rule}
-use Rattle.swreq_watch.specs.declared.events.Event.{Event}
+use Rattle.swreq_rounds.specs.swreq_derive.Derivation.{TermFacts}
+use Rattle.swreq_complete.specs.swreq_rule.declared.rules.Rule.{Rule}
+use Rattle.swreq_complete.specs.swreq_watch.declared.events.Event.{Event}
 use Rattle.swreq_complete.specs.declared.limit.Failed.{Failed}
 use Rattle.swreq_complete.specs.declared.limit.Failed.TheVariants as failed
 use Rattle.swreq_complete.specs.declared.limit.Limits.{Limits}

@@ -1,21 +1,21 @@
 -- What reduction shows of type parameters, from what the code decides.
 use Rattle.std.proofs.Common.{◌≡◌, ◌↔◌, ◌∙◌, inl, inr, refl, sym, ap, subst, ℕ, ◌<◌, ◌≤◌, ◌+◌, arith, Bool, IsTrue, List, length, slice_get, Some, Result, Ok, Err, IfOk}
 use Rattle.std.specs.declared.alloc.AllocError.{AllocError}
-use Rattle.swreq_lemmas.proofs.Elements.{get_contains}
-use Rattle.swreq_param.specs.declared.ids.AssocId.{AssocId}
-use Rattle.swreq_param.specs.declared.ids.NameId.{NameId}
-use Rattle.swreq_param.specs.declared.ids.ProtoId.{ProtoId}
-use Rattle.swreq_param.specs.declared.ids.Step.{Step}
-use Rattle.swreq_param.specs.declared.ids.Step.TheVariants.{Bound, Name}
-use Rattle.swreq_param.specs.Terms.{Term}
-use Rattle.swreq_param.specs.Terms.Term.{Member}
-use Rattle.swreq_word.specs.declared.symbols.Symbol.{Symbol}
-use Rattle.swreq_rule.specs.declared.rules.Rule.{Rule}
-use Rattle.swreq_rule.specs.Reduction.{Reduces}
-use Rattle.swreq_rule.proofs.Remaining.{one_result}
+use Rattle.swreq_complete.proofs.swreq_lemmas.Elements.{get_contains}
+use Rattle.swreq_rounds.specs.swreq_param.declared.ids.AssocId.{AssocId}
+use Rattle.swreq_rounds.specs.swreq_param.declared.ids.NameId.{NameId}
+use Rattle.swreq_rounds.specs.swreq_param.declared.ids.ProtoId.{ProtoId}
+use Rattle.swreq_rounds.specs.swreq_param.declared.ids.Step.{Step}
+use Rattle.swreq_rounds.specs.swreq_param.declared.ids.Step.TheVariants.{Bound, Name}
+use Rattle.swreq_rounds.specs.swreq_param.Terms.{Term}
+use Rattle.swreq_rounds.specs.swreq_param.Terms.Term.{Member}
+use Rattle.swreq_complete.specs.swreq_word.declared.symbols.Symbol.{Symbol}
+use Rattle.swreq_complete.specs.swreq_rule.declared.rules.Rule.{Rule}
+use Rattle.swreq_complete.specs.swreq_rule.Reduction.{Reduces}
+use Rattle.swreq_complete.proofs.swreq_rule.Remaining.{one_result}
 use Rattle.swreq_complete.specs.Alike.{ReduceAlike}
-use Rattle.swreq_lexicon.specs.declared.pair.ProtocolName.{ProtocolName}
-use Rattle.swreq_lexicon.specs.Views.{IsProtocol, LexiconView}
+use Rattle.swreq_world.specs.swreq_lexicon.declared.pair.ProtocolName.{ProtocolName}
+use Rattle.swreq_world.specs.swreq_lexicon.Views.{IsProtocol, LexiconView}
 use Rattle.swreq_symbols.specs.declared.over.Over.{Over}
 use Rattle.swreq_symbols.proofs.Giving.{assoc_answer, given_answer}
 use Rattle.swreq_world.specs.Closed.{AreIds}

@@ -1,18 +1,18 @@
 -- What the rules of a last round show valid is what is derivable.
 use Rattle.std.proofs.Common.{List, sym, subst}
-use Rattle.swreq_param.specs.declared.ids.ParamId.{ParamId}
-use Rattle.swreq_param.specs.declared.ids.ProtoId.{ProtoId}
-use Rattle.swreq_param.specs.Terms.{Term}
-use Rattle.swreq_derive.specs.Derivation.{Derivable, Source, TermFacts, TermRequirement}
-use Rattle.swreq_derive.specs.Derivation.Source.{SelfOf, Written}
-use Rattle.swreq_derive.specs.Derivation.TermStatement.{IsValid}
-use Rattle.swreq_rule.specs.declared.rules.Rule.{Rule}
-use Rattle.swreq_correspondence.specs.Equations.{Equation, Linking, UsableEquation, UsableIn, UsableOf}
-use Rattle.swreq_correspondence.specs.Equations.Equation.{member, of_protocol, of_source, twice}
-use Rattle.swreq_correspondence.specs.Shown.{ShowsValid}
-use Rattle.swreq_correspondence.specs.Symbols.{AreOfText, AreSymbolsOf, IsInText, IsOfText, Symbols, Word, left_side, right_side}
-use Rattle.swreq_correspondence.proofs.Chained.{self_in_range}
-use Rattle.swreq_correspondence.proofs.Shown.{shown_by_more, shown_valid, valid_shown}
+use Rattle.swreq_rounds.specs.swreq_param.declared.ids.ParamId.{ParamId}
+use Rattle.swreq_rounds.specs.swreq_param.declared.ids.ProtoId.{ProtoId}
+use Rattle.swreq_rounds.specs.swreq_param.Terms.{Term}
+use Rattle.swreq_rounds.specs.swreq_derive.Derivation.{Derivable, Source, TermFacts, TermRequirement}
+use Rattle.swreq_rounds.specs.swreq_derive.Derivation.Source.{SelfOf, Written}
+use Rattle.swreq_rounds.specs.swreq_derive.Derivation.TermStatement.{IsValid}
+use Rattle.swreq_complete.specs.swreq_rule.declared.rules.Rule.{Rule}
+use Rattle.swreq_rounds.specs.swreq_correspondence.Equations.{Equation, Linking, UsableEquation, UsableIn, UsableOf}
+use Rattle.swreq_rounds.specs.swreq_correspondence.Equations.Equation.{member, of_protocol, of_source, twice}
+use Rattle.swreq_rounds.specs.swreq_correspondence.Shown.{ShowsValid}
+use Rattle.swreq_rounds.specs.swreq_correspondence.Symbols.{AreOfText, AreSymbolsOf, IsInText, IsOfText, Symbols, Word, left_side, right_side}
+use Rattle.swreq_rounds.proofs.swreq_correspondence.Chained.{self_in_range}
+use Rattle.swreq_rounds.proofs.swreq_correspondence.Shown.{shown_by_more, shown_valid, valid_shown}
 use Rattle.swreq_rounds.specs.Presents.{AreListRules, AreProtocolRules, Presents, ProtocolEquation}
 use Rattle.swreq_rounds.proofs.Presented.{presents_to}
 use Rattle.swreq_symbols.specs.Vanishing.{Links}

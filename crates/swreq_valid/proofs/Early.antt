@@ -4,13 +4,13 @@ use Rattle.std.proofs.lemmas.Bool.{and_parts}
 use Rattle.std.proofs.lemmas.List.{append-nil}
 use Rattle.std.specs.List.{list_all, slice_get}
 use Rattle.std.proofs.lemmas.Option.{slice_get_within}
-use Rattle.swreq_word.specs.declared.symbols.Symbol.{Symbol}
-use Rattle.swreq_lemmas.proofs.Elements.{in_whole, get_left, get_front}
-use Rattle.swreq_word.specs.OrderLaws.{nat_less}
-use Rattle.swreq_rule.specs.declared.rules.Birth.{Birth}
-use Rattle.swreq_rule.specs.declared.rules.Birth.TheVariants.{Given, Pair}
-use Rattle.swreq_rule.specs.declared.rules.Rule.{Rule}
-use Rattle.swreq_watch.specs.declared.events.Event.{Event}
+use Rattle.swreq_complete.specs.swreq_word.declared.symbols.Symbol.{Symbol}
+use Rattle.swreq_complete.proofs.swreq_lemmas.Elements.{in_whole, get_left, get_front}
+use Rattle.swreq_complete.specs.swreq_word.OrderLaws.{nat_less}
+use Rattle.swreq_complete.specs.swreq_rule.declared.rules.Birth.{Birth}
+use Rattle.swreq_complete.specs.swreq_rule.declared.rules.Birth.TheVariants.{Given, Pair}
+use Rattle.swreq_complete.specs.swreq_rule.declared.rules.Rule.{Rule}
+use Rattle.swreq_complete.specs.swreq_watch.declared.events.Event.{Event}
 use Rattle.swreq_complete.specs.declared.limit.Failed.{Failed}
 use Rattle.swreq_complete.specs.declared.limit.Failed.TheVariants.{Limit, Memory}
 use Rattle.swreq_complete.specs.declared.limit.Limits.{Limits}

@@ -3,16 +3,16 @@ use Rattle.std.proofs.Common.{◌≡◌, ◌∙◌, refl, sym, ap, subst, ℕ, �
 use Rattle.std.proofs.lemmas.List.{append-nil, drop_more, drop_all}
 use Rattle.std.proofs.lemmas.List.Elements.{Contains-append_cases, Contains-append_left, Contains-append_right}
 use Rattle.std.proofs.lemmas.Option.{get_or_from_slice_get, slice_get_within}
-use Rattle.swreq_lemmas.proofs.Members.{first_member, later_member, member_cases, no_member, only_member}
-use Rattle.swreq_param.specs.declared.ids.TermId.{TermId}
-use Rattle.swreq_param.specs.Tables.{term_at}
-use Rattle.swreq_param.specs.Terms.{Term}
-use Rattle.swreq_derive.specs.declared.requirements.Requirement.{Requirement}
-use Rattle.swreq_derive.specs.declared.requirements.Requirement.TheVariants.{Same}
-use Rattle.swreq_derive.specs.Derivation.{Source}
-use Rattle.swreq_derive.specs.Facts.{requirement_of}
-use Rattle.swreq_lowering.specs.declared.ids.Written.{Written}
-use Rattle.swreq_lowering.specs.ByTable.{placed_by}
+use Rattle.swreq_complete.proofs.swreq_lemmas.Members.{first_member, later_member, member_cases, no_member, only_member}
+use Rattle.swreq_rounds.specs.swreq_param.declared.ids.TermId.{TermId}
+use Rattle.swreq_rounds.specs.swreq_param.Tables.{term_at}
+use Rattle.swreq_rounds.specs.swreq_param.Terms.{Term}
+use Rattle.swreq_rounds.specs.swreq_derive.declared.requirements.Requirement.{Requirement}
+use Rattle.swreq_rounds.specs.swreq_derive.declared.requirements.Requirement.TheVariants.{Same}
+use Rattle.swreq_rounds.specs.swreq_derive.Derivation.{Source}
+use Rattle.swreq_rounds.specs.swreq_derive.Facts.{requirement_of}
+use Rattle.swreq_world.specs.swreq_lowering.declared.ids.Written.{Written}
+use Rattle.swreq_world.specs.swreq_lowering.ByTable.{placed_by}
 use Rattle.swreq_valid.specs.Sides.{FailsFirst, HoldsOfEach, Side, sides_at, sides_of}
 
 same_head : (x y : Side) (xs ys : List Side) → x ∷ xs ≡ y ∷ ys → x ≡ y

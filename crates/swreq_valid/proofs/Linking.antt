@@ -1,9 +1,9 @@
 -- Words are linked by their least words.
 use Rattle.std.proofs.Common.{◌≡◌, sym, subst, Bool, List}
 use Rattle.std.specs.Bool.{Decides}
-use Rattle.swreq_word.proofs.Chains.{linked_back, linked_on}
-use Rattle.swreq_rule.specs.declared.rules.Rule.{Rule}
-use Rattle.swreq_correspondence.specs.Symbols.{Word}
+use Rattle.swreq_complete.proofs.swreq_word.Chains.{linked_back, linked_on}
+use Rattle.swreq_complete.specs.swreq_rule.declared.rules.Rule.{Rule}
+use Rattle.swreq_rounds.specs.swreq_correspondence.Symbols.{Word}
 use Rattle.swreq_symbols.specs.Vanishing.{IsLeastBy, Links}
 use Rattle.swreq_symbols.proofs.Walking.{one_least}
 

@@ -1,15 +1,15 @@
 -- What building the rules of the protocols answers of a text.
 use Rattle.std.proofs.Common.{◌≡◌, refl, sym, subst, Bool, List, length, Contains, Option, Result, Ok, Err, IfOk}
-use Rattle.swreq_param.specs.Terms.{Term}
-use Rattle.swreq_derive.specs.declared.requirements.Requirement.{Requirement}
-use Rattle.swreq_rule.specs.declared.rules.Rule.{Rule}
-use Rattle.swreq_watch.specs.declared.events.Event.{Event}
+use Rattle.swreq_rounds.specs.swreq_param.Terms.{Term}
+use Rattle.swreq_rounds.specs.swreq_derive.declared.requirements.Requirement.{Requirement}
+use Rattle.swreq_complete.specs.swreq_rule.declared.rules.Rule.{Rule}
+use Rattle.swreq_complete.specs.swreq_watch.declared.events.Event.{Event}
 use Rattle.swreq_complete.specs.declared.limit.Failed.{Failed}
 use Rattle.swreq_complete.specs.declared.limit.Limits.{Limits}
 use Rattle.swreq_rounds.specs.Presents.{AreProtocolRules}
-use Rattle.swreq_lemmas.proofs.Members.{contains_of_map}
-use Rattle.swreq_lexicon.specs.Views.{LexiconView}
-use Rattle.swreq_lowering.specs.declared.ids.Written.{Written}
+use Rattle.swreq_complete.proofs.swreq_lemmas.Members.{contains_of_map}
+use Rattle.swreq_world.specs.swreq_lexicon.Views.{LexiconView}
+use Rattle.swreq_world.specs.swreq_lowering.declared.ids.Written.{Written}
 use Rattle.swreq_world.specs.Closed.{IsClosed}
 use Rattle.swreq_world.specs.Worlds.{TextWorld}
 use Rattle.swreq_symbols.proofs.Symbols.{symbols_law, text_law}

@@ -4,13 +4,13 @@ use Rattle.std.specs.Bool.{if◌then◌else◌, nat_eq}
 use Rattle.std.proofs.lemmas.Bool.{cases_eq, cases_lt}
 use Rattle.std.proofs.lemmas.List.{length-map, drop_all}
 use Rattle.std.proofs.lemmas.Option.{slice_get_cases, slice_get_within}
-use Rattle.swreq_lemmas.proofs.Elements.{get_contains}
-use Rattle.swreq_param.specs.declared.ids.NameId.{NameId}
-use Rattle.swreq_param.specs.declared.ids.ProtoId.{ProtoId}
-use Rattle.swreq_lexicon.specs.declared.pair.ProtocolName.{ProtocolName}
-use Rattle.swreq_lexicon.specs.Lexicons.{pair}
-use Rattle.swreq_lexicon.specs.Views.{LexiconView}
-use Rattle.swreq_correspondence.specs.Symbols.{MemberName, Word}
+use Rattle.swreq_complete.proofs.swreq_lemmas.Elements.{get_contains}
+use Rattle.swreq_rounds.specs.swreq_param.declared.ids.NameId.{NameId}
+use Rattle.swreq_rounds.specs.swreq_param.declared.ids.ProtoId.{ProtoId}
+use Rattle.swreq_world.specs.swreq_lexicon.declared.pair.ProtocolName.{ProtocolName}
+use Rattle.swreq_world.specs.swreq_lexicon.Lexicons.{pair}
+use Rattle.swreq_world.specs.swreq_lexicon.Views.{LexiconView}
+use Rattle.swreq_rounds.specs.swreq_correspondence.Symbols.{MemberName, Word}
 use Rattle.swreq_rounds.specs.Given.{named, named_from}
 use Rattle.swreq_symbols.specs.Meaning.{member_name}
 use Rattle.swreq_world.specs.Closed.{AreIds}

@@ -6,22 +6,22 @@ use Rattle.std.proofs.lemmas.List.{append-nil, map-append, drop_all, take_all}
 use Rattle.std.proofs.lemmas.List.Elements.{Contains-append_cases}
 use Rattle.std.proofs.lemmas.Option.{get_or_from_slice_get, slice_get-get_or, slice_get_within}
 use Rattle.std.proofs.lemmas.Simd.{map-map}
-use Rattle.swreq_lemmas.proofs.Elements.{take_one}
-use Rattle.swreq_param.specs.declared.ids.ProtoId.{ProtoId}
-use Rattle.swreq_param.specs.Terms.{Term}
-use Rattle.swreq_derive.specs.declared.requirements.Requirement.{Requirement}
-use Rattle.swreq_derive.specs.Derivation.{TermFacts, TermRequirement}
-use Rattle.swreq_derive.specs.Derivation.Source.{SelfOf}
-use Rattle.swreq_derive.specs.Derivation.TermRequirement.{Conforms, IsAnyObject, Equals}
-use Rattle.swreq_derive.specs.Facts.{requirement_of}
-use Rattle.swreq_derive.specs.WellFormed.{HasValidSides}
-use Rattle.swreq_lemmas.proofs.Members.{no_member, contains_of_map}
-use Rattle.swreq_rule.specs.declared.rules.Rule.{Rule}
-use Rattle.swreq_watch.specs.declared.events.Event.{Event}
+use Rattle.swreq_complete.proofs.swreq_lemmas.Elements.{take_one}
+use Rattle.swreq_rounds.specs.swreq_param.declared.ids.ProtoId.{ProtoId}
+use Rattle.swreq_rounds.specs.swreq_param.Terms.{Term}
+use Rattle.swreq_rounds.specs.swreq_derive.declared.requirements.Requirement.{Requirement}
+use Rattle.swreq_rounds.specs.swreq_derive.Derivation.{TermFacts, TermRequirement}
+use Rattle.swreq_rounds.specs.swreq_derive.Derivation.Source.{SelfOf}
+use Rattle.swreq_rounds.specs.swreq_derive.Derivation.TermRequirement.{Conforms, IsAnyObject, Equals}
+use Rattle.swreq_rounds.specs.swreq_derive.Facts.{requirement_of}
+use Rattle.swreq_rounds.specs.swreq_derive.WellFormed.{HasValidSides}
+use Rattle.swreq_complete.proofs.swreq_lemmas.Members.{no_member, contains_of_map}
+use Rattle.swreq_complete.specs.swreq_rule.declared.rules.Rule.{Rule}
+use Rattle.swreq_complete.specs.swreq_watch.declared.events.Event.{Event}
 use Rattle.swreq_complete.specs.declared.limit.Failed.{Failed}
 use Rattle.swreq_complete.specs.declared.limit.Limits.{Limits}
-use Rattle.swreq_correspondence.specs.Shown.{ShowsUsable}
-use Rattle.swreq_correspondence.specs.Symbols.{AreOfText, AreSymbolsOf, IsOfText, Symbols}
+use Rattle.swreq_rounds.specs.swreq_correspondence.Shown.{ShowsUsable}
+use Rattle.swreq_rounds.specs.swreq_correspondence.Symbols.{AreOfText, AreSymbolsOf, IsOfText, Symbols}
 use Rattle.swreq_rounds.specs.Given.{basic_equations, items_of as items_from, of_self}
 use Rattle.swreq_rounds.specs.Plan.{Plan}
 use Rattle.swreq_rounds.specs.Presents.{AreProtocolRules}
@@ -33,7 +33,7 @@ use Rattle.swreq_symbols.proofs.Symbols.{symbols_law, text_law}
 use Rattle.swreq_world.specs.ByTable.{world_by}
 use Rattle.swreq_world.specs.Closed.{IsClosed}
 use Rattle.swreq_world.specs.Worlds.{IdWorld, TextWorld, requirements_of}
-use Rattle.swreq_lowering.specs.declared.ids.Written.{Written}
+use Rattle.swreq_world.specs.swreq_lowering.declared.ids.Written.{Written}
 use Rattle.swreq_valid.specs.declared.wanted.RoundStart.{RoundStart}
 use Rattle.swreq_valid.specs.declared.wanted.RoundRequirement.{RoundRequirement}
 use Rattle.swreq_valid.specs.Answers.{Answers, IsOnlyOutcome}
@@ -44,7 +44,7 @@ use Rattle.swreq_valid.specs.Rounds.{AreRounds, RoundView, last_rules, rules_of}
 use Rattle.swreq_valid.proofs.Deriving.{self_derivable, self_shown}
 use Rattle.swreq_valid.proofs.Flagged.{chosen_from, chosen_in, chosen_map, map_one_if, tells_map, tells_one_more}
 use Rattle.swreq_symbols.proofs.OfText.{own_requirements, protocol_written}
-use Rattle.swreq_valid.proofs.OfProtocols.{drop_at}
+use Rattle.swreq_complete.proofs.swreq_lemmas.Elements.{drop_from}
 use Rattle.swreq_valid.proofs.Once.{flags_at, once}
 use Rattle.swreq_valid.proofs.Transfer.{answers_over, ok_rounds_over, only_over, usable_over, with_facts}
 
@@ -263,7 +263,7 @@ one_list w ps ks k p flags v u all e h f i =
     let rest = kept_in w (drop (k + 1) ps) (drop (k + 1) ks) in
     ap (λ z. z ++ rest) f
     ∙ append_assoc v (map (in_protocol p) (chosen (bare (requirements_of w p)) flags)) rest
-    ∙ ap (λ z. v ++ z) (sym (ap₂ (kept_in w) (drop_at ps k p e) (drop_at ks k flags h)))
+    ∙ ap (λ z. v ++ z) (sym (ap₂ (kept_in w) (drop_from ps k p e) (drop_from ks k flags h)))
     ∙ i
 
 pub all_lists : (w : IdWorld) (ps : List ProtoId) (ks : List (List Bool)) (k : ℕ) (v all : List RoundRequirement) → length ps ≤ k

@@ -2,27 +2,28 @@
 use Rattle.std.proofs.Common.{◌≡◌, refl, sym, ap, ap₂, subst, ◌∙◌, ℕ, suc, ◌≤◌, ◌+◌, arith, Bool, true, false, List, [], ◌∷◌, ◌++◌, length, map, drop, slice_get, append_assoc, Option, Some, inl, inr, Result, Ok, Err, IfOk}
 use Rattle.std.specs.Bool.{if◌then◌else◌, nat_eq}
 use Rattle.std.specs.Option.{option_map}
-use Rattle.std.proofs.lemmas.List.{append-nil, drop_more, map-append, drop_all}
+use Rattle.std.proofs.lemmas.List.{append-nil, map-append, drop_all}
 use Rattle.std.proofs.lemmas.List.Elements.{Contains-append_cases}
 use Rattle.std.proofs.lemmas.Option.{get_or_from_slice_get, slice_get-map, slice_get_within}
 use Rattle.std.proofs.lemmas.Simd.{map-map}
-use Rattle.swreq_param.specs.declared.ids.ProtoId.{ProtoId}
-use Rattle.swreq_param.specs.Terms.{Term}
-use Rattle.swreq_derive.specs.Derivation.{TermFacts, TermRequirement}
-use Rattle.swreq_derive.specs.Derivation.Source.{SelfOf}
-use Rattle.swreq_derive.specs.Facts.{requirement_of}
-use Rattle.swreq_lemmas.proofs.Members.{no_member, contains_of_map}
-use Rattle.swreq_rule.specs.declared.rules.Rule.{Rule}
-use Rattle.swreq_watch.specs.declared.events.Event.{Event}
+use Rattle.swreq_rounds.specs.swreq_param.declared.ids.ProtoId.{ProtoId}
+use Rattle.swreq_rounds.specs.swreq_param.Terms.{Term}
+use Rattle.swreq_rounds.specs.swreq_derive.Derivation.{TermFacts, TermRequirement}
+use Rattle.swreq_rounds.specs.swreq_derive.Derivation.Source.{SelfOf}
+use Rattle.swreq_rounds.specs.swreq_derive.Facts.{requirement_of}
+use Rattle.swreq_complete.proofs.swreq_lemmas.Elements.{drop_from}
+use Rattle.swreq_complete.proofs.swreq_lemmas.Members.{no_member, contains_of_map}
+use Rattle.swreq_complete.specs.swreq_rule.declared.rules.Rule.{Rule}
+use Rattle.swreq_complete.specs.swreq_watch.declared.events.Event.{Event}
 use Rattle.swreq_complete.specs.declared.limit.Failed.{Failed}
 use Rattle.swreq_complete.specs.declared.limit.Limits.{Limits}
-use Rattle.swreq_correspondence.specs.Symbols.{MemberName, Word}
+use Rattle.swreq_rounds.specs.swreq_correspondence.Symbols.{MemberName, Word}
 use Rattle.swreq_rounds.specs.Given.{basic_equations, basic_of, doubled, items_of as items_from, named, named_from, of_self}
 use Rattle.swreq_rounds.proofs.LastRound.{protocols_law}
-use Rattle.swreq_lexicon.specs.declared.pair.ProtocolName.{ProtocolName}
-use Rattle.swreq_lexicon.specs.Views.{IsProtocol, LexiconView}
-use Rattle.swreq_lowering.specs.declared.ids.Written.{Written}
-use Rattle.swreq_lowering.specs.ByTable.{placed}
+use Rattle.swreq_world.specs.swreq_lexicon.declared.pair.ProtocolName.{ProtocolName}
+use Rattle.swreq_world.specs.swreq_lexicon.Views.{IsProtocol, LexiconView}
+use Rattle.swreq_world.specs.swreq_lowering.declared.ids.Written.{Written}
+use Rattle.swreq_world.specs.swreq_lowering.ByTable.{placed}
 use Rattle.swreq_world.specs.ByTable.{world_by}
 use Rattle.swreq_world.specs.Closed.{AreIds, IsClosed}
 use Rattle.swreq_world.specs.Worlds.{IdWorld, TextWorld, requirements_of}
@@ -41,16 +42,13 @@ use Rattle.swreq_valid.proofs.FirstSide.{Found}
 
 -- ---- lists that are made from the items at the places of another
 
-pub drop_at : {A : Type 0} (xs : List A) (k : ℕ) (x : A) → slice_get xs k ≡ Some x → drop k xs ≡ x ∷ drop (k + 1) xs
-drop_at xs k x e = drop_more xs k x (slice_get_within xs k x e) ∙ ap (λ z. z ∷ drop (k + 1) xs) (get_or_from_slice_get xs k x x e)
-
 module _ {A B : Type 0} (of : List A → List B) (part : A → List B) (one : (x : A) (xs : List A) → of (x ∷ xs) ≡ part x ++ of xs) where
   pub part_at : (xs : List A) (k : ℕ) (x : A) (v w all : List B) → slice_get xs k ≡ Some x → w ≡ v ++ part x → v ++ of (drop k xs) ≡ all
       → w ++ of (drop (k + 1) xs) ≡ all
   part_at xs k x v w all e f h =
       ap (λ z. z ++ of (drop (k + 1) xs)) f
       ∙ append_assoc v (part x) (of (drop (k + 1) xs))
-      ∙ ap (λ z. v ++ z) (sym (one x (drop (k + 1) xs)) ∙ ap of (sym (drop_at xs k x e)))
+      ∙ ap (λ z. v ++ z) (sym (one x (drop (k + 1) xs)) ∙ ap of (sym (drop_from xs k x e)))
       ∙ h
 
 -- ---- the basic equations, protocol by protocol
@@ -90,7 +88,7 @@ name_more p symbols k s v w all e f h =
     (subst (λ n. (if nat_eq x.proto.rank p.rank then named p x k ∷ [] else []) ++ named_from p n (drop (k + 1) xs)
     ≡ named_from p k (x ∷ drop (k + 1) xs)) next
     (sym (name_if p k x (drop (k + 1) xs) (nat_eq x.proto.rank p.rank)))
-    ∙ ap (named_from p k) (sym (drop_at xs k x at)))
+    ∙ ap (named_from p k) (sym (drop_from xs k x at)))
     ∙ h
 
 pub names_all : (p : ProtoId) (xs : List MemberName) (k : ℕ) (v all : List (Word × Word)) → length xs ≤ k

@@ -1,6 +1,6 @@
 -- The rounds of a plan are one list.
 use Rattle.std.proofs.Common.{◌≡◌, ◌⊎◌, sym, ap, ap₂, subst, Bool, List, [], ◌∷◌, Contains, Option, Some, None}
-use Rattle.swreq_rule.specs.declared.rules.Rule.{Rule}
+use Rattle.swreq_complete.specs.swreq_rule.declared.rules.Rule.{Rule}
 use Rattle.swreq_complete.specs.declared.limit.Limits.{Limits}
 use Rattle.swreq_rounds.specs.Plan.{AreShown, AreShownByReduction, Plan}
 use Rattle.swreq_rounds.specs.Rounds.{Ends, IsDue, Passed}

@@ -1,22 +1,22 @@
 -- From what the code has of a plan to the plan.
 use Rattle.std.proofs.lemmas.Option.{slice_get_read}
-use Rattle.swreq_lemmas.proofs.Elements.{take_one}
+use Rattle.swreq_complete.proofs.swreq_lemmas.Elements.{take_one}
 use Rattle.std.proofs.Common.{◌≡◌, suc, subst₂, refl, sym, ap, subst, ◌∙◌, ℕ, ◌<◌, ◌≤◌, ◌+◌, arith, Bool, List, [], ◌∷◌, ◌++◌, length, map, take, drop, get_or, append_assoc, vec_len}
 use Rattle.std.specs.Bool.{if◌then◌else◌, Decides}
 use Rattle.std.proofs.lemmas.List.{append-nil, drop_all, map-append, take_all}
 use Rattle.std.proofs.lemmas.Simd.{map-map}
-use Rattle.swreq_param.specs.Terms.{Term}
-use Rattle.swreq_rule.specs.declared.rules.Rule.{Rule}
+use Rattle.swreq_rounds.specs.swreq_param.Terms.{Term}
+use Rattle.swreq_complete.specs.swreq_rule.declared.rules.Rule.{Rule}
 use Rattle.swreq_complete.specs.Alike.{ReduceAlike}
-use Rattle.swreq_derive.specs.Derivation.{TermRequirement, TermFacts}
-use Rattle.swreq_derive.specs.Facts.{generic_params, requirement_of}
-use Rattle.swreq_correspondence.specs.Symbols.{Word, Symbols}
-use Rattle.swreq_correspondence.specs.Shown.{ShowsUsable, ShowsValid}
-use Rattle.swreq_correspondence.proofs.Shown.{shown_by_params, usable_by_params}
+use Rattle.swreq_rounds.specs.swreq_derive.Derivation.{TermRequirement, TermFacts}
+use Rattle.swreq_rounds.specs.swreq_derive.Facts.{generic_params, requirement_of}
+use Rattle.swreq_rounds.specs.swreq_correspondence.Symbols.{Word, Symbols}
+use Rattle.swreq_rounds.specs.swreq_correspondence.Shown.{ShowsUsable, ShowsValid}
+use Rattle.swreq_rounds.proofs.swreq_correspondence.Shown.{shown_by_params, usable_by_params}
 use Rattle.swreq_rounds.specs.Plan.{AreShown, AreShownByReduction, Item, equation_of, given}
 use Rattle.swreq_symbols.specs.declared.over.Over.{Over}
 use Rattle.swreq_symbols.specs.declared.over.Over.TheVariants.{Signature, Protocol}
-use Rattle.swreq_lexicon.specs.Views.{LexiconView}
+use Rattle.swreq_world.specs.swreq_lexicon.Views.{LexiconView}
 use Rattle.swreq_symbols.specs.Known.{IsRequirementIn}
 use Rattle.swreq_symbols.specs.Meaning.{facts_of, symbols_of}
 use Rattle.swreq_symbols.specs.Overs.{source_over}

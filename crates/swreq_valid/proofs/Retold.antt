@@ -5,15 +5,15 @@ use Rattle.std.proofs.Math.Seq.{take-length}
 use Rattle.std.specs.declared.alloc.AllocError.{AllocError}
 use Rattle.std.proofs.lemmas.List.{drop_all, drop-append-le, length-take, map-append, take-take, take_all, take_more}
 use Rattle.std.proofs.lemmas.Option.{get_or_from_slice_get, slice_get_within}
-use Rattle.swreq_lemmas.proofs.Elements.{in_front, in_whole}
-use Rattle.swreq_word.specs.declared.symbols.Symbol.{Symbol}
-use Rattle.swreq_rule.specs.declared.rules.Birth.{Birth}
-use Rattle.swreq_rule.specs.declared.rules.Rule.{Rule}
-use Rattle.swreq_rule.specs.Reduction.{Reduces}
-use Rattle.swreq_watch.specs.declared.events.Event.{Event}
-use Rattle.swreq_watch.specs.declared.events.Event.TheVariants.{Born, Start}
-use Rattle.swreq_watch.specs.Told.{GrewBy}
-use Rattle.swreq_watch.proofs.Told.{grew_none, grew_on}
+use Rattle.swreq_complete.proofs.swreq_lemmas.Elements.{in_front, in_whole}
+use Rattle.swreq_complete.specs.swreq_word.declared.symbols.Symbol.{Symbol}
+use Rattle.swreq_complete.specs.swreq_rule.declared.rules.Birth.{Birth}
+use Rattle.swreq_complete.specs.swreq_rule.declared.rules.Rule.{Rule}
+use Rattle.swreq_complete.specs.swreq_rule.Reduction.{Reduces}
+use Rattle.swreq_complete.specs.swreq_watch.declared.events.Event.{Event}
+use Rattle.swreq_complete.specs.swreq_watch.declared.events.Event.TheVariants.{Born, Start}
+use Rattle.swreq_complete.specs.swreq_watch.Told.{GrewBy}
+use Rattle.swreq_complete.proofs.swreq_watch.Told.{grew_none, grew_on}
 use Rattle.swreq_complete.specs.declared.limit.Limits.{Limits}
 use Rattle.swreq_complete.specs.declared.limit.Failed.TheVariants.{Memory}
 use Rattle.swreq_complete.specs.Events.{events}

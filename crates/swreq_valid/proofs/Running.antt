@@ -1,17 +1,17 @@
 -- From what the code knows of a round to the answer of the rounds.
 use Rattle.std.proofs.Common.{◌≡◌, inl, inr, refl, sym, ap, subst, subst₂, ◌∙◌, ◌<◌, List, [], ◌∷◌, ◌++◌, length, replicate, false, append_assoc, Contains, Option, None, Result, Ok, Err}
 use Rattle.std.proofs.lemmas.List.{append-nil}
-use Rattle.swreq_rule.specs.declared.rules.Rule.{Rule}
-use Rattle.swreq_watch.specs.declared.events.Event.{Event}
-use Rattle.swreq_watch.specs.Told.{GrewBy}
-use Rattle.swreq_watch.proofs.Told.{grew_none, grew_on}
+use Rattle.swreq_complete.specs.swreq_rule.declared.rules.Rule.{Rule}
+use Rattle.swreq_complete.specs.swreq_watch.declared.events.Event.{Event}
+use Rattle.swreq_complete.specs.swreq_watch.Told.{GrewBy}
+use Rattle.swreq_complete.proofs.swreq_watch.Told.{grew_none, grew_on}
 use Rattle.swreq_complete.specs.declared.limit.Limits.{Limits}
 use Rattle.swreq_complete.specs.declared.limit.Failed.{Failed}
 use Rattle.swreq_complete.specs.declared.limit.Failed.TheVariants.{Limit, Memory}
 use Rattle.swreq_complete.specs.declared.limit.Which.{Which}
 use Rattle.swreq_complete.specs.Answers.{IsAnswer}
 use Rattle.swreq_complete.specs.Events.{TellsEvents}
-use Rattle.swreq_correspondence.specs.Symbols.{Word}
+use Rattle.swreq_rounds.specs.swreq_correspondence.Symbols.{Word}
 use Rattle.swreq_rounds.specs.Plan.{Item, Plan, AreShown}
 use Rattle.swreq_rounds.specs.Rounds.{Ends, IsRound}
 use Rattle.swreq_rounds.specs.Rounds.IsRound.{after, begin}

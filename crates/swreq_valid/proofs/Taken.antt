@@ -1,8 +1,8 @@
 -- From the completion of a round to what the round comes to.
 use Rattle.std.proofs.Common.{◌≡◌, ◌∙◌, inl, inr, refl, sym, ap, subst, Bool, true, false, not, true≢false, is_some, List, [], length, Option, Some, None, MatchResult, Result, Ok, Err}
-use Rattle.swreq_rule.specs.declared.rules.Rule.{Rule}
-use Rattle.swreq_watch.specs.declared.events.Event.{Event}
-use Rattle.swreq_watch.specs.Told.{GrewBy}
+use Rattle.swreq_complete.specs.swreq_rule.declared.rules.Rule.{Rule}
+use Rattle.swreq_complete.specs.swreq_watch.declared.events.Event.{Event}
+use Rattle.swreq_complete.specs.swreq_watch.Told.{GrewBy}
 use Rattle.swreq_complete.specs.declared.limit.Failed.{Failed}
 use Rattle.swreq_complete.specs.declared.limit.Failed.TheVariants.{Limit, Memory}
 use Rattle.swreq_complete.specs.declared.limit.Limits.{Limits}

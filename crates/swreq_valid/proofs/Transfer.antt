@@ -1,20 +1,20 @@
 -- Rounds look at the associated types alone of the facts.
 use Rattle.std.proofs.Common.{◌≡◌, inl, inr, sym, subst, Bool, List, Contains, Option, Some, None, Result, Ok, Err, IfOk}
-use Rattle.swreq_param.specs.declared.ids.Step.TheVariants.{Bound, Name}
-use Rattle.swreq_param.specs.Terms.{Term}
-use Rattle.swreq_param.specs.Terms.Term.{Generic, Member}
-use Rattle.swreq_derive.specs.Derivation.{Source, TermFacts, TermRequirement}
-use Rattle.swreq_derive.specs.Derivation.TermRequirement.{Conforms, IsAnyObject, Equals}
-use Rattle.swreq_word.specs.Relations.{Linked}
-use Rattle.swreq_rule.specs.declared.rules.Rule.{Rule}
-use Rattle.swreq_rule.specs.Steps.{Step}
-use Rattle.swreq_watch.specs.declared.events.Event.{Event}
+use Rattle.swreq_rounds.specs.swreq_param.declared.ids.Step.TheVariants.{Bound, Name}
+use Rattle.swreq_rounds.specs.swreq_param.Terms.{Term}
+use Rattle.swreq_rounds.specs.swreq_param.Terms.Term.{Generic, Member}
+use Rattle.swreq_rounds.specs.swreq_derive.Derivation.{Source, TermFacts, TermRequirement}
+use Rattle.swreq_rounds.specs.swreq_derive.Derivation.TermRequirement.{Conforms, IsAnyObject, Equals}
+use Rattle.swreq_complete.specs.swreq_word.Relations.{Linked}
+use Rattle.swreq_complete.specs.swreq_rule.declared.rules.Rule.{Rule}
+use Rattle.swreq_complete.specs.swreq_rule.Steps.{Step}
+use Rattle.swreq_complete.specs.swreq_watch.declared.events.Event.{Event}
 use Rattle.swreq_complete.specs.Alike.{ReduceAlike}
 use Rattle.swreq_complete.specs.declared.limit.Failed.{Failed}
 use Rattle.swreq_complete.specs.declared.limit.Failed.TheVariants.{Limit, Memory}
 use Rattle.swreq_complete.specs.declared.limit.Limits.{Limits}
-use Rattle.swreq_correspondence.specs.Shown.{ShowsUsable, ShowsValid}
-use Rattle.swreq_correspondence.specs.Symbols.{Symbols, Word}
+use Rattle.swreq_rounds.specs.swreq_correspondence.Shown.{ShowsUsable, ShowsValid}
+use Rattle.swreq_rounds.specs.swreq_correspondence.Symbols.{Symbols, Word}
 use Rattle.swreq_rounds.specs.Plan.{AreShown, AreShownByReduction, Item, Plan}
 use Rattle.swreq_rounds.specs.Rounds.{ComesAfterLimit, ComesTo, IsBegunAnew, IsClosed, IsDue, IsLastRound, IsOutcome, IsRound, Joins, LeavesUsable, Next, Passed, Selects, Turns}
 use Rattle.swreq_rounds.specs.Rounds.IsRound.{after, begin}

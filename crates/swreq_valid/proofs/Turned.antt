@@ -1,13 +1,13 @@
 -- From what the code does after a round to what the round comes to.
 use Rattle.std.proofs.Common.{◌≡◌, ◌⊎◌, inl, inr, refl, sym, ap, subst, subst₂, ◌∙◌, ◌<◌, Bool, List, [], ◌∷◌, ◌++◌, length, Contains, Option, Some, None, MatchOption, IfOk, Result, Ok, Err}
-use Rattle.swreq_rule.specs.declared.rules.Rule.{Rule}
+use Rattle.swreq_complete.specs.swreq_rule.declared.rules.Rule.{Rule}
 use Rattle.swreq_complete.specs.declared.limit.Failed.{Failed}
 use Rattle.swreq_complete.specs.declared.limit.Failed.TheVariants.{Limit}
 use Rattle.swreq_complete.specs.declared.limit.Limits.{Limits}
 use Rattle.swreq_complete.specs.Events.{events}
 use Rattle.swreq_complete.specs.Short.{IsBorneBy}
-use Rattle.swreq_correspondence.specs.Symbols.{Word}
-use Rattle.swreq_param.specs.Terms.{Term}
+use Rattle.swreq_rounds.specs.swreq_correspondence.Symbols.{Word}
+use Rattle.swreq_rounds.specs.swreq_param.Terms.{Term}
 use Rattle.std.specs.declared.alloc.AllocError.{AllocError}
 use Rattle.swreq_rounds.specs.Plan.{AreShown, AreShownByReduction, Item, Plan}
 use Rattle.swreq_rounds.specs.Rounds.{Bears, Ends, IsBegunAnew, IsClosed, IsDue, Joins, Passed, Stops, Turns}

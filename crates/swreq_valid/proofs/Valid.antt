@@ -1,15 +1,15 @@
 -- The sides that the rules of the last round of the protocols show valid are the valid ones.
 use Rattle.std.proofs.Common.{◌≡◌, ap, sym, subst, ℕ, List, [], ◌∷◌, Contains, inl, inr}
 use Rattle.std.proofs.lemmas.List.Elements.{Contains-append_cases}
-use Rattle.swreq_param.specs.declared.ids.ProtoId.{ProtoId}
-use Rattle.swreq_derive.specs.Derivation.{Derivable, Source, TermRequirement}
-use Rattle.swreq_derive.specs.Derivation.Source.{SelfOf}
-use Rattle.swreq_derive.specs.Derivation.TermRequirement.{Conforms, IsAnyObject, Equals}
-use Rattle.swreq_derive.specs.Derivation.TermStatement.{IsValid}
-use Rattle.swreq_lemmas.proofs.Members.{later_member, first_member, member_cases, no_member, only_member}
-use Rattle.swreq_correspondence.specs.Shown.{ShowsValid}
-use Rattle.swreq_lowering.specs.Requirements.{PlacedRequirement}
-use Rattle.swreq_rule.specs.declared.rules.Rule.{Rule}
+use Rattle.swreq_rounds.specs.swreq_param.declared.ids.ProtoId.{ProtoId}
+use Rattle.swreq_rounds.specs.swreq_derive.Derivation.{Derivable, Source, TermRequirement}
+use Rattle.swreq_rounds.specs.swreq_derive.Derivation.Source.{SelfOf}
+use Rattle.swreq_rounds.specs.swreq_derive.Derivation.TermRequirement.{Conforms, IsAnyObject, Equals}
+use Rattle.swreq_rounds.specs.swreq_derive.Derivation.TermStatement.{IsValid}
+use Rattle.swreq_complete.proofs.swreq_lemmas.Members.{later_member, first_member, member_cases, no_member, only_member}
+use Rattle.swreq_rounds.specs.swreq_correspondence.Shown.{ShowsValid}
+use Rattle.swreq_world.specs.swreq_lowering.Requirements.{PlacedRequirement}
+use Rattle.swreq_complete.specs.swreq_rule.declared.rules.Rule.{Rule}
 use Rattle.swreq_world.specs.Closed.{IsClosed}
 use Rattle.swreq_world.specs.Worlds.{TextWorld, requirements_of}
 use Rattle.swreq_symbols.specs.Meaning.{facts_of, symbols_of}

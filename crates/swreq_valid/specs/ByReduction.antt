@@ -1,16 +1,16 @@
 -- What reduction by rules shows of a type parameter, where they need not be complete.
 use Rattle.std.specs.Prelude.{List}
-use Rattle.swreq_param.specs.declared.ids.AssocId.{AssocId}
-use Rattle.swreq_param.specs.declared.ids.NameId.{NameId}
-use Rattle.swreq_param.specs.declared.ids.ProtoId.{ProtoId}
-use Rattle.swreq_param.specs.declared.ids.Step.{Step}
-use Rattle.swreq_param.specs.declared.ids.Step.TheVariants.{Bound, Name}
-use Rattle.swreq_param.specs.Terms.{Term}
-use Rattle.swreq_derive.specs.Derivation.{TermRequirement}
-use Rattle.swreq_rule.specs.declared.rules.Rule.{Rule}
+use Rattle.swreq_rounds.specs.swreq_param.declared.ids.AssocId.{AssocId}
+use Rattle.swreq_rounds.specs.swreq_param.declared.ids.NameId.{NameId}
+use Rattle.swreq_rounds.specs.swreq_param.declared.ids.ProtoId.{ProtoId}
+use Rattle.swreq_rounds.specs.swreq_param.declared.ids.Step.{Step}
+use Rattle.swreq_rounds.specs.swreq_param.declared.ids.Step.TheVariants.{Bound, Name}
+use Rattle.swreq_rounds.specs.swreq_param.Terms.{Term}
+use Rattle.swreq_rounds.specs.swreq_derive.Derivation.{TermRequirement}
+use Rattle.swreq_complete.specs.swreq_rule.declared.rules.Rule.{Rule}
 use Rattle.swreq_complete.specs.Alike.{ReduceAlike}
-use Rattle.swreq_correspondence.specs.Shown.{ShowsConformance, ShowsUsable, ShowsValid}
-use Rattle.swreq_lexicon.specs.Views.{LexiconView}
+use Rattle.swreq_rounds.specs.swreq_correspondence.Shown.{ShowsConformance, ShowsUsable, ShowsValid}
+use Rattle.swreq_world.specs.swreq_lexicon.Views.{LexiconView}
 use Rattle.swreq_symbols.specs.declared.over.Over.{Over}
 use Rattle.swreq_symbols.specs.Meaning.{facts_of, symbols_of}
 use Rattle.swreq_symbols.specs.Overs.{source_over}

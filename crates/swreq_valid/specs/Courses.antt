@@ -1,6 +1,6 @@
 -- What is kept of a round that another one came after.
 use Rattle.std.specs.Prelude.{List, Option, Some, None}
-use Rattle.swreq_rule.specs.declared.rules.Rule.{Rule}
+use Rattle.swreq_complete.specs.swreq_rule.declared.rules.Rule.{Rule}
 use Rattle.swreq_valid.specs.declared.course.Course.{Course}
 use Rattle.swreq_valid.specs.declared.course.Course.TheVariants.{Ended, Stopped, Short}
 

@@ -1,13 +1,13 @@
 -- The rules of the protocols by a part of their requirements.
 use Rattle.std.specs.Prelude.{◌≡◌, ◌↔◌, ◌<◌, ℕ, zero, suc, Bool, List, [], ◌∷◌, ◌++◌, IsTrue, Some, false, length, map, slice_get, slice_index_or, Result, Ok, Err}
 use Rattle.std.specs.Bool.{if◌then◌else◌, nat_eq}
-use Rattle.swreq_param.specs.declared.ids.ProtoId.{ProtoId}
-use Rattle.swreq_derive.specs.Derivation.{TermFacts, TermRequirement}
-use Rattle.swreq_derive.specs.Derivation.Source.{SelfOf}
-use Rattle.swreq_derive.specs.WellFormed.{HasValidSides}
-use Rattle.swreq_rule.specs.declared.rules.Rule.{Rule}
+use Rattle.swreq_rounds.specs.swreq_param.declared.ids.ProtoId.{ProtoId}
+use Rattle.swreq_rounds.specs.swreq_derive.Derivation.{TermFacts, TermRequirement}
+use Rattle.swreq_rounds.specs.swreq_derive.Derivation.Source.{SelfOf}
+use Rattle.swreq_rounds.specs.swreq_derive.WellFormed.{HasValidSides}
+use Rattle.swreq_complete.specs.swreq_rule.declared.rules.Rule.{Rule}
 use Rattle.swreq_complete.specs.declared.limit.Failed.{Failed}
-use Rattle.swreq_correspondence.specs.Shown.{ShowsUsable}
+use Rattle.swreq_rounds.specs.swreq_correspondence.Shown.{ShowsUsable}
 use Rattle.swreq_rounds.specs.Given.{protocols_plan}
 use Rattle.swreq_rounds.specs.Plan.{Plan}
 use Rattle.swreq_world.specs.Worlds.{IdWorld, TextWorld, requirements_of}

@@ -1,10 +1,10 @@
 -- The equation of a member name of a protocol.
 use Rattle.std.specs.Prelude.{◌≡◌, ◌⊎◌, ℕ, List, [], ◌∷◌, ◌++◌, Some, Contains, slice_get}
-use Rattle.swreq_param.specs.declared.ids.NameId.{NameId}
-use Rattle.swreq_param.specs.declared.ids.ProtoId.{ProtoId}
-use Rattle.swreq_lexicon.specs.Lexicons.{pair}
-use Rattle.swreq_lexicon.specs.Views.{LexiconView}
-use Rattle.swreq_correspondence.specs.Symbols.{Word}
+use Rattle.swreq_rounds.specs.swreq_param.declared.ids.NameId.{NameId}
+use Rattle.swreq_rounds.specs.swreq_param.declared.ids.ProtoId.{ProtoId}
+use Rattle.swreq_world.specs.swreq_lexicon.Lexicons.{pair}
+use Rattle.swreq_world.specs.swreq_lexicon.Views.{LexiconView}
+use Rattle.swreq_rounds.specs.swreq_correspondence.Symbols.{Word}
 use Rattle.swreq_rounds.specs.Given.{named}
 
 -- The equation of [P:A] was put last, where A is a member name of P.

@@ -1,14 +1,14 @@
 -- The plan of the rounds that the code starts from a world and a table.
 use Rattle.std.specs.Prelude.{List, [], ◌∷◌, ◌++◌, map, Contains}
-use Rattle.swreq_param.specs.declared.ids.ProtoId.{ProtoId}
-use Rattle.swreq_param.specs.Terms.{Term}
-use Rattle.swreq_derive.specs.declared.known.Params.{Params}
-use Rattle.swreq_derive.specs.declared.requirements.Requirement.{Requirement}
-use Rattle.swreq_derive.specs.Derivation.{Source, TermRequirement}
-use Rattle.swreq_derive.specs.Derivation.Source.{Written as WrittenList, SelfOf}
-use Rattle.swreq_derive.specs.Facts.{generic_params, requirement_of}
-use Rattle.swreq_lexicon.specs.Views.{LexiconView}
-use Rattle.swreq_rule.specs.declared.rules.Rule.{Rule}
+use Rattle.swreq_rounds.specs.swreq_param.declared.ids.ProtoId.{ProtoId}
+use Rattle.swreq_rounds.specs.swreq_param.Terms.{Term}
+use Rattle.swreq_rounds.specs.swreq_derive.declared.known.Params.{Params}
+use Rattle.swreq_rounds.specs.swreq_derive.declared.requirements.Requirement.{Requirement}
+use Rattle.swreq_rounds.specs.swreq_derive.Derivation.{Source, TermRequirement}
+use Rattle.swreq_rounds.specs.swreq_derive.Derivation.Source.{Written as WrittenList, SelfOf}
+use Rattle.swreq_rounds.specs.swreq_derive.Facts.{generic_params, requirement_of}
+use Rattle.swreq_world.specs.swreq_lexicon.Views.{LexiconView}
+use Rattle.swreq_complete.specs.swreq_rule.declared.rules.Rule.{Rule}
 use Rattle.swreq_rounds.specs.Plan.{Item, Plan}
 use Rattle.swreq_symbols.specs.declared.over.Over.{Over}
 use Rattle.swreq_symbols.specs.declared.over.Over.TheVariants.{Signature, Protocol}
@@ -16,7 +16,7 @@ use Rattle.swreq_symbols.specs.Known.{IsRequirementIn}
 use Rattle.swreq_symbols.specs.Meaning.{facts_of, symbols_of}
 use Rattle.swreq_world.specs.ByTable.{world_by}
 use Rattle.swreq_world.specs.Worlds.{IdWorld, requirements_of}
-use Rattle.swreq_lowering.specs.declared.ids.Written.{Written}
+use Rattle.swreq_world.specs.swreq_lowering.declared.ids.Written.{Written}
 use Rattle.swreq_valid.specs.declared.wanted.RoundStart.{RoundStart}
 use Rattle.swreq_valid.specs.declared.wanted.RoundRequirement.{RoundRequirement}
 

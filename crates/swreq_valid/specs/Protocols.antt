@@ -1,6 +1,6 @@
 -- What is said of the rules of the protocols.
 use Rattle.std.specs.Prelude.{Bool, List}
-use Rattle.swreq_rule.specs.declared.rules.Rule.{Rule}
+use Rattle.swreq_complete.specs.swreq_rule.declared.rules.Rule.{Rule}
 use Rattle.swreq_rounds.specs.Given.{protocols_plan}
 use Rattle.swreq_rounds.specs.Plan.{Plan}
 use Rattle.swreq_rounds.specs.Presents.{AreProtocolRules}

@@ -1,22 +1,17 @@
 //! The events of rounds, told once more.
 ghost use Rattle.std.specs.Prelude.{◌≡◌, ◌∷◌, [], length, OnOk, OnErr};
 ghost use Rattle.swreq_rounds.specs.Plan.{Plan};
-ghost use Rattle.swreq_complete.specs.declared.limit.Limits.{Limits};
-ghost use Rattle.swreq_complete.specs.Events.{events};
-ghost use Rattle.swreq_watch.specs.Told.{GrewBy};
-ghost use Rattle.swreq_watch.specs.declared.events.Event.TheVariants.{Born};
-ghost use Rattle.swreq_valid.specs.Again.{TellsFront, TellsRound, rules_again, round_events};
-ghost use Rattle.swreq_valid.specs.Courses.{told_by};
-ghost use Rattle.swreq_valid.specs.Answers.{Answers};
-ghost use Rattle.swreq_valid.specs.Rounds.{AreRounds, last_rules};
+ghost use Rattle.swreq_complete.specs.{declared.limit.Limits.{Limits}, Events.{events}};
+ghost use Rattle.swreq_complete.specs.swreq_watch.{Told.{GrewBy}, declared.events.Event.TheVariants.{Born}};
+ghost use Rattle.swreq_valid.specs.{Again.{TellsFront, TellsRound, rules_again, round_events}, Courses.{told_by}, Answers.{Answers}, Rounds.{AreRounds, last_rules}};
 
 use crate::course::Course;
 use crate::protocols::Protocols;
 use crate::round::{Round, Rounds};
 use std::alloc::AllocError;
 use swreq_complete::CompleteRules;
-use swreq_rule::Rule;
-use swreq_watch::{Event, Watch};
+use swreq_complete::rule::Rule;
+use swreq_complete::watch::{Event, Watch};
 
 /// Tells the birth of the rule.
 fn tell_birth<W: Watch>(rule: &Rule, watch: &mut W) -> Result<(), AllocError>

@@ -1,20 +1,18 @@
 //! The basic equations of a text, and the requirements of its protocols.
 ghost use Rattle.std.specs.Prelude.{◌≡◌, ◌<◌, ◌≤◌, ◌++◌, ◌∷◌, [], ℕ, Some, map, slice_get, IfOk, OnOk};
-ghost use Rattle.swreq_lexicon.specs.declared.pair.ProtocolName.{ProtocolName};
+ghost use Rattle.swreq_world.specs.swreq_lexicon.declared.pair.ProtocolName.{ProtocolName};
 ghost use Rattle.swreq_rounds.specs.Given as given;
 ghost use Rattle.swreq_symbols.specs.Meaning.{symbols_of};
 ghost use Rattle.swreq_world.specs.Closed.{AreIds};
-ghost use Rattle.swreq_valid.specs.Early.{IsFront};
-ghost use Rattle.swreq_valid.specs.Named.{IsNameAdded};
-ghost use Rattle.swreq_valid.specs.Plans.{in_protocol, in_protocols};
+ghost use Rattle.swreq_valid.specs.{Early.{IsFront}, Named.{IsNameAdded}, Plans.{in_protocol, in_protocols}};
 
 use crate::wanted::RoundRequirement;
 use std::alloc::{AllocError, Global};
-use swreq_derive::Requirement;
-use swreq_param::{NameId, ProtoId};
+use swreq_complete::word::{Symbol, Word};
 use swreq_symbols::Over;
-use swreq_word::{Symbol, Word};
 use swreq_world::World;
+use swreq_world::derive::Requirement;
+use swreq_world::param::{NameId, ProtoId};
 
 /// The word of these symbols.
 fn word_of(alloc: Global, symbols: &[Symbol]) -> Result<Word, AllocError>

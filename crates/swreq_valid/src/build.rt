@@ -1,16 +1,10 @@
 //! The rules of the protocols, where all that is written is a type parameter.
 ghost use Rattle.std.specs.Prelude.{◌≡◌, IfOk, length};
 ghost use Rattle.swreq_complete.specs.Limits.{AreInRange};
-ghost use Rattle.swreq_symbols.specs.Known.{IsTextOver};
-ghost use Rattle.swreq_symbols.specs.Meaning.{facts_of, symbols_of};
+ghost use Rattle.swreq_symbols.specs.{Known.{IsTextOver}, Meaning.{facts_of, symbols_of}};
 ghost use Rattle.swreq_world.specs.ByTable.{world_by};
 ghost use Rattle.swreq_rounds.specs.Presents.{AreProtocolRules};
-ghost use Rattle.swreq_valid.specs.Answers.{Answers, IsOnlyOutcome};
-ghost use Rattle.swreq_valid.specs.Keeping.{AreFlags, TellEach, TellUsable, kept_answer, kept_facts, kept_plan};
-ghost use Rattle.swreq_valid.specs.Built.{Builds, IsOnlyBuilt, Judges, protocol_rules};
-ghost use Rattle.swreq_valid.specs.Protocols.{AreRulesOf, protocols_of};
-ghost use Rattle.swreq_valid.specs.Rounds.{AreRounds, last_rules};
-ghost use Rattle.swreq_valid.specs.Sides.{IsShownIn, protocol_sides};
+ghost use Rattle.swreq_valid.specs.{Answers.{Answers, IsOnlyOutcome}, Keeping.{AreFlags, TellEach, TellUsable, kept_answer, kept_facts, kept_plan}, Built.{Builds, IsOnlyBuilt, Judges, protocol_rules}, Protocols.{AreRulesOf, protocols_of}, Rounds.{AreRounds, last_rules}, Sides.{IsShownIn, protocol_sides}};
 
 use crate::kept::{Kept, complete_kept, usable_lists};
 use crate::protocols::{Protocols, complete_protocols};
@@ -18,10 +12,10 @@ use crate::refused::Refused;
 use crate::round::Rounds;
 use crate::sides::first_in_protocols;
 use std::alloc::{AllocError, Global};
+use swreq_complete::watch::Watch;
 use swreq_complete::{Failed, Limits};
-use swreq_param::ParamTable;
-use swreq_watch::Watch;
 use swreq_world::World;
+use swreq_world::param::ParamTable;
 
 /// The rules of the protocols that these rounds found, with the requirements that they show usable.
 fn with_usable(

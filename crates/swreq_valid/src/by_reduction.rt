@@ -1,24 +1,20 @@
 //! What reduction by rules shows of type parameters, where the rules need not be complete.
 ghost use Rattle.std.specs.Prelude.{◌≡◌, ◌↔◌, ◌<◌, length, IfOk, IsTrue};
-ghost use Rattle.swreq_param.specs.Tables.{term_at};
-ghost use Rattle.swreq_param.specs.declared.ids.AssocId.{AssocId};
-ghost use Rattle.swreq_param.specs.declared.ids.NameId.{NameId};
-ghost use Rattle.swreq_param.specs.declared.ids.Step.TheVariants.{Bound, Name};
-ghost use Rattle.swreq_derive.specs.Facts.{requirement_of};
-ghost use Rattle.swreq_rule.specs.Reduction.{Reduces};
+ghost use Rattle.swreq_rounds.specs.swreq_param.{Tables.{term_at}, declared.ids.AssocId.{AssocId}, declared.ids.NameId.{NameId}, declared.ids.Step.TheVariants.{Bound, Name}};
+ghost use Rattle.swreq_rounds.specs.swreq_derive.Facts.{requirement_of};
+ghost use Rattle.swreq_complete.specs.swreq_rule.Reduction.{Reduces};
 ghost use Rattle.swreq_complete.specs.Alike.{ReduceAlike};
 ghost use Rattle.swreq_symbols.specs.Known.{IsRequirementIn, IsTextOver, IsTypeIn};
-ghost use Rattle.swreq_world.specs.ByTable.{world_by};
-ghost use Rattle.swreq_world.specs.Closed.{IsStepOf};
+ghost use Rattle.swreq_world.specs.{ByTable.{world_by}, Closed.{IsStepOf}};
 ghost use Rattle.swreq_valid.specs.ByReduction.{HasStepOf, IsGivenOf, ReducesConformance, ReducesUsable, ReducesValid};
 
 use std::alloc::{AllocError, Global};
 use swreq_complete::RewritingSystem;
-use swreq_derive::Requirement;
-use swreq_param::{AssocId, NameId, ParamTable, ProtoId, Step, TermId};
+use swreq_complete::word::{Symbol, are_same};
 use swreq_symbols::{Over, equation};
-use swreq_word::{Symbol, are_same};
 use swreq_world::World;
+use swreq_world::derive::Requirement;
+use swreq_world::param::{AssocId, NameId, ParamTable, ProtoId, Step, TermId};
 
 /// Over what type parameters are read, and the rules by which their words are reduced.
 #[derive(Clone, Copy)]

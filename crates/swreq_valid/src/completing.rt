@@ -1,26 +1,20 @@
 //! The equations of a round, and the rules to which they complete.
-ghost use Rattle.std.specs.Prelude.{◌≡◌, List, [], ◌∷◌, ◌++◌, length, IfOk, OnOk, vec_len};
-ghost use Rattle.std.specs.Bool.{if◌then◌else◌};
-ghost use Rattle.swreq_derive.specs.Derivation.{TermRequirement};
-ghost use Rattle.swreq_rule.specs.declared.rules.Rule.{Rule};
-ghost use Rattle.swreq_complete.specs.Answers.{IsAnswer};
-ghost use Rattle.swreq_complete.specs.Events.{TellsEvents};
-ghost use Rattle.swreq_complete.specs.Limits.{AreInRange};
+ghost use Rattle.std.specs.{Prelude.{◌≡◌, List, [], ◌∷◌, ◌++◌, length, IfOk, OnOk, vec_len}, Bool.{if◌then◌else◌}};
+ghost use Rattle.swreq_rounds.specs.swreq_derive.Derivation.{TermRequirement};
+ghost use Rattle.swreq_complete.specs.swreq_rule.declared.rules.Rule.{Rule};
+ghost use Rattle.swreq_complete.specs.{Answers.{IsAnswer}, Events.{TellsEvents}, Limits.{AreInRange}};
 ghost use Rattle.swreq_rounds.specs.Plan.{equation_of, given};
-ghost use Rattle.swreq_symbols.specs.Known.{IsRequirementIn, IsTextOver};
-ghost use Rattle.swreq_symbols.specs.Meaning.{symbols_of};
-ghost use Rattle.swreq_valid.specs.Flags.{chosen};
-ghost use Rattle.swreq_valid.specs.Plans.{AreWanted, item_of, items_of, plan_of};
-ghost use Rattle.swreq_valid.specs.Rounds.{first_rules};
+ghost use Rattle.swreq_symbols.specs.{Known.{IsRequirementIn, IsTextOver}, Meaning.{symbols_of}};
+ghost use Rattle.swreq_valid.specs.{Flags.{chosen}, Plans.{AreWanted, item_of, items_of, plan_of}, Rounds.{first_rules}};
 
 use crate::wanted::{RoundRequirement, RoundStart};
 use std::alloc::{AllocError, Global};
+use swreq_complete::watch::Watch;
+use swreq_complete::word::Word;
 use swreq_complete::{CompleteRules, Failed, extend};
-use swreq_param::ParamTable;
 use swreq_symbols::{Text, equation};
-use swreq_watch::Watch;
-use swreq_word::Word;
 use swreq_world::World;
+use swreq_world::param::ParamTable;
 
 /// Copies of the equations, in order.
 fn copies(alloc: Global, equations: &[(Word, Word)]) -> Result<Vec<(Word, Word)>, AllocError>

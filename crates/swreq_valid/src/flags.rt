@@ -1,6 +1,5 @@
 //! Flags for the requirements that rounds may use, in order.
-ghost use Rattle.std.specs.Prelude.{◌≡◌, ◌↔◌, length, false, replicate, IfOk, IsTrue};
-ghost use Rattle.std.specs.List.{list_all};
+ghost use Rattle.std.specs.{Prelude.{◌≡◌, ◌↔◌, length, false, replicate, IfOk, IsTrue}, List.{list_all}};
 ghost use Rattle.swreq_valid.specs.Flags.{either_of, is_either};
 
 use std::alloc::{AllocError, Global};

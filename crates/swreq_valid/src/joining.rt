@@ -1,14 +1,10 @@
 //! Which requirements the next round uses.
 ghost use Rattle.std.specs.Prelude.{◌≡◌, List, [], length, Contains, IfOk, MatchOption, vec_len};
-ghost use Rattle.swreq_rule.specs.declared.rules.Rule.{Rule};
+ghost use Rattle.swreq_complete.specs.swreq_rule.declared.rules.Rule.{Rule};
 ghost use Rattle.swreq_complete.specs.Limits.{AreInRange};
-ghost use Rattle.swreq_rounds.specs.Plan.{AreShown, AreShownByReduction, Item};
-ghost use Rattle.swreq_rounds.specs.Rounds.{IsClosed};
+ghost use Rattle.swreq_rounds.specs.{Plan.{AreShown, AreShownByReduction, Item}, Rounds.{IsClosed}};
 ghost use Rattle.swreq_symbols.specs.Known.{IsTextOver};
-ghost use Rattle.swreq_valid.specs.Flags.{Tells, TellsMore, chosen};
-ghost use Rattle.swreq_valid.specs.Plans.{AreWanted, items_of, plan_of};
-ghost use Rattle.swreq_valid.specs.Rounds.{AreJoined, first_rules};
-ghost use Rattle.swreq_valid.specs.Underway.{AreByItem};
+ghost use Rattle.swreq_valid.specs.{Flags.{Tells, TellsMore, chosen}, Plans.{AreWanted, items_of, plan_of}, Rounds.{AreJoined, first_rules}, Underway.{AreByItem}};
 
 use crate::by_reduction;
 use crate::by_reduction::ByReduction;
@@ -19,9 +15,9 @@ use crate::usable::usable;
 use crate::wanted::RoundStart;
 use std::alloc::{AllocError, Global};
 use swreq_complete::{CompleteRules, Failed, RewritingSystem, bear};
-use swreq_param::ParamTable;
 use swreq_symbols::Text;
 use swreq_world::World;
+use swreq_world::param::ParamTable;
 
 /// The flags of the next round after one that used these requirements and ended with these rules, or None where there is no next
 /// round, since the rules show no other requirements usable. A round that uses all requirements shows all usable, and is the last.

@@ -1,17 +1,10 @@
 //! The rules of the protocols by a part of their requirements, and which requirements are usable by them.
-ghost use Rattle.std.specs.Prelude.{◌≡◌, ◌<◌, ◌++◌, ◌∷◌, [], IfOk, OnOk, length, map};
-ghost use Rattle.std.specs.Bool.{if◌then◌else◌};
+ghost use Rattle.std.specs.{Prelude.{◌≡◌, ◌<◌, ◌++◌, ◌∷◌, [], IfOk, OnOk, length, map}, Bool.{if◌then◌else◌}};
 ghost use Rattle.swreq_complete.specs.Limits.{AreInRange};
 ghost use Rattle.swreq_rounds.specs.Presents.{AreProtocolRules};
-ghost use Rattle.swreq_symbols.specs.Known.{IsTextOver};
-ghost use Rattle.swreq_symbols.specs.Meaning.{facts_of, symbols_of};
-ghost use Rattle.swreq_world.specs.ByTable.{world_by};
-ghost use Rattle.swreq_world.specs.Closed.{AreIds};
-ghost use Rattle.swreq_valid.specs.Answers.{Answers, IsOnlyOutcome};
-ghost use Rattle.swreq_valid.specs.Flags.{Tells, chosen};
-ghost use Rattle.swreq_valid.specs.Keeping.{AreFlags, IsUsableBy, TellEach, kept_facts, kept_in, kept_plan};
-ghost use Rattle.swreq_valid.specs.Plans.{in_protocol};
-ghost use Rattle.swreq_valid.specs.Rounds.{AreRounds, last_rules, rules_of};
+ghost use Rattle.swreq_symbols.specs.{Known.{IsTextOver}, Meaning.{facts_of, symbols_of}};
+ghost use Rattle.swreq_world.specs.{ByTable.{world_by}, Closed.{AreIds}};
+ghost use Rattle.swreq_valid.specs.{Answers.{Answers, IsOnlyOutcome}, Flags.{Tells, chosen}, Keeping.{AreFlags, IsUsableBy, TellEach, kept_facts, kept_in, kept_plan}, Plans.{in_protocol}, Rounds.{AreRounds, last_rules, rules_of}};
 
 use crate::basic::basic;
 use crate::round::Rounds;
@@ -20,13 +13,13 @@ use crate::stopping::limit_of_basic;
 use crate::usable::is_usable;
 use crate::wanted::{RoundRequirement, RoundStart};
 use std::alloc::{AllocError, Global};
+use swreq_complete::watch::Watch;
 use swreq_complete::{CompleteRules, Failed, Limits};
-use swreq_derive::Requirement;
-use swreq_param::{ParamTable, ProtoId};
 use swreq_symbols::Over;
 use swreq_text::Seq;
-use swreq_watch::Watch;
 use swreq_world::World;
+use swreq_world::derive::Requirement;
+use swreq_world::param::{ParamTable, ProtoId};
 
 /// Which requirements of the protocols are kept: for each protocol, in written order, a flag for each of its requirements.
 #[derive(Drop)]

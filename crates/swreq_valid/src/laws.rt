@@ -1,13 +1,10 @@
 //! What the definitions of rounds and of sides tell.
 ghost use Rattle.std.specs.Prelude.{◌≡◌, ℕ, List};
-ghost use Rattle.swreq_param.specs.Terms.{Term};
-ghost use Rattle.swreq_derive.specs.Derivation.{Derivable, Source, TermFacts};
-ghost use Rattle.swreq_derive.specs.Derivation.TermRequirement.{Equals};
-ghost use Rattle.swreq_derive.specs.Derivation.TermStatement.{IsValid};
+ghost use Rattle.swreq_rounds.specs.swreq_param.Terms.{Term};
+ghost use Rattle.swreq_rounds.specs.swreq_derive.{Derivation.{Derivable, Source, TermFacts}, Derivation.TermRequirement.{Equals}, Derivation.TermStatement.{IsValid}};
 ghost use Rattle.swreq_complete.specs.declared.limit.Limits.{Limits};
 ghost use Rattle.swreq_rounds.specs.Plan.{Plan};
-ghost use Rattle.swreq_valid.specs.Rounds.{AreRounds, RoundView};
-ghost use Rattle.swreq_valid.specs.Sides.{FailsFirst, IsValidSide, sides_at};
+ghost use Rattle.swreq_valid.specs.{Rounds.{AreRounds, RoundView}, Sides.{FailsFirst, IsValidSide, sides_at}};
 
 /// The rounds of a plan are one list.
 pub fn rounds_are_one()

@@ -4,7 +4,7 @@ ghost use Rattle.swreq_symbols.specs.Vanishing.{IsLeastBy, Links};
 
 use std::alloc::{AllocError, Global};
 use swreq_complete::CompleteRules;
-use swreq_word::{Symbol, Word, are_same};
+use swreq_complete::word::{Symbol, Word, are_same};
 
 /// The least word that the rules link to a word.
 fn least(alloc: Global, rules: &CompleteRules<'_>, word: &Word) -> Result<Vec<Symbol>, AllocError>

@@ -1,16 +1,10 @@
 //! The rules of the protocols of a text.
 ghost use Rattle.std.specs.Prelude.{◌≡◌, ◌↔◌, IfOk, IsTrue, false, slice_index_or};
-ghost use Rattle.swreq_derive.specs.Derivation.{TermFacts, TermRequirement};
-ghost use Rattle.swreq_derive.specs.Derivation.Source.{SelfOf};
-ghost use Rattle.swreq_derive.specs.WellFormed.{HasValidSides};
+ghost use Rattle.swreq_rounds.specs.swreq_derive.{Derivation.{TermFacts, TermRequirement}, Derivation.Source.{SelfOf}, WellFormed.{HasValidSides}};
 ghost use Rattle.swreq_complete.specs.Limits.{AreInRange};
 ghost use Rattle.swreq_symbols.specs.Known.{IsTextOver};
-ghost use Rattle.swreq_world.specs.ByTable.{world_by};
-ghost use Rattle.swreq_world.specs.Worlds.{TextWorld};
-ghost use Rattle.swreq_valid.specs.Answers.{Answers, IsOnlyOutcome};
-ghost use Rattle.swreq_valid.specs.Keeping.{HasNumber, TellUsable, flag_at, flag_with};
-ghost use Rattle.swreq_valid.specs.Protocols.{AreRulesOf, protocols_of};
-ghost use Rattle.swreq_valid.specs.Rounds.{AreRounds, last_rules, rules_of};
+ghost use Rattle.swreq_world.specs.{ByTable.{world_by}, Worlds.{TextWorld}};
+ghost use Rattle.swreq_valid.specs.{Answers.{Answers, IsOnlyOutcome}, Keeping.{HasNumber, TellUsable, flag_at, flag_with}, Protocols.{AreRulesOf, protocols_of}, Rounds.{AreRounds, last_rules, rules_of}};
 
 use crate::basic::{basic, requirements};
 use crate::round::Rounds;
@@ -19,11 +13,11 @@ use crate::stopping::limit_of_basic;
 use crate::wanted::RoundStart;
 use std::alloc::{AllocError, Global};
 use std::marker::Model;
+use swreq_complete::watch::Watch;
 use swreq_complete::{CompleteRules, Failed, Limits};
-use swreq_param::{ParamTable, ProtoId};
 use swreq_text::Seq;
-use swreq_watch::Watch;
 use swreq_world::World;
+use swreq_world::param::{ParamTable, ProtoId};
 
 /// The rules of the protocols of a text, and the rounds that found them.
 #[derive(Drop)]

@@ -1,7 +1,7 @@
 //! Why there are no rules.
 use std::alloc::AllocError;
+use swreq_complete::rule::Rule;
 use swreq_complete::{Failed, Which};
-use swreq_rule::Rule;
 use swreq_text::Seq;
 
 /// Why there is no machine of a list, or why there are no rules of the protocols.

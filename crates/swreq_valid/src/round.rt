@@ -1,13 +1,12 @@
 //! Rounds, as they are kept.
 ghost use Rattle.std.specs.Prelude.{◌≡◌, ◌∷◌, ◌++◌, [], ◌<◌, ◌-◌, ◌^◌, Bool, List, length, Some, slice_get, IfOk};
-ghost use Rattle.swreq_valid.specs.Courses.{rules_by, told_by};
-ghost use Rattle.swreq_valid.specs.Rounds.{RoundView, ended_round, last_rules, short_round, stopped_round};
+ghost use Rattle.swreq_valid.specs.{Courses.{rules_by, told_by}, Rounds.{RoundView, ended_round, last_rules, short_round, stopped_round}};
 
 use crate::course::Course;
 use std::alloc::{AllocError, Global};
 use std::marker::Model;
+use swreq_complete::rule::Rule;
 use swreq_complete::{CompleteRules, RewritingSystem};
-use swreq_rule::Rule;
 use swreq_text::Seq;
 
 /// A round that another one came after: which requirements its equations are of, by a flag for each, and what became of it.
@@ -18,8 +17,7 @@ pub(crate) struct Round<'b> {
 }
 
 impl<'b> Model for Round<'b> {
-    ghost use Rattle.swreq_valid.specs.Courses.{rules_by, told_by};
-    ghost use Rattle.swreq_valid.specs.Rounds.{RoundView};
+    ghost use Rattle.swreq_valid.specs.{Courses.{rules_by, told_by}, Rounds.{RoundView}};
 
     ghost Value = { RoundView };
 

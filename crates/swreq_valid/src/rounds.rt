@@ -1,12 +1,9 @@
 //! The run of rounds.
 ghost use Rattle.std.specs.Prelude.{List, IfOk};
 ghost use Rattle.swreq_complete.specs.Limits.{AreInRange};
-ghost use Rattle.swreq_watch.specs.declared.events.Event.{Event};
+ghost use Rattle.swreq_complete.specs.swreq_watch.declared.events.Event.{Event};
 ghost use Rattle.swreq_symbols.specs.Known.{IsTextOver};
-ghost use Rattle.swreq_valid.specs.Answers.{Answers, IsOnlyOutcome};
-ghost use Rattle.swreq_valid.specs.Plans.{AreWanted, plan_of};
-ghost use Rattle.swreq_valid.specs.Rounds.{AreRounds, first_rules, rules_of};
-ghost use Rattle.swreq_valid.specs.Underway.{IsDueNow, IsTaken, IsUnderway};
+ghost use Rattle.swreq_valid.specs.{Answers.{Answers, IsOnlyOutcome}, Plans.{AreWanted, plan_of}, Rounds.{AreRounds, first_rules, rules_of}, Underway.{IsDueNow, IsTaken, IsUnderway}};
 
 use crate::completing::complete;
 use crate::flags::none_used;
@@ -16,11 +13,11 @@ use crate::turns::{after_end, after_limit, once_more};
 use crate::underway::{Passed, Turn, Underway};
 use crate::wanted::RoundStart;
 use std::alloc::Global;
+use swreq_complete::watch::Watch;
 use swreq_complete::{CompleteRules, Failed};
-use swreq_param::ParamTable;
 use swreq_symbols::Text;
-use swreq_watch::Watch;
 use swreq_world::World;
+use swreq_world::param::ParamTable;
 
 /// Completes the round, and takes it from there.
 fn completed<'b, W: Watch>(

@@ -1,21 +1,20 @@
 //! The first side of written requirements that is no type parameter.
 ghost use Rattle.std.specs.Prelude.{◌≡◌, IfOk, List, MatchOption};
-ghost use Rattle.swreq_param.specs.Tables.{term_at};
-ghost use Rattle.swreq_derive.specs.Derivation.{TermRequirement};
-ghost use Rattle.swreq_symbols.specs.Known.{IsRequirementIn, IsTextOver, IsTypeIn};
-ghost use Rattle.swreq_symbols.specs.Meaning.{facts_of, symbols_of};
+ghost use Rattle.swreq_rounds.specs.swreq_param.Tables.{term_at};
+ghost use Rattle.swreq_rounds.specs.swreq_derive.Derivation.{TermRequirement};
+ghost use Rattle.swreq_symbols.specs.{Known.{IsRequirementIn, IsTextOver, IsTypeIn}, Meaning.{facts_of, symbols_of}};
 ghost use Rattle.swreq_world.specs.ByTable.{world_by};
-ghost use Rattle.swreq_lowering.specs.ByTable.{placed, placed_by};
-ghost use Rattle.swreq_valid.specs.Plans.{AreWritten, within};
-ghost use Rattle.swreq_valid.specs.Sides.{FailsFirst, HoldsOfEach, IsShownIn, protocol_sides, sides, sides_of};
+ghost use Rattle.swreq_world.specs.swreq_lowering.ByTable.{placed, placed_by};
+ghost use Rattle.swreq_valid.specs.{Plans.{AreWritten, within}, Sides.{FailsFirst, HoldsOfEach, IsShownIn, protocol_sides, sides, sides_of}};
 
 use crate::usable::is_shown;
 use std::alloc::{AllocError, Global};
 use swreq_complete::CompleteRules;
-use swreq_derive::Requirement;
-use swreq_param::{ParamTable, TermId};
 use swreq_symbols::{Over, Reading};
-use swreq_world::{World, Written};
+use swreq_world::World;
+use swreq_world::derive::Requirement;
+use swreq_world::lowering::Written;
+use swreq_world::param::{ParamTable, TermId};
 
 /// The place of a side, where the rules do not show it valid.
 fn fails_at(

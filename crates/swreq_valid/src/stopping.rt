@@ -1,23 +1,17 @@
 //! Where the basic equations alone pass a limit, so that the first of them are enough to tell which.
-ghost use Rattle.std.specs.Prelude.{◌≡◌, ◌+◌, [], Err, IsTrue, MatchOption};
-ghost use Rattle.std.specs.List.{list_all};
-ghost use Rattle.swreq_complete.specs.declared.limit.Failed.TheVariants.{Limit};
-ghost use Rattle.swreq_complete.specs.Answers.{IsAnswer};
-ghost use Rattle.swreq_complete.specs.Events.{TellsEvents};
-ghost use Rattle.swreq_complete.specs.Limits.{AreInRange};
-ghost use Rattle.swreq_rounds.specs.Given.{basic_equations};
-ghost use Rattle.swreq_rounds.specs.Plan.{Plan};
+ghost use Rattle.std.specs.{Prelude.{◌≡◌, ◌+◌, [], Err, IsTrue, MatchOption}, List.{list_all}};
+ghost use Rattle.swreq_complete.specs.{declared.limit.Failed.TheVariants.{Limit}, Answers.{IsAnswer}, Events.{TellsEvents}, Limits.{AreInRange}};
+ghost use Rattle.swreq_rounds.specs.{Given.{basic_equations}, Plan.{Plan}};
 ghost use Rattle.swreq_symbols.specs.Meaning.{symbols_of};
 ghost use Rattle.swreq_world.specs.Closed.{AreIds};
-ghost use Rattle.swreq_valid.specs.Answers.{Answers};
-ghost use Rattle.swreq_valid.specs.Early.{IsLimitAmong, StopsAmong, is_given};
+ghost use Rattle.swreq_valid.specs.{Answers.{Answers}, Early.{IsLimitAmong, StopsAmong, is_given}};
 
 use crate::basic::first_basic;
 use std::alloc::Global;
+use swreq_complete::rule::{Birth, Rule};
+use swreq_complete::watch::{Quiet, Watch};
+use swreq_complete::word::Word;
 use swreq_complete::{CompleteRules, Failed, Limits, extend};
-use swreq_rule::{Birth, Rule};
-use swreq_watch::{Quiet, Watch};
-use swreq_word::Word;
 use swreq_world::World;
 
 /// Whether the rule is born of an equation, and not of a pair.

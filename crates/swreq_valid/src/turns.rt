@@ -1,25 +1,18 @@
 //! What comes after a round: the next one, the end, or the limit at which rounds stop.
 ghost use Rattle.std.specs.Prelude.{◌≡◌, List, [], ◌∷◌, ◌++◌, length, Contains, Some, None, IfOk, MatchOption, MatchResult};
-ghost use Rattle.swreq_rule.specs.declared.rules.Rule.{Rule};
-ghost use Rattle.swreq_complete.specs.declared.limit.Failed.TheVariants.{Limit};
-ghost use Rattle.swreq_complete.specs.declared.limit.Limits.{Limits};
-ghost use Rattle.swreq_complete.specs.Events.{events};
-ghost use Rattle.swreq_complete.specs.Limits.{AreInRange};
-ghost use Rattle.swreq_rounds.specs.Plan.{AreShown, Item, Plan};
-ghost use Rattle.swreq_rounds.specs.Rounds.{Ends, Passed as PassedLimit, Stops};
+ghost use Rattle.swreq_complete.specs.swreq_rule.declared.rules.Rule.{Rule};
+ghost use Rattle.swreq_complete.specs.{declared.limit.Failed.TheVariants.{Limit}, declared.limit.Limits.{Limits}, Events.{events}, Limits.{AreInRange}};
+ghost use Rattle.swreq_rounds.specs.{Plan.{AreShown, Item, Plan}, Rounds.{Ends, Passed as PassedLimit, Stops}};
 ghost use Rattle.swreq_symbols.specs.Known.{IsTextOver};
-ghost use Rattle.swreq_valid.specs.Flags.{chosen};
-ghost use Rattle.swreq_valid.specs.Plans.{AreWanted, items_of, plan_of};
-ghost use Rattle.swreq_valid.specs.Rounds.{AreJoined, first_rules};
-ghost use Rattle.swreq_valid.specs.Underway.{AreByItem, FailsWith, IsDueNow, TurnsTo, first_of, used_by};
+ghost use Rattle.swreq_valid.specs.{Flags.{chosen}, Plans.{AreWanted, items_of, plan_of}, Rounds.{AreJoined, first_rules}, Underway.{AreByItem, FailsWith, IsDueNow, TurnsTo, first_of, used_by}};
 
 use crate::joining::{joined, next_used};
 use crate::round::{Round, Rounds};
 use crate::underway::{Joined, Passed, Turn, Underway};
 use crate::wanted::RoundStart;
 use std::alloc::{AllocError, Global};
+use swreq_complete::rule::Rule;
 use swreq_complete::{CompleteRules, Failed};
-use swreq_rule::Rule;
 use swreq_symbols::Text;
 use swreq_text::Seq;
 

@@ -1,8 +1,8 @@
 //! The round under way, and what it comes to.
 
 use crate::round::{Round, Rounds};
+use swreq_complete::rule::Rule;
 use swreq_complete::{RewritingSystem, Which};
-use swreq_rule::Rule;
 use swreq_text::Seq;
 
 /// A limit that a round passed, with its trace.

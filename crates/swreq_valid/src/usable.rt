@@ -1,26 +1,22 @@
 //! Which requirements the rules show usable.
 ghost use Rattle.std.specs.Prelude.{◌≡◌, ◌↔◌, IfOk, IsTrue, List};
-ghost use Rattle.swreq_param.specs.Tables.{term_at};
-ghost use Rattle.swreq_derive.specs.Facts.{requirement_of};
-ghost use Rattle.swreq_rule.specs.declared.rules.Rule.{Rule};
-ghost use Rattle.swreq_correspondence.specs.Shown.{ShowsUsable, ShowsValid};
+ghost use Rattle.swreq_rounds.specs.swreq_param.Tables.{term_at};
+ghost use Rattle.swreq_rounds.specs.swreq_derive.Facts.{requirement_of};
+ghost use Rattle.swreq_complete.specs.swreq_rule.declared.rules.Rule.{Rule};
+ghost use Rattle.swreq_rounds.specs.swreq_correspondence.Shown.{ShowsUsable, ShowsValid};
 ghost use Rattle.swreq_rounds.specs.Plan.{AreShown};
-ghost use Rattle.swreq_symbols.specs.Known.{IsRequirementIn, IsTextOver, IsTypeIn};
-ghost use Rattle.swreq_symbols.specs.Meaning.{facts_of, symbols_of};
-ghost use Rattle.swreq_symbols.specs.Overs.{source_over};
-ghost use Rattle.swreq_symbols.specs.Vanishing.{Links};
+ghost use Rattle.swreq_symbols.specs.{Known.{IsRequirementIn, IsTextOver, IsTypeIn}, Meaning.{facts_of, symbols_of}, Overs.{source_over}, Vanishing.{Links}};
 ghost use Rattle.swreq_world.specs.ByTable.{world_by};
-ghost use Rattle.swreq_valid.specs.Flags.{Tells};
-ghost use Rattle.swreq_valid.specs.Plans.{AreWanted, items_of, plan_of};
+ghost use Rattle.swreq_valid.specs.{Flags.{Tells}, Plans.{AreWanted, items_of, plan_of}};
 
 use crate::wanted::RoundStart;
 use std::alloc::{AllocError, Global};
 use swreq_complete::CompleteRules;
-use swreq_derive::Requirement;
-use swreq_param::{ParamTable, TermId};
+use swreq_complete::word::Symbol;
 use swreq_symbols::{Over, Reading, least_word};
-use swreq_word::Symbol;
 use swreq_world::World;
+use swreq_world::derive::Requirement;
+use swreq_world::param::{ParamTable, TermId};
 
 /// Whether the rules show that a type parameter is valid.
 pub(crate) fn is_shown(

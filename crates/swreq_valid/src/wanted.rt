@@ -1,8 +1,8 @@
 //! What rounds start from.
 use swreq_complete::Limits;
-use swreq_derive::Requirement;
+use swreq_complete::word::Word;
 use swreq_symbols::Over;
-use swreq_word::Word;
+use swreq_world::derive::Requirement;
 
 /// A requirement that rounds may use, and over what its type parameters are read.
 #[derive(Clone, Copy, Debug, PartialEq, Eq)]

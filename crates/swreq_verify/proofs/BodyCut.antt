@@ -3,9 +3,9 @@ use Rattle.std.proofs.Common.{◌≡◌, sym, subst, ℕ, ◌-◌, [], ◌∷◌
 use Rattle.std.specs.List.{AllByRecursion}
 use Rattle.swreq_text.specs.Lines.{lines, IsFirstLine}
 use Rattle.swreq_text.proofs.LineEnds.{IsLineEnd, all_before, line_end_next, line_end_zero}
-use Rattle.swreq_print.specs.Names.{Text}
+use Rattle.swreq_lines.specs.swreq_print.Names.{Text}
 use Rattle.swreq_verify.specs.Laying.{IsUnder}
-use Rattle.swreq_verify.proofs.Sectioned.{each_append}
+use Rattle.swreq_world.proofs.swreq_lemmas.Members.{each_append}
 
 -- A line ends at the place, and those before it begin with a space.
 pub record IsBodyUpTo (text : Text) (at : ℕ) : Type 0 where

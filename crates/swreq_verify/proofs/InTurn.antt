@@ -7,7 +7,7 @@ use Rattle.std.proofs.lemmas.List.Sorted.{Contains-permutation, IsPermutation-sy
 use Rattle.std.proofs.lemmas.Bool.{cases_lt}
 use Rattle.std.proofs.lemmas.List.{length-set}
 use Rattle.std.proofs.lemmas.Option.{slice_get-get_or, slice_get_within}
-use Rattle.swreq_lemmas.proofs.Members.{no_member}
+use Rattle.swreq_world.proofs.swreq_lemmas.Members.{no_member}
 use Rattle.swreq_world.specs.Worlds.{TextWorld}
 use Rattle.swreq_verify.specs.declared.judging.Judgement.{Judgement}
 use Rattle.swreq_verify.specs.declared.turns.Turn.{Turn}

@@ -1,41 +1,36 @@
 -- What is found of derivations over the ids of a table, and what that says over type parameters.
-use Rattle.std.proofs.Common.{◌≡◌, ◌∙◌, refl, sym, ap, subst, ℕ, ◌<◌, arith, List, [], ◌∷◌, ◌++◌, get_or, length, map}
+use Rattle.std.proofs.Common.{◌≡◌, ◌∙◌, refl, sym, ap, subst, ℕ, List, [], ◌∷◌, ◌++◌, length, map}
 use Rattle.std.specs.Prelude.{Some, slice_get}
-use Rattle.std.proofs.Math.ListN.{get_or-map}
-use Rattle.std.proofs.lemmas.List.{length-map, map-append}
-use Rattle.swreq_lemmas.proofs.Elements.{get_contains, get_map}
-use Rattle.swreq_derive.specs.declared.lines.DerivRule.{DerivRule}
-use Rattle.swreq_derive.specs.declared.lines.DerivRule.TheVariants as Rule
-use Rattle.swreq_derive.specs.declared.lines.Line.{Line}
-use Rattle.swreq_derive.specs.declared.requirements.Requirement.TheVariants.{Conf, Layout, Same}
-use Rattle.swreq_derive.specs.declared.requirements.Statement.{Statement}
-use Rattle.swreq_derive.specs.declared.requirements.Statement.TheVariants.{Holds, Valid}
-use Rattle.swreq_derive.specs.Derivation.{BookDerivable, TermFacts, TermRequirement, TermStatement}
-use Rattle.swreq_derive.specs.Derivation.TermStatement.{Requires}
-use Rattle.swreq_derive.specs.Facts.{IsStatementOver, generic_params, requirement_of, statement_of}
-use Rattle.swreq_derive.specs.Instances.{IsDerivation, IsFirstBad, TermLine}
-use Rattle.swreq_derive.specs.Lines.{AreDerived, AreLinesOf, IsFirstNotDerived, IsRuleOf, line_of}
-use Rattle.swreq_derive.proofs.LineLemmas.{lines_hold}
+use Rattle.std.proofs.lemmas.List.{map-append}
+use Rattle.swreq_world.proofs.swreq_lemmas.Elements.{get_contains, get_map}
+use Rattle.swreq_world.specs.swreq_derive.declared.lines.DerivRule.{DerivRule}
+use Rattle.swreq_world.specs.swreq_derive.declared.lines.DerivRule.TheVariants as Rule
+use Rattle.swreq_world.specs.swreq_derive.declared.lines.Line.{Line}
+use Rattle.swreq_world.specs.swreq_derive.declared.requirements.Requirement.TheVariants.{Conf, Layout, Same}
+use Rattle.swreq_world.specs.swreq_derive.declared.requirements.Statement.{Statement}
+use Rattle.swreq_world.specs.swreq_derive.declared.requirements.Statement.TheVariants.{Holds, Valid}
+use Rattle.swreq_world.specs.swreq_derive.Derivation.{BookDerivable, TermFacts, TermRequirement, TermStatement}
+use Rattle.swreq_world.specs.swreq_derive.Derivation.TermStatement.{Requires}
+use Rattle.swreq_world.specs.swreq_derive.Facts.{IsStatementOver, generic_params, requirement_of, statement_of}
+use Rattle.swreq_world.specs.swreq_derive.Instances.{IsDerivation, IsFirstBad, TermLine}
+use Rattle.swreq_world.specs.swreq_derive.Lines.{AreDerived, AreLinesOf, IsFirstNotDerived, IsRuleOf, line_of}
+use Rattle.swreq_world.proofs.swreq_derive.LineLemmas.{lines_hold}
 use Rattle.swreq_lines.specs.GoodLines.{IsReadableLine, IsReadableStatement}
 use Rattle.swreq_lines.specs.LineTexts.{HasRuleIds, HasStatementIds, fields_of}
-use Rattle.swreq_lowering.specs.declared.ids.FuncId.{FuncId}
-use Rattle.swreq_lowering.specs.declared.ids.Query.{Query}
-use Rattle.swreq_lowering.specs.declared.ids.Written.{Written}
-use Rattle.swreq_lowering.specs.ByTable.{query_by}
-use Rattle.swreq_lowering.specs.Queries.{TermQuery}
-use Rattle.swreq_param.specs.declared.ids.ParamId.{ParamId}
-use Rattle.swreq_param.specs.Terms.{Term}
-use Rattle.swreq_symbols.specs.Known.{IsTextOver}
+use Rattle.swreq_world.specs.swreq_lowering.declared.ids.FuncId.{FuncId}
+use Rattle.swreq_world.specs.swreq_lowering.declared.ids.Written.{Written}
+use Rattle.swreq_world.specs.swreq_lowering.Queries.{TermQuery}
+use Rattle.swreq_world.specs.swreq_param.declared.ids.ParamId.{ParamId}
+use Rattle.swreq_world.specs.swreq_param.Terms.{Term}
 use Rattle.swreq_symbols.proofs.OfText.{facts_are, requirements_placed, signature_is}
 use Rattle.swreq_world.specs.ByTable.{world_by}
-use Rattle.swreq_world.specs.Closed.{IsQueryOf}
 use Rattle.swreq_world.specs.FactsAt.{facts_at, facts_of, source_of, written_list}
 use Rattle.swreq_world.specs.Worlds.{IdWorld, SignatureOver, TextWorld, signature_at}
 use Rattle.swreq_verify.specs.declared.judging.Judgement.{Judgement}
 use Rattle.swreq_verify.specs.declared.judging.Judgement.TheVariants.{Skipped, BadLine, Derived, NotThis}
 use Rattle.swreq_verify.specs.declared.reading.Section.{Section}
-use Rattle.swreq_verify.specs.ByTable.{IsFound, IsQueryOver}
-use Rattle.swreq_verify.specs.Judgements.{Asked, EndsIn, IsDerivationFrom, IsFirstBadFrom, IsJudged, IsToDerive}
+use Rattle.swreq_verify.specs.Found.{IsFound}
+use Rattle.swreq_verify.specs.Judgements.{EndsIn, IsDerivationFrom, IsFirstBadFrom, IsJudged, IsToDerive}
 use Rattle.swreq_verify.specs.Laying.{IsSectionOver}
 use Rattle.swreq_verify.specs.SecondParts.{TermSection}
 use Rattle.swreq_verify.proofs.ReadBack.{at_place}
@@ -105,18 +100,6 @@ module _ (w : IdWorld) (f : FuncId) where
         IsFirstBad F (generic_params (signature_at w f).params) (map (requirement_of terms) (facts_at w f).written)
         (map (line_of terms) ls) n) (facts_are w terms f) b)
 
--- ---- queries
-
--- each query of the world is of the table and of the world
-pub query_over : (terms : List Term) (w : IdWorld) → IsTextOver terms w → (k : ℕ) (d : Query) → k < length w.queries
-    → IsQueryOver terms w (get_or w.queries k d)
-query_over terms w text k d l =
-    let n = length-map w.queries (query_by terms) in (
-      text.table.queries k d l,
-      subst (IsQueryOf (world_by terms w)) (get_or-map (query_by terms) w.queries k d)
-          (text.closed.queries k (query_by terms d) (omega arith)),
-    )
-
 -- ---- the last line
 
 last_same : {A : Type 0} (xs ys : List A) (x y : A) → xs ++ (x ∷ []) ≡ ys ++ (y ∷ []) → x ≡ y
@@ -162,18 +145,18 @@ module _ (terms : List Term) (ls before : List Line) (last : Line) (e : ls ≡ b
 -- ---- judgements
 
 module _ (w : TextWorld) (q : TermQuery) (s : TermSection) where
-  pub found_judged : (a : Asked) (j : Judgement) → IsToDerive q s a → IsFound w a s.derivation j → IsJudged w q s j
-  found_judged a Skipped d h = absurd h
-  found_judged a (BadLine n) d h = (a, d, h)
-  found_judged a Derived d h = (a, d, h.0, h.1)
-  found_judged a NotThis d h = (a, d, h.0, h.1)
+  pub found_judged : (r : TermRequirement) (j : Judgement) → IsToDerive q s r → IsFound w q.f r s.derivation j → IsJudged w q s j
+  found_judged r Skipped d h = absurd h
+  found_judged r (BadLine n) d h = (r, d, h)
+  found_judged r Derived d h = (r, d, h.0, h.1)
+  found_judged r NotThis d h = (r, d, h.0, h.1)
 
   -- the last line of a derivation is derivable
   pub ok_derivable : IsJudged w q s Derived
-      → (a : Asked) × IsToDerive q s a × BookDerivable (facts_of w) (source_of (signature_at w a.signature)) (Requires a.requirement)
-  ok_derivable (a, d, derivation, (before, last, e, same)) =
-      let g = signature_at w a.signature in (
-        a,
+      → (r : TermRequirement) × IsToDerive q s r × BookDerivable (facts_of w) (source_of (signature_at w q.f)) (Requires r)
+  ok_derivable (r, d, derivation, (before, last, e, same)) =
+      let g = signature_at w q.f in (
+        r,
         d,
         subst (λ st. BookDerivable (facts_of w) (source_of g) st) same
             (lines_hold (facts_of w) (generic_params g.params) (written_list g) s.derivation derivation (length before) last

@@ -2,17 +2,18 @@
 use Rattle.std.proofs.Common.{◌≡◌, ◌∙◌, refl, sym, ap, subst, ℕ, ◌+◌, ◌<◌, ◌≤◌, arith, List, [], ◌∷◌, ◌++◌, length, map, append_assoc, length-append}
 use Rattle.std.specs.List.{AllByRecursion}
 use Rattle.std.proofs.lemmas.List.{append-nil, length-map, map-append}
-use Rattle.swreq_derive.specs.Lines.{line_of}
-use Rattle.swreq_lexicon.specs.Views.{LexiconView}
-use Rattle.swreq_param.specs.Tables.{Extends}
-use Rattle.swreq_param.specs.Terms.{Term}
+use Rattle.swreq_world.specs.swreq_derive.Lines.{line_of}
+use Rattle.swreq_world.specs.swreq_lexicon.Views.{LexiconView}
+use Rattle.swreq_world.specs.swreq_param.Tables.{Extends}
+use Rattle.swreq_world.specs.swreq_param.Terms.{Term}
 use Rattle.swreq_text.specs.Lines.{lines}
 use Rattle.swreq_text.proofs.Lined.{few_lines, lines-some}
-use Rattle.swreq_print.specs.Names.{Text}
+use Rattle.swreq_lines.specs.swreq_print.Names.{Text}
 use Rattle.swreq_verify.specs.declared.reading.Section.{Section}
 use Rattle.swreq_verify.specs.Laying.{AreHeaded, IsFront, IsNoSection, IsSectionOver, section_of}
 use Rattle.swreq_verify.specs.SecondParts.{AreSections, IsFirstMisfit, IsSection, section_lines}
-use Rattle.swreq_verify.proofs.Sectioned.{each_append, flat, flat-push, length-texts_from, no_section, too_many}
+use Rattle.swreq_world.proofs.swreq_lemmas.Members.{each_append}
+use Rattle.swreq_verify.proofs.Sectioned.{flat, flat-push, length-texts_from, no_section, too_many}
 use Rattle.swreq_verify.proofs.Staying.{each_stays, sections_stay}
 
 -- These sections are read of the text, over the table; this many lines are theirs, and the rest is left.

@@ -1,23 +1,25 @@
 -- A second part has one output.
-use Rattle.std.proofs.Common.{◌≡◌, ◌≢◌, ◌⊎◌, inl, inr, ◌∙◌, refl, sym, ap, subst, ℕ, suc, ◌-◌, ◌<◌, arith, List, [], ◌∷◌, ◌++◌, length, Some, None, slice_get}
+use Rattle.std.proofs.Common.{◌≡◌, ◌≢◌, ◌⊎◌, inl, inr, ◌∙◌, refl, sym, ap, subst, ℕ, suc, ◌-◌, ◌<◌, arith, List, [], ◌∷◌, ◌++◌, length, Some, slice_get}
 use Rattle.std.proofs.lemmas.Bool.{cases_eq, cases_lt}
 use Rattle.std.proofs.lemmas.List.{map-id}
 use Rattle.std.proofs.lemmas.Option.{slice_get_within}
-use Rattle.swreq_lemmas.proofs.Elements.{there_is}
-use Rattle.swreq_derive.specs.Instances.{TermLine}
-use Rattle.swreq_lexicon.specs.Views.{LexiconView}
+use Rattle.swreq_world.proofs.swreq_lemmas.Elements.{there_is}
+use Rattle.swreq_world.specs.swreq_derive.Derivation.{TermRequirement}
+use Rattle.swreq_world.specs.swreq_derive.Instances.{TermLine}
+use Rattle.swreq_world.specs.swreq_lexicon.Views.{LexiconView}
 use Rattle.swreq_lines.specs.LineTexts.{texts_from}
 use Rattle.swreq_lines.proofs.ReadLines.{line_read}
-use Rattle.swreq_lowering.specs.declared.ids.FuncId.{FuncId}
-use Rattle.swreq_lowering.specs.Queries.{TermQuery}
-use Rattle.swreq_print.specs.Names.{Text}
-use Rattle.swreq_print.specs.Reading.{TellsApart}
+use Rattle.swreq_world.specs.swreq_lowering.declared.ids.FuncId.{FuncId}
+use Rattle.swreq_world.specs.swreq_lowering.Queries.{TermQuery}
+use Rattle.swreq_world.specs.swreq_lowering.Queries.TermAsks.{AsksRequirement}
+use Rattle.swreq_lines.specs.swreq_print.Names.{Text}
+use Rattle.swreq_lines.specs.swreq_print.Reading.{TellsApart}
 use Rattle.swreq_world.specs.Worlds.{TextWorld}
 use Rattle.swreq_world.proofs.Whole.{alike_at}
 use Rattle.swreq_verify.specs.declared.judging.Judgement.{Judgement}
 use Rattle.swreq_verify.specs.declared.judging.Judgement.TheVariants.{Skipped, BadLine, Derived, NotThis}
-use Rattle.swreq_verify.specs.ByTable.{IsFound}
-use Rattle.swreq_verify.specs.Judgements.{Asked, IsDerivationFrom, IsFirstBadFrom, IsJudged, IsToDerive, asked, yes}
+use Rattle.swreq_verify.specs.Found.{IsFound}
+use Rattle.swreq_verify.specs.Judgements.{IsDerivationFrom, IsFirstBadFrom, IsJudged, IsToDerive, yes}
 use Rattle.swreq_verify.specs.Laying.{AreHeaded}
 use Rattle.swreq_verify.specs.Outputs.{AreJudged, IsOutput, judgement_lines}
 use Rattle.swreq_verify.specs.SecondParts.{AreSections, TermSection}
@@ -71,39 +73,39 @@ module _ (w : TextWorld) where
       ]
     ]
 
-  found_one : (a : Asked) (ls : List TermLine) (i j : Judgement) → IsFound w a ls i → IsFound w a ls j → i ≡ j
-  found_one a ls Skipped j h k = absurd h
-  found_one a ls (BadLine n) Skipped h k = absurd k
-  found_one a ls (BadLine n) (BadLine m) h k = ap BadLine (bad_one a.signature ls n m h k)
-  found_one a ls (BadLine n) Derived h k = absurd (none_bad a.signature ls n k.0 h)
-  found_one a ls (BadLine n) NotThis h k = absurd (none_bad a.signature ls n k.0 h)
-  found_one a ls Derived Skipped h k = absurd k
-  found_one a ls Derived (BadLine m) h k = absurd (none_bad a.signature ls m h.0 k)
-  found_one a ls Derived Derived h k = refl
-  found_one a ls Derived NotThis h k = absurd (k.1 h.1)
-  found_one a ls NotThis Skipped h k = absurd k
-  found_one a ls NotThis (BadLine m) h k = absurd (none_bad a.signature ls m h.0 k)
-  found_one a ls NotThis Derived h k = absurd (h.1 k.1)
-  found_one a ls NotThis NotThis h k = refl
+  found_one : (f : FuncId) (r : TermRequirement) (ls : List TermLine) (i j : Judgement) → IsFound w f r ls i → IsFound w f r ls j → i ≡ j
+  found_one f r ls Skipped j h k = absurd h
+  found_one f r ls (BadLine n) Skipped h k = absurd k
+  found_one f r ls (BadLine n) (BadLine m) h k = ap BadLine (bad_one f ls n m h k)
+  found_one f r ls (BadLine n) Derived h k = absurd (none_bad f ls n k.0 h)
+  found_one f r ls (BadLine n) NotThis h k = absurd (none_bad f ls n k.0 h)
+  found_one f r ls Derived Skipped h k = absurd k
+  found_one f r ls Derived (BadLine m) h k = absurd (none_bad f ls m h.0 k)
+  found_one f r ls Derived Derived h k = refl
+  found_one f r ls Derived NotThis h k = absurd (k.1 h.1)
+  found_one f r ls NotThis Skipped h k = absurd k
+  found_one f r ls NotThis (BadLine m) h k = absurd (none_bad f ls m h.0 k)
+  found_one f r ls NotThis Derived h k = absurd (h.1 k.1)
+  found_one f r ls NotThis NotThis h k = refl
 
   -- ---- judgements
 
   module _ (q : TermQuery) (s : TermSection) where
-    asked_one : (a b : Asked) → IsToDerive q s a → IsToDerive q s b → b ≡ a
-    asked_one a b h k = let e : Some b ≡ Some a = sym k.asks ∙ h.asks in cc
+    asked_one : (r p : TermRequirement) → IsToDerive q s r → IsToDerive q s p → p ≡ r
+    asked_one r p h k = let e : AsksRequirement p ≡ AsksRequirement r = sym k.asks ∙ h.asks in cc
 
-    not_skipped : (a : Asked) → IsToDerive q s a → (asked q ≡ None) ⊎ (s.heading ≢ yes) → ⊥
-    not_skipped a d (inl e) = let bad : Some a ≡ None = sym d.asks ∙ e in cc
-    not_skipped a d (inr n) = n d.heading
+    not_skipped : (r : TermRequirement) → IsToDerive q s r → ((p : TermRequirement) → q.asks ≢ AsksRequirement p) ⊎ (s.heading ≢ yes) → ⊥
+    not_skipped r d (inl none) = none r d.asks
+    not_skipped r d (inr n) = n d.heading
 
-    judged_found : (a : Asked) (j : Judgement) → IsToDerive q s a → IsJudged w q s j → IsFound w a s.derivation j
-    judged_found a Skipped d h = not_skipped a d h
-    judged_found a (BadLine n) d (b, k, h) = subst (λ z. IsFound w z s.derivation (BadLine n)) (asked_one a b d k) h
-    judged_found a Derived d (b, k, h, e) = subst (λ z. IsFound w z s.derivation Derived) (asked_one a b d k) (h, e)
-    judged_found a NotThis d (b, k, h, e) = subst (λ z. IsFound w z s.derivation NotThis) (asked_one a b d k) (h, e)
+    judged_found : (r : TermRequirement) (j : Judgement) → IsToDerive q s r → IsJudged w q s j → IsFound w q.f r s.derivation j
+    judged_found r Skipped d h = not_skipped r d h
+    judged_found r (BadLine n) d (p, k, h) = h
+    judged_found r Derived d (p, k, h, e) = subst (λ z. IsFound w q.f z s.derivation Derived) (asked_one r p d k) (h, e)
+    judged_found r NotThis d (p, k, h, e) = subst (λ z. IsFound w q.f z s.derivation NotThis) (asked_one r p d k) (h, e)
 
-    judgement_by : (a : Asked) (i j : Judgement) → IsToDerive q s a → IsJudged w q s i → IsJudged w q s j → i ≡ j
-    judgement_by a i j d h k = found_one a s.derivation i j (judged_found a i d h) (judged_found a j d k)
+    judgement_by : (r : TermRequirement) (i j : Judgement) → IsToDerive q s r → IsJudged w q s i → IsJudged w q s j → i ≡ j
+    judgement_by r i j d h k = found_one q.f r s.derivation i j (judged_found r i d h) (judged_found r j d k)
 
     judgement_one : (i j : Judgement) → IsJudged w q s i → IsJudged w q s j → i ≡ j
     judgement_one Skipped Skipped h k = refl

@@ -3,13 +3,13 @@ use Rattle.std.proofs.Common.{◌≡◌, ◌∙◌, refl, sym, ap, ap₂, subst,
 use Rattle.std.specs.Prelude.{Some, slice_get}
 use Rattle.std.specs.List.{AllByRecursion}
 use Rattle.std.proofs.lemmas.Option.{slice_get_within}
-use Rattle.swreq_derive.specs.Instances.{HasNumber, TermLine}
-use Rattle.swreq_lexicon.specs.Views.{LexiconView}
+use Rattle.swreq_world.specs.swreq_derive.Instances.{HasNumber, TermLine}
+use Rattle.swreq_world.specs.swreq_lexicon.Views.{LexiconView}
 use Rattle.swreq_lines.specs.GoodLines.{AreTextsOf, IsFirstNotGood, IsGood, IsReadableLine}
 use Rattle.swreq_lines.specs.LineTexts.{line_text, texts_from}
 use Rattle.swreq_text.specs.Lines.{lines}
 use Rattle.swreq_text.proofs.Lined.{few_lines}
-use Rattle.swreq_print.specs.Names.{Text}
+use Rattle.swreq_lines.specs.swreq_print.Names.{Text}
 use Rattle.swreq_verify.specs.Laying.{AreHeaded, IsBadUnder, IsFront, IsUnder}
 use Rattle.swreq_verify.specs.SecondParts.{IsHeading}
 

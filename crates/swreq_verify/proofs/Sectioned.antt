@@ -4,17 +4,14 @@ use Rattle.std.specs.Prelude.{replicate}
 use Rattle.std.specs.List.{AllByRecursion, flat_map}
 use Rattle.std.proofs.lemmas.Grind.{flat_map-append}
 use Rattle.std.proofs.lemmas.List.{append-nil, length-replicate, nil_from_length}
-use Rattle.swreq_derive.specs.Instances.{TermLine}
-use Rattle.swreq_lexicon.specs.Views.{LexiconView}
+use Rattle.swreq_world.specs.swreq_derive.Instances.{TermLine}
+use Rattle.swreq_world.proofs.swreq_lemmas.Members.{each_append}
+use Rattle.swreq_world.specs.swreq_lexicon.Views.{LexiconView}
 use Rattle.swreq_lines.specs.GoodLines.{IsReadableLine}
 use Rattle.swreq_lines.specs.LineTexts.{line_text, texts_from}
-use Rattle.swreq_print.specs.Names.{Text}
+use Rattle.swreq_lines.specs.swreq_print.Names.{Text}
 use Rattle.swreq_verify.specs.Laying.{AreHeaded, IsNoSection, IsUnder}
 use Rattle.swreq_verify.specs.SecondParts.{AreSections, Begin, IsFirstMisfit, IsHeading, IsSection, IsStuck, TermSection, section_lines}
-
-pub each_append : {A : Type 0} (P : A → Type 0) (xs ys : List A) → AllByRecursion P xs → AllByRecursion P ys → AllByRecursion P (xs ++ ys)
-each_append P [] ys h k = k
-each_append P (x ∷ xs) ys h k = (h.0, each_append P xs ys h.1 k)
 
 each_replicate : {A : Type 0} (P : A → Type 0) (n : ℕ) (a : A) → P a → AllByRecursion P (replicate n a)
 each_replicate P zero a h = tt

@@ -1,11 +1,11 @@
 -- Sections over a table that grows.
 use Rattle.std.proofs.Common.{◌≡◌, refl, sym, ap, ap₂, subst, List, [], ◌∷◌, map}
 use Rattle.std.specs.List.{AllByRecursion}
-use Rattle.swreq_derive.specs.Instances.{TermLine}
-use Rattle.swreq_lexicon.specs.Views.{LexiconView}
+use Rattle.swreq_world.specs.swreq_derive.Instances.{TermLine}
+use Rattle.swreq_world.specs.swreq_lexicon.Views.{LexiconView}
 use Rattle.swreq_lines.proofs.Grown.{line_ids, lines_still}
-use Rattle.swreq_param.specs.Tables.{Extends}
-use Rattle.swreq_param.specs.Terms.{Term}
+use Rattle.swreq_world.specs.swreq_param.Tables.{Extends}
+use Rattle.swreq_world.specs.swreq_param.Terms.{Term}
 use Rattle.swreq_verify.specs.declared.reading.Section.{Section}
 use Rattle.swreq_verify.specs.Laying.{IsSectionOver, section_of}
 use Rattle.swreq_verify.specs.SecondParts.{IsSection, TermSection}

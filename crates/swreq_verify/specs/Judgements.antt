@@ -1,13 +1,12 @@
 -- What is said of the derivation under a query.
-use Rattle.std.specs.Prelude.{◌≡◌, ◌≢◌, ◌⊎◌, ℕ, List, [], ◌∷◌, ◌++◌, Option, Some, None, codes}
-use Rattle.swreq_derive.specs.Derivation.{TermRequirement, TermStatement}
-use Rattle.swreq_derive.specs.Derivation.TermRequirement.{Conforms, IsAnyObject, Equals}
-use Rattle.swreq_derive.specs.Derivation.TermStatement.{Requires}
-use Rattle.swreq_derive.specs.Facts.{generic_params}
-use Rattle.swreq_derive.specs.Instances.{TermLine, IsDerivation, IsFirstBad}
-use Rattle.swreq_lowering.specs.declared.ids.FuncId.{FuncId}
-use Rattle.swreq_lowering.specs.Queries.{TermQuery}
-use Rattle.swreq_lowering.specs.Queries.TermQuery.{AsksSignature, AsksReduced, AsksConforms, AsksAnyObject, AsksEquals}
+use Rattle.std.specs.Prelude.{◌≡◌, ◌≢◌, ◌⊎◌, ℕ, List, [], ◌∷◌, ◌++◌, codes}
+use Rattle.swreq_world.specs.swreq_derive.Derivation.{TermRequirement, TermStatement}
+use Rattle.swreq_world.specs.swreq_derive.Derivation.TermStatement.{Requires}
+use Rattle.swreq_world.specs.swreq_derive.Facts.{generic_params}
+use Rattle.swreq_world.specs.swreq_derive.Instances.{TermLine, IsDerivation, IsFirstBad}
+use Rattle.swreq_world.specs.swreq_lowering.declared.ids.FuncId.{FuncId}
+use Rattle.swreq_world.specs.swreq_lowering.Queries.{TermQuery}
+use Rattle.swreq_world.specs.swreq_lowering.Queries.TermAsks.{AsksRequirement}
 use Rattle.swreq_world.specs.FactsAt.{facts_of, written_list}
 use Rattle.swreq_world.specs.Worlds.{TextWorld, signature_at}
 use Rattle.swreq_verify.specs.declared.judging.Judgement.{Judgement}
@@ -16,26 +15,13 @@ use Rattle.swreq_verify.specs.SecondParts.{TermSection}
 
 -- ---- what is to be derived
 
--- a requirement, and the signature from whose list it is to follow
-pub record Asked : Type 0 where
-  pub signature : FuncId
-  pub requirement : TermRequirement
-
--- what a query asks; a query of a type or a signature asks for no requirement
-abbrev pub asked : TermQuery → Option Asked
-asked (AsksSignature f) = None
-asked (AsksReduced f t) = None
-asked (AsksConforms f t p) = Some (record { signature = f; requirement = Conforms t p })
-asked (AsksAnyObject f t) = Some (record { signature = f; requirement = IsAnyObject t })
-asked (AsksEquals f t u) = Some (record { signature = f; requirement = Equals t u })
-
 -- the heading over a derivation that is looked at
 abbrev pub yes : List ℕ
 yes = codes "yes"
 
--- The section is to derive this: the query asks it, and the heading is `yes`.
-pub record IsToDerive (q : TermQuery) (s : TermSection) (a : Asked) : Type 0 where
-  pub asks : asked q ≡ Some a
+-- The section is to derive the requirement: the query asks it, and the heading is `yes`.
+pub record IsToDerive (q : TermQuery) (s : TermSection) (r : TermRequirement) : Type 0 where
+  pub asks : q.asks ≡ AsksRequirement r
   pub heading : s.heading ≡ yes
 
 -- There is a last line, and this is its statement.
@@ -56,9 +42,8 @@ module _ (w : TextWorld) where
   -- A section is skipped where the query asks for no requirement, or the heading is not `yes`. Else a bad line is named, the first one; and
   -- where there is none, the derivation ends in the requirement, or not.
   abbrev pub IsJudged : TermQuery → TermSection → Judgement → Type 0
-  IsJudged q s Skipped = (asked q ≡ None) ⊎ (s.heading ≢ yes)
-  IsJudged q s (BadLine n) = (a : Asked) × IsToDerive q s a × IsFirstBadFrom a.signature s.derivation n
-  IsJudged q s Derived =
-      (a : Asked) × IsToDerive q s a × IsDerivationFrom a.signature s.derivation × EndsIn s.derivation (Requires a.requirement)
+  IsJudged q s Skipped = ((r : TermRequirement) → q.asks ≢ AsksRequirement r) ⊎ (s.heading ≢ yes)
+  IsJudged q s (BadLine n) = (r : TermRequirement) × IsToDerive q s r × IsFirstBadFrom q.f s.derivation n
+  IsJudged q s Derived = (r : TermRequirement) × IsToDerive q s r × IsDerivationFrom q.f s.derivation × EndsIn s.derivation (Requires r)
   IsJudged q s NotThis =
-      (a : Asked) × IsToDerive q s a × IsDerivationFrom a.signature s.derivation × (EndsIn s.derivation (Requires a.requirement) → ⊥)
+      (r : TermRequirement) × IsToDerive q s r × IsDerivationFrom q.f s.derivation × (EndsIn s.derivation (Requires r) → ⊥)

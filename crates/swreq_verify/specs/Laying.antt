@@ -1,14 +1,14 @@
 -- How lines are laid against queries: section by section, from the front.
 use Rattle.std.specs.Prelude.{◌≡◌, ◌⊎◌, ◌+◌, ℕ, List, [], ◌∷◌, ◌++◌, Contains, length, map}
 use Rattle.std.specs.List.{AllByRecursion}
-use Rattle.swreq_derive.specs.declared.lines.Line.{Line}
-use Rattle.swreq_derive.specs.Instances.{TermLine}
-use Rattle.swreq_derive.specs.Lines.{line_of}
-use Rattle.swreq_lexicon.specs.Views.{LexiconView}
+use Rattle.swreq_world.specs.swreq_derive.declared.lines.Line.{Line}
+use Rattle.swreq_world.specs.swreq_derive.Instances.{TermLine}
+use Rattle.swreq_world.specs.swreq_derive.Lines.{line_of}
+use Rattle.swreq_world.specs.swreq_lexicon.Views.{LexiconView}
 use Rattle.swreq_lines.specs.GoodLines.{IsReadableLine}
 use Rattle.swreq_lines.specs.LineTexts.{HasLineIds, line_text, texts_from}
-use Rattle.swreq_param.specs.Terms.{Term}
-use Rattle.swreq_print.specs.Names.{Text}
+use Rattle.swreq_world.specs.swreq_param.Terms.{Term}
+use Rattle.swreq_lines.specs.swreq_print.Names.{Text}
 use Rattle.swreq_verify.specs.declared.reading.Section.{Section}
 use Rattle.swreq_verify.specs.SecondParts.{IsHeading, IsSection, TermSection, section_lines}
 

@@ -1,7 +1,7 @@
 pub mod SecondParts
 pub mod Laying
 pub mod Judgements
-pub mod ByTable
+pub mod Found
 pub mod Listing
 pub mod Turns
 pub mod Outputs

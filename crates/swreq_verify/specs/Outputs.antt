@@ -1,9 +1,9 @@
 -- What is printed of the second part of an input.
 use Rattle.std.specs.Prelude.{◌≡◌, ℕ, List, ◌++◌, Some, codes, decimal, length, slice_get}
 use Rattle.std.specs.List.{flat_map}
-use Rattle.swreq_lowering.specs.Queries.{TermQuery}
+use Rattle.swreq_world.specs.swreq_lowering.Queries.{TermQuery}
 use Rattle.swreq_text.specs.Lines.{lines}
-use Rattle.swreq_print.specs.Names.{Text}
+use Rattle.swreq_lines.specs.swreq_print.Names.{Text}
 use Rattle.swreq_world.specs.Worlds.{TextWorld}
 use Rattle.swreq_verify.specs.declared.judging.Judgement.{Judgement}
 use Rattle.swreq_verify.specs.declared.judging.Judgement.TheVariants.{Skipped, BadLine, Derived, NotThis}

@@ -1,11 +1,11 @@
 -- The second part of an input: what stands under the queries of the first.
 use Rattle.std.specs.Prelude.{◌≡◌, ◌≢◌, ◌+◌, ℕ, List, [], ◌∷◌, ◌++◌, length}
 use Rattle.std.specs.List.{AllByRecursion, flat_map}
-use Rattle.swreq_derive.specs.Instances.{TermLine}
-use Rattle.swreq_lexicon.specs.Views.{LexiconView}
+use Rattle.swreq_world.specs.swreq_derive.Instances.{TermLine}
+use Rattle.swreq_world.specs.swreq_lexicon.Views.{LexiconView}
 use Rattle.swreq_lines.specs.GoodLines.{IsReadableLine}
 use Rattle.swreq_lines.specs.LineTexts.{texts_from}
-use Rattle.swreq_print.specs.Names.{Text}
+use Rattle.swreq_lines.specs.swreq_print.Names.{Text}
 
 -- ---- sections
 

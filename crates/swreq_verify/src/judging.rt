@@ -1,28 +1,19 @@
 // What is said of derivations.
-ghost use Rattle.std.specs.Prelude.{◌≡◌, ◌<◌, ◌↔◌, ◌++◌, ◌∷◌, [], IfOk, IfSome, IsTrue, List, MatchOption, length, map};
-ghost use Rattle.std.specs.List.{AllByRecursion};
-ghost use Rattle.swreq_derive.specs.declared.lines.Line.{Line};
-ghost use Rattle.swreq_derive.specs.Derivation.TermStatement.{Requires};
-ghost use Rattle.swreq_derive.specs.Facts.{requirement_of};
-ghost use Rattle.swreq_lowering.specs.ByTable.{query_by};
-ghost use Rattle.swreq_symbols.specs.Known.{IsTextOver};
-ghost use Rattle.swreq_world.specs.ByTable.{world_by};
+ghost use Rattle.std.specs.{Prelude.{◌≡◌, ◌<◌, ◌↔◌, ◌++◌, ◌∷◌, [], IfOk, IfSome, IsTrue, List, MatchOption, length, map}, List.{AllByRecursion}};
+ghost use Rattle.swreq_world.specs.swreq_derive.{declared.lines.Line.{Line}, Derivation.TermStatement.{Requires}, Facts.{requirement_of}};
+ghost use Rattle.swreq_world.specs.swreq_lowering.ByTable.{query_by};
+ghost use Rattle.swreq_symbols.specs.{Known.{IsQueryIn, IsRequirementIn}, Texts.{BelongTogether, world_of}};
 ghost use Rattle.swreq_world.specs.Worlds.{signature_at};
-ghost use Rattle.swreq_verify.specs.ByTable.{IsFound, IsQueryOver, IsQuestionOver, asked_by};
-ghost use Rattle.swreq_verify.specs.Judgements.{EndsIn, IsJudged};
-ghost use Rattle.swreq_verify.specs.Laying.{IsSectionOver, section_of};
-ghost use Rattle.swreq_verify.specs.Listing.{IsListOf};
-ghost use Rattle.swreq_verify.specs.Outputs.{AreJudged, IsSaidAt};
+ghost use Rattle.swreq_verify.specs.{Found.{IsFound}, Judgements.{EndsIn, IsJudged}, Laying.{IsSectionOver, section_of}, Listing.{IsListOf}, Outputs.{AreJudged, IsSaidAt}};
 
-use crate::asking::{Question, question_of};
 use crate::listing::{Listed, list_of};
 use crate::reading::Section;
 use crate::turns::turns_of;
 use std::alloc::{AllocError, Global};
-use swreq_derive::{Line, Requirement, Statement, check};
-use swreq_lowering::Query;
-use swreq_param::ParamTable;
-use swreq_world::{FunctionFacts, World};
+use swreq_symbols::Text;
+use swreq_world::FunctionFacts;
+use swreq_world::derive::{Line, Requirement, Statement, check};
+use swreq_world::lowering::{Asks, FuncId, Query};
 
 /// What is said of the derivation under a query.
 #[derive(Clone, Copy, Debug, PartialEq, Eq)]
@@ -56,47 +47,44 @@ fn is_same(a: Statement, b: Statement) -> bool
     a == b
 }
 
-/// Whether there is a last line, and its statement is what is asked.
-fn ends_in(world: &World, table: &ParamTable, asked: Question, section: &Section) -> bool
-    requires asked { IsQuestionOver table.now world.now asked }
-    requires section { IsSectionOver world.now.lexicon table.now section.now }
-    ensures { IsTrue result ↔ EndsIn (section_of table.now section.now).derivation
-        (Requires (requirement_of table.now asked.requirement)) }
+/// Whether there is a last line, and its statement is that the requirement holds.
+fn ends_in(text: &Text<'_>, r: Requirement, section: &Section) -> bool
+    requires text { BelongTogether text.now }
+    requires r { IsRequirementIn text.now.table.now text.now.world.now.lexicon r }
+    requires section { IsSectionOver text.now.world.now.lexicon text.now.table.now section.now }
+    ensures { IsTrue result ↔ EndsIn (section_of text.now.table.now section.now).derivation
+        (Requires (requirement_of text.now.table.now r)) }
 {
     // Where two type parameters are equal, so are their ids.
-    let _count = table.len();
+    let _count = text.table.len();
     match last_statement(&section.derivation) {
         None => false,
-        Some(last) => is_same(
-            last,
-            Statement::Holds {
-                r: asked.requirement,
-            },
-        ),
+        Some(last) => is_same(last, Statement::Holds { r }),
     }
 }
 
-/// What is said of a derivation that is to answer the question, from the list of its signature.
+/// What is said of lines that are to derive the requirement from the list of the signature.
 fn judge(
-    world: &World,
-    table: &ParamTable,
+    text: &Text<'_>,
     list: &[Requirement],
-    asked: Question,
+    f: FuncId,
+    r: Requirement,
     section: &Section,
 ) -> Judgement
-    requires text { IsTextOver table.now world.now }
-    requires asked { IsQuestionOver table.now world.now asked }
+    requires text { BelongTogether text.now }
+    requires f { f.place < length text.now.world.now.signatures }
+    requires r { IsRequirementIn text.now.table.now text.now.world.now.lexicon r }
     requires list { list.now
-        ≡ map (λ r. r.requirement) (signature_at world.now asked.signature).requirements }
-    requires section { IsSectionOver world.now.lexicon table.now section.now }
-    ensures { IsFound (world_by table.now world.now) (asked_by table.now asked)
-        (section_of table.now section.now).derivation result }
+        ≡ map (λ r. r.requirement) (signature_at text.now.world.now f).requirements }
+    requires section { IsSectionOver text.now.world.now.lexicon text.now.table.now section.now }
+    ensures { IsFound (world_of text.now) f (requirement_of text.now.table.now r)
+        (section_of text.now.table.now section.now).derivation result }
 {
-    let facts = FunctionFacts::of(world, asked.signature, list);
-    match check(&facts, table, &section.derivation) {
+    let facts = FunctionFacts::of(text.world, f, list);
+    match check(&facts, text.table, &section.derivation) {
         Err(bad) => Judgement::BadLine { line: bad.line },
         Ok(()) => {
-            if ends_in(world, table, asked, section) {
+            if ends_in(text, r, section) {
                 Judgement::Derived
             } else {
                 Judgement::NotThis
@@ -112,26 +100,27 @@ struct Said {
     kept: Option<Listed>,
 }
 
-/// What is said of a section whose heading is `yes`.
+/// What is said of a section whose heading is `yes`, under a query of a requirement.
 fn answer(
     alloc: Global,
-    world: &World,
-    table: &ParamTable,
-    asked: Question,
+    text: &Text<'_>,
+    f: FuncId,
+    r: Requirement,
     section: &Section,
     kept: Option<Listed>,
 ) -> Result<Said, AllocError>
-    requires text { IsTextOver table.now world.now }
-    requires asked { IsQuestionOver table.now world.now asked }
-    requires section { IsSectionOver world.now.lexicon table.now section.now }
-    requires kept { IfSome kept (IsListOf world.now) }
+    requires text { BelongTogether text.now }
+    requires f { f.place < length text.now.world.now.signatures }
+    requires r { IsRequirementIn text.now.table.now text.now.world.now.lexicon r }
+    requires section { IsSectionOver text.now.world.now.lexicon text.now.table.now section.now }
+    requires kept { IfSome kept (IsListOf text.now.world.now) }
     ensures said { IfOk result (λ s.
-        IsFound (world_by table.now world.now) (asked_by table.now asked)
-        (section_of table.now section.now).derivation s.judgement) }
-    ensures kept { IfOk result (λ s. IfSome s.kept (IsListOf world.now)) }
+        IsFound (world_of text.now) f (requirement_of text.now.table.now r)
+        (section_of text.now.table.now section.now).derivation s.judgement) }
+    ensures kept { IfOk result (λ s. IfSome s.kept (IsListOf text.now.world.now)) }
 {
-    let of = list_of(alloc, world, kept, asked.signature)?;
-    let judgement = judge(world, table, &of.list, asked, section);
+    let of = list_of(alloc, text.world, kept, f)?;
+    let judgement = judge(text, &of.list, f, r, section);
     Ok(Said {
         judgement,
         kept: Some(of),
@@ -141,29 +130,28 @@ fn answer(
 /// What is said of the section under a query.
 fn judgement_of(
     alloc: Global,
-    world: &World,
-    table: &ParamTable,
+    text: &Text<'_>,
     query: Query,
     section: &Section,
     kept: Option<Listed>,
 ) -> Result<Said, AllocError>
-    requires text { IsTextOver table.now world.now }
-    requires query { IsQueryOver table.now world.now query }
-    requires section { IsSectionOver world.now.lexicon table.now section.now }
-    requires kept { IfSome kept (IsListOf world.now) }
+    requires text { BelongTogether text.now }
+    requires query { IsQueryIn text.now.table.now text.now.world.now query }
+    requires section { IsSectionOver text.now.world.now.lexicon text.now.table.now section.now }
+    requires kept { IfSome kept (IsListOf text.now.world.now) }
     ensures said { IfOk result (λ s.
-        IsJudged (world_by table.now world.now) (query_by table.now query)
-        (section_of table.now section.now) s.judgement) }
-    ensures kept { IfOk result (λ s. IfSome s.kept (IsListOf world.now)) }
+        IsJudged (world_of text.now) (query_by text.now.table.now query)
+        (section_of text.now.table.now section.now) s.judgement) }
+    ensures kept { IfOk result (λ s. IfSome s.kept (IsListOf text.now.world.now)) }
 {
-    match question_of(query) {
-        None => Ok(Said {
+    match query.asks {
+        Asks::Signature | Asks::Reduced(_) => Ok(Said {
             judgement: Judgement::Skipped,
             kept,
         }),
-        Some(asked) => {
+        Asks::Requirement(r) => {
             if section.heading == b"yes".as_slice() {
-                answer(alloc, world, table, asked, section, kept)
+                answer(alloc, text, query.f, r, section, kept)
             } else {
                 Ok(Said {
                     judgement: Judgement::Skipped,
@@ -177,47 +165,47 @@ fn judgement_of(
 /// What is said of the section under the query at this place.
 fn judgement_at(
     alloc: Global,
-    world: &World,
-    table: &ParamTable,
+    text: &Text<'_>,
     sections: &[Section],
     k: usize,
     kept: Option<Listed>,
 ) -> Result<Said, AllocError>
-    requires text { IsTextOver table.now world.now }
-    requires count { length sections.now ≡ length world.now.queries }
-    requires each { AllByRecursion (IsSectionOver world.now.lexicon table.now) sections.now }
-    requires k { k < length world.now.queries }
-    requires kept { IfSome kept (IsListOf world.now) }
-    ensures said { IfOk result (λ s. IsSaidAt (world_by table.now world.now)
-        (map (section_of table.now) sections.now) k s.judgement) }
-    ensures kept { IfOk result (λ s. IfSome s.kept (IsListOf world.now)) }
+    requires text { BelongTogether text.now }
+    requires count { length sections.now ≡ length text.now.world.now.queries }
+    requires each { AllByRecursion (IsSectionOver text.now.world.now.lexicon text.now.table.now)
+        sections.now }
+    requires k { k < length text.now.world.now.queries }
+    requires kept { IfSome kept (IsListOf text.now.world.now) }
+    ensures said { IfOk result (λ s. IsSaidAt (world_of text.now)
+        (map (section_of text.now.table.now) sections.now) k s.judgement) }
+    ensures kept { IfOk result (λ s. IfSome s.kept (IsListOf text.now.world.now)) }
 {
-    let queries = world.queries();
+    let queries = text.world.queries();
     let query = queries[k];
     let section = &sections[k];
-    judgement_of(alloc, world, table, query, section, kept)
+    judgement_of(alloc, text, query, section, kept)
 }
 
 /// What is said of the section under each query. Queries on one signature are judged one after the other, so that its list is made once.
 pub(crate) fn judgements(
     alloc: Global,
-    world: &World,
-    table: &ParamTable,
+    text: &Text<'_>,
     sections: &[Section],
 ) -> Result<Vec<Judgement>, AllocError>
-    requires text { IsTextOver table.now world.now }
-    requires count { length sections.now ≡ length world.now.queries }
-    requires each { AllByRecursion (IsSectionOver world.now.lexicon table.now) sections.now }
-    ensures { IfOk result (λ v. AreJudged (world_by table.now world.now)
-        (map (section_of table.now) sections.now) v.items) }
+    requires text { BelongTogether text.now }
+    requires count { length sections.now ≡ length text.now.world.now.queries }
+    requires each { AllByRecursion (IsSectionOver text.now.world.now.lexicon text.now.table.now)
+        sections.now }
+    ensures { IfOk result (λ v. AreJudged (world_of text.now)
+        (map (section_of text.now.table.now) sections.now) v.items) }
 {
-    let queries = world.queries();
+    let queries = text.world.queries();
     let turns = turns_of(alloc, queries)?;
     let mut found = vec![in alloc; Judgement::Skipped; queries.len()]?;
     let mut kept = None;
     for n in 0..turns.len() {
         let turn = turns[n];
-        let said = judgement_at(alloc, world, table, sections, turn.query, kept)?;
+        let said = judgement_at(alloc, text, sections, turn.query, kept)?;
         kept = said.kept;
         found[turn.query] = said.judgement;
     }

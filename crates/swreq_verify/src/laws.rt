@@ -1,24 +1,18 @@
 //! What is said by an output, over the definitions alone.
 ghost use Rattle.std.specs.Prelude.{◌≡◌, ℕ, List};
-ghost use Rattle.swreq_derive.specs.Derivation.{BookDerivable};
-ghost use Rattle.swreq_derive.specs.Derivation.TermStatement.{Requires};
-ghost use Rattle.swreq_lexicon.specs.Views.{LexiconView};
-ghost use Rattle.swreq_lowering.specs.Queries.{TermQuery};
-ghost use Rattle.swreq_print.specs.Names.{Text};
-ghost use Rattle.swreq_print.specs.Reading.{TellsApart};
-ghost use Rattle.swreq_world.specs.FactsAt.{facts_of, source_of};
-ghost use Rattle.swreq_world.specs.Worlds.{TextWorld, signature_at};
-ghost use Rattle.swreq_verify.specs.declared.judging.Judgement.TheVariants.{Derived};
-ghost use Rattle.swreq_verify.specs.Judgements.{Asked, IsJudged, IsToDerive};
-ghost use Rattle.swreq_verify.specs.Outputs.{IsOutput};
-ghost use Rattle.swreq_verify.specs.SecondParts.{AreSections, IsFirstMisfit, TermSection};
+ghost use Rattle.swreq_world.specs.swreq_derive.{Derivation.{BookDerivable, TermRequirement}, Derivation.TermStatement.{Requires}};
+ghost use Rattle.swreq_world.specs.swreq_lexicon.Views.{LexiconView};
+ghost use Rattle.swreq_world.specs.swreq_lowering.Queries.{TermQuery};
+ghost use Rattle.swreq_lines.specs.swreq_print.{Names.{Text}, Reading.{TellsApart}};
+ghost use Rattle.swreq_world.specs.{FactsAt.{facts_of, source_of}, Worlds.{TextWorld, signature_at}};
+ghost use Rattle.swreq_verify.specs.{declared.judging.Judgement.TheVariants.{Derived}, Judgements.{IsJudged, IsToDerive}, Outputs.{IsOutput}, SecondParts.{AreSections, IsFirstMisfit, TermSection}};
 
 /// `ok` says that the requirement that the query asks is derivable by the book's rules from the written list of its signature: the
 /// lines under the query are such a derivation.
 pub fn ok_says_derivable()
     ensures { (w : TextWorld) (q : TermQuery) (s : TermSection) → IsJudged w q s Derived
-        → (a : Asked) × IsToDerive q s a × BookDerivable (facts_of w)
-        (source_of (signature_at w a.signature)) (Requires a.requirement) }
+        → (r : TermRequirement) × IsToDerive q s r × BookDerivable (facts_of w)
+        (source_of (signature_at w q.f)) (Requires r) }
 {}
 
 /// Where a first line does not fit, the lines are no such sections.

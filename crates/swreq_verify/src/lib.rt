@@ -1,7 +1,6 @@
 //! The second part of an input: derivations that are laid against the queries of a text, and judged by the checker of derivations alone.
 #![tactic(auto)]
 
-mod asking;
 mod judging;
 pub mod laws;
 mod listing;

@@ -3,9 +3,9 @@ ghost use Rattle.std.specs.Prelude.{◌≡◌, ◌<◌, IfOk, IfSome, length};
 ghost use Rattle.swreq_verify.specs.Listing.{IsListOf};
 
 use std::alloc::{AllocError, Global};
-use swreq_derive::Requirement;
-use swreq_lowering::FuncId;
 use swreq_world::World;
+use swreq_world::derive::Requirement;
+use swreq_world::lowering::FuncId;
 
 /// A signature and its list.
 #[derive(Drop)]

@@ -1,20 +1,18 @@
 // The sections of the second part of an input.
-ghost use Rattle.std.specs.Prelude.{◌≡◌, ◌∷◌, ◌+◌, ◌^◌, ◌<◌, ◌≤◌, ℕ, IfOk, length, map};
-ghost use Rattle.std.specs.List.{AllByRecursion};
+ghost use Rattle.std.specs.{Prelude.{◌≡◌, ◌∷◌, ◌+◌, ◌^◌, ◌<◌, ◌≤◌, ℕ, IfOk, length, map}, List.{AllByRecursion}};
 ghost use Rattle.swreq_lines.specs.declared.lines.LinesErr.TheVariants.{Memory, Syntax};
-ghost use Rattle.swreq_param.specs.Tables.{Extends};
+ghost use Rattle.swreq_world.specs.swreq_param.Tables.{Extends};
 ghost use Rattle.swreq_text.specs.Lines.{lines};
-ghost use Rattle.swreq_print.specs.Reading.{TellsApart};
-ghost use Rattle.swreq_verify.specs.Laying.{IsFront, IsNoSection, IsSectionOver, section_of};
-ghost use Rattle.swreq_verify.specs.SecondParts.{AreSections, IsFirstMisfit, IsHeading};
+ghost use Rattle.swreq_lines.specs.swreq_print.Reading.{TellsApart};
+ghost use Rattle.swreq_verify.specs.{Laying.{IsFront, IsNoSection, IsSectionOver, section_of}, SecondParts.{AreSections, IsFirstMisfit, IsHeading}};
 
 use crate::sections::{cut_body, is_heading};
 use std::alloc::Global;
-use swreq_derive::Line;
-use swreq_lexicon::Lexicon;
 use swreq_lines::{LinesErr, read_lines};
-use swreq_param::ParamTable;
 use swreq_text::first_line;
+use swreq_world::derive::Line;
+use swreq_world::lexicon::Lexicon;
+use swreq_world::param::ParamTable;
 
 /// What stands under a query: a heading, and the lines of a derivation.
 #[derive(Drop)]

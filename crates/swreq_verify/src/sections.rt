@@ -1,9 +1,7 @@
 // The lines under a query, as bytes.
-ghost use Rattle.std.specs.Prelude.{◌≡◌, ◌++◌, ◌≤◌, ◌↔◌, IsTrue, length};
-ghost use Rattle.std.specs.List.{AllByRecursion};
+ghost use Rattle.std.specs.{Prelude.{◌≡◌, ◌++◌, ◌≤◌, ◌↔◌, IsTrue, length}, List.{AllByRecursion}};
 ghost use Rattle.swreq_text.specs.Lines.{lines};
-ghost use Rattle.swreq_verify.specs.Laying.{AreHeaded, IsUnder};
-ghost use Rattle.swreq_verify.specs.SecondParts.{IsHeading};
+ghost use Rattle.swreq_verify.specs.{Laying.{AreHeaded, IsUnder}, SecondParts.{IsHeading}};
 
 use swreq_text::first_line;
 

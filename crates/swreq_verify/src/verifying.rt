@@ -1,45 +1,43 @@
 // The second part of an input, read and judged.
-ghost use Rattle.std.specs.Prelude.{◌≡◌, ◌≤◌, ℕ, OnErr, OnOk, length, map};
-ghost use Rattle.std.specs.List.{AllByRecursion};
+ghost use Rattle.std.specs.{Prelude.{◌≡◌, ◌≤◌, ℕ, OnErr, OnOk, length, map}, List.{AllByRecursion}};
 ghost use Rattle.swreq_lines.specs.declared.lines.LinesErr.TheVariants.{Syntax};
-ghost use Rattle.swreq_param.specs.Tables.{Extends};
+ghost use Rattle.swreq_world.specs.swreq_param.Tables.{Extends};
 ghost use Rattle.swreq_text.specs.Lines.{lines};
-ghost use Rattle.swreq_print.specs.Reading.{TellsApart};
-ghost use Rattle.swreq_symbols.specs.Known.{IsTextOver};
+ghost use Rattle.swreq_lines.specs.swreq_print.Reading.{TellsApart};
+ghost use Rattle.swreq_symbols.specs.{Known.{IsTextOver}, Texts.{BelongTogether, world_of}};
 ghost use Rattle.swreq_world.specs.ByTable.{world_by};
-ghost use Rattle.swreq_verify.specs.Laying.{IsSectionOver, section_of};
-ghost use Rattle.swreq_verify.specs.Outputs.{AppendsJudgements, AppendsOutput};
-ghost use Rattle.swreq_verify.specs.SecondParts.{IsFirstMisfit};
+ghost use Rattle.swreq_verify.specs.{Laying.{IsSectionOver, section_of}, Outputs.{AppendsJudgements, AppendsOutput}, SecondParts.{IsFirstMisfit}};
 
 use crate::judging::judgements;
 use crate::printing::put_lines;
 use crate::reading::{Section, read_sections};
 use std::alloc::{AllocError, Global};
 use swreq_lines::LinesErr;
-use swreq_param::ParamTable;
+use swreq_symbols::Text;
 use swreq_text::append_bytes;
 use swreq_world::World;
+use swreq_world::param::ParamTable;
 
 /// Appends a line for the section under each query.
 fn append_judgements(
     alloc: Global,
-    world: &World,
-    table: &ParamTable,
+    text: &Text<'_>,
     sections: &[Section],
     out: &mut Vec<u8>,
 ) -> Result<(), AllocError>
-    requires text { IsTextOver table.now world.now }
-    requires count { length sections.now ≡ length world.now.queries }
-    requires each { AllByRecursion (IsSectionOver world.now.lexicon table.now) sections.now }
+    requires text { BelongTogether text.now }
+    requires count { length sections.now ≡ length text.now.world.now.queries }
+    requires each { AllByRecursion (IsSectionOver text.now.world.now.lexicon text.now.table.now)
+        sections.now }
     ensures ok { OnOk result
-        (AppendsJudgements (world_by table.now world.now)
-        (map (section_of table.now) sections.now) out.old.items out.new.items) }
+        (AppendsJudgements (world_of text.now)
+        (map (section_of text.now.table.now) sections.now) out.old.items out.new.items) }
     ensures err { OnErr result (out.new.items ≡ out.old.items) }
 {
-    let found = judgements(alloc, world, table, sections)?;
-    let mut text = Vec::new(alloc);
-    put_lines(&found, &mut text)?;
-    append_bytes(out, &text)
+    let found = judgements(alloc, text, sections)?;
+    let mut lines = Vec::new(alloc);
+    put_lines(&found, &mut lines)?;
+    append_bytes(out, &lines)
 }
 
 /// Lays the second part of an input against the queries of the world, and appends what is said of the derivation under each query.
@@ -66,6 +64,6 @@ pub fn verify(
 {
     let count = world.queries().len();
     let sections = read_sections(alloc, world.lexicon(), table, count, text)?;
-    append_judgements(alloc, world, table, &sections, out)?;
+    append_judgements(alloc, &Text { world, table }, &sections, out)?;
     Ok(())
 }

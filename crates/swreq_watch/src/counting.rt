@@ -1,8 +1,7 @@
 //! The watcher that counts the rules born.
 
 ghost use Rattle.std.specs.Prelude.{◌≡◌, Ok};
-ghost use Rattle.swreq_watch.specs.Counted.{counted};
-ghost use Rattle.swreq_watch.specs.Told.{untold};
+ghost use Rattle.swreq_watch.specs.{Counted.{counted}, Told.{untold}};
 
 use crate::{Event, Watch};
 use std::alloc::AllocError;

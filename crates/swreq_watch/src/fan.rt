@@ -57,8 +57,7 @@ impl Fan {
 
 impl Watch for Fan {
     ghost use Rattle.std.specs.Prelude.{[], ◌∷◌, map, OnErr, OnOk};
-    ghost use Rattle.swreq_watch.specs.Fan.{members};
-    ghost use Rattle.swreq_watch.specs.Told.{EachGrewBy, GrewUpToOne, untold};
+    ghost use Rattle.swreq_watch.specs.{Fan.{members}, Told.{EachGrewBy, GrewUpToOne, untold}};
 
     ghost told = { λ _. untold };
 

@@ -1,9 +1,7 @@
 //! Which watchers tell their list, over the definitions alone.
 
 ghost use Rattle.std.specs.Prelude.{◌≡◌, ℕ, List, Some};
-ghost use Rattle.swreq_watch.specs.declared.events.Event.{Event};
-ghost use Rattle.swreq_watch.specs.declared.watching.Quiet.{Quiet};
-ghost use Rattle.swreq_watch.specs.Told.{untold};
+ghost use Rattle.swreq_watch.specs.{declared.events.Event.{Event}, declared.watching.Quiet.{Quiet}, Told.{untold}};
 
 use crate::{Counter, Fan, Quiet, Recorder, Watch};
 

@@ -1,8 +1,7 @@
 //! The trait of watchers, and the watcher that does nothing.
 
 ghost use Rattle.std.specs.Prelude.{◌≡◌, List, ◌∷◌, [], Option, Ok, OnErr, OnOk};
-ghost use Rattle.swreq_watch.specs.declared.events.Event.{Event};
-ghost use Rattle.swreq_watch.specs.Told.{GrewBy, untold};
+ghost use Rattle.swreq_watch.specs.{declared.events.Event.{Event}, Told.{GrewBy, untold}};
 
 use crate::Event;
 use std::alloc::AllocError;

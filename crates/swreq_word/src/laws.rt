@@ -1,10 +1,8 @@
 //! The laws of the orders of symbols and words, over the definitions alone.
 
-ghost use Rattle.std.specs.Prelude.{◌≡◌, ℕ, ◌+◌, ◌++◌, List};
-ghost use Rattle.std.specs.Cmp.{IsTotalOrder};
+ghost use Rattle.std.specs.{Prelude.{◌≡◌, ℕ, ◌+◌, ◌++◌, List}, Cmp.{IsTotalOrder}};
 ghost use Rattle.std.proofs.lemmas.Map.Lookups.{CmpEqualImpliesEq};
-ghost use Rattle.swreq_word.specs.declared.symbols.Symbol.{Symbol};
-ghost use Rattle.swreq_word.specs.Order.{WordLess, symbol_cmp, word_cmp};
+ghost use Rattle.swreq_word.specs.{declared.symbols.Symbol.{Symbol}, Order.{WordLess, symbol_cmp, word_cmp}};
 ghost use Rattle.swreq_lemmas.specs.WellFounded.{IsWellFounded};
 
 use crate::Symbol;

@@ -1,13 +1,11 @@
 //! Words, and their order.
 
-ghost use Rattle.std.specs.Prelude.{◌≡◌};
-ghost use Rattle.std.specs.Bool.{Decides};
+ghost use Rattle.std.specs.{Prelude.{◌≡◌}, Bool.{Decides}};
 ghost use Rattle.std.specs.Cmp as cmps;
 ghost use Rattle.std.specs.Hash as fed;
 ghost use Rattle.std.specs.Ordering.{as_partial_cmp, eq_by_cmp};
 ghost use Rattle.std.proofs.Common.{refl, ap};
-ghost use Rattle.swreq_word.specs.Order.{word_cmp};
-ghost use Rattle.swreq_word.specs.OrderLaws.{word_equal, word_equivalence, word_partial, word_total};
+ghost use Rattle.swreq_word.specs.{Order.{word_cmp}, OrderLaws.{word_equal, word_equivalence, word_partial, word_total}};
 
 use crate::Symbol;
 use std::alloc::AllocError;

@@ -1,10 +1,7 @@
 //! The commands, and what the words say.
 
-ghost use Rattle.std.specs.Prelude.{◌≡◌};
-ghost use Rattle.std.specs.List.{find};
-ghost use Rattle.std.specs.Str.{bytes_eq};
-ghost use Rattle.swreq_words.specs.Commands.{follows, input, word_of};
-ghost use Rattle.swreq_words.specs.Reading.{name_of};
+ghost use Rattle.std.specs.{Prelude.{◌≡◌}, List.{find}, Str.{bytes_eq}};
+ghost use Rattle.swreq_words.specs.{Commands.{follows, input, word_of}, Reading.{name_of}};
 
 /// What is to be done.
 #[derive(Clone, Copy, Debug, PartialEq, Eq)]

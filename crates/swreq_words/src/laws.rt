@@ -2,9 +2,7 @@
 
 ghost use Rattle.std.specs.Prelude.{◌≡◌, ◌≤◌, List, ℕ, true};
 ghost use Rattle.clap.specs.Words.{takes};
-ghost use Rattle.swreq_words.specs.declared.command.CommandLine.{CommandLine};
-ghost use Rattle.swreq_words.specs.Form.{Says};
-ghost use Rattle.swreq_words.specs.Taken.{genreq};
+ghost use Rattle.swreq_words.specs.{declared.command.CommandLine.{CommandLine}, Form.{Says}, Taken.{genreq}};
 
 /// Words say at most one command line.
 pub fn one_command_line()

@@ -1,8 +1,7 @@
 //! The limits that options set, and the number of a command.
 
 ghost use Rattle.std.specs.Prelude.{◌≡◌};
-ghost use Rattle.swreq_words.specs.Form.{greatest, limit_name, option_word, preset};
-ghost use Rattle.swreq_words.specs.Reading.{front_of};
+ghost use Rattle.swreq_words.specs.{Form.{greatest, limit_name, option_word, preset}, Reading.{front_of}};
 
 /// The greatest number of a command that takes one.
 pub(crate) const GREATEST_COUNT: u32 = 100;

@@ -1,8 +1,7 @@
 //! What a word is if no limit waits for its number.
 
 ghost use Rattle.std.specs.Prelude.{◌≡◌, option_map};
-ghost use Rattle.swreq_words.specs.Meant.{meant};
-ghost use Rattle.swreq_words.specs.Reading.{after, meaning_of, meaning_of_one};
+ghost use Rattle.swreq_words.specs.{Meant.{meant}, Reading.{after, meaning_of, meaning_of_one}};
 
 use crate::limits::Limit;
 

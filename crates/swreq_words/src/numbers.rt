@@ -1,9 +1,6 @@
 //! The numbers of the words.
 
-ghost use Rattle.std.specs.Prelude.{◌≡◌, true};
-ghost use Rattle.std.specs.Char.{is_ascii_digit};
-ghost use Rattle.std.specs.List.{list_all};
-ghost use Rattle.std.specs.Str.Parse.{digits_value};
+ghost use Rattle.std.specs.{Prelude.{◌≡◌, true}, Char.{is_ascii_digit}, List.{list_all}, Str.Parse.{digits_value}};
 ghost use Rattle.swreq_words.specs.Numbers.{are_few_digits, is_number, number_of};
 
 fn are_digits(bytes: &[u8]) -> bool

@@ -1,10 +1,8 @@
 //! The command of `clap`, and the command line that is read off its matches.
 
 ghost use Rattle.std.specs.Prelude.{◌≡◌, List, Option, Some, true, false, IfErr, IfOk, map, string_bytes, option_map, codes};
-ghost use Rattle.clap.specs.Words.{app_of, kind_of, takes, rows_of, found_of, first_of, one_of, subcommand_rows_of, subcommand_of, with_rule};
-ghost use Rattle.clap.specs.declared.builder.command.Command.TheViews.{out-Command};
-ghost use Rattle.swreq_words.specs.Taken.{bare, genreq, leaf_of, limit_rule, number_rule, trace_rule, with_leaf, with_options, with_parts};
-ghost use Rattle.swreq_words.specs.Found.{count_found, is_true, limit_found, line_found, line_of};
+ghost use Rattle.clap.specs.{Words.{app_of, kind_of, takes, rows_of, found_of, first_of, one_of, subcommand_rows_of, subcommand_of, with_rule}, declared.builder.command.Command.TheViews.{out-Command}};
+ghost use Rattle.swreq_words.specs.{Taken.{bare, genreq, leaf_of, limit_rule, number_rule, trace_rule, with_leaf, with_options, with_parts}, Found.{count_found, is_true, limit_found, line_found, line_of}};
 
 use crate::command::{COMMANDS, Command, CommandLine, Follows};
 use crate::limits::{Limit, PRESET_COUNT};

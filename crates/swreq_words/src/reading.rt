@@ -1,8 +1,7 @@
 //! The words as a command line.
 
 ghost use Rattle.std.specs.Prelude.{◌≡◌, ◌↔◌, Err, IfOk, map, string_bytes};
-ghost use Rattle.swreq_words.specs.declared.command.CommandLine.{CommandLine};
-ghost use Rattle.swreq_words.specs.Form.{Says};
+ghost use Rattle.swreq_words.specs.{declared.command.CommandLine.{CommandLine}, Form.{Says}};
 
 use crate::command::CommandLine;
 use crate::form::has_form;

@@ -1,9 +1,7 @@
 //! What the words after the first have set so far.
 
 ghost use Rattle.std.specs.Prelude.{◌≡◌};
-ghost use Rattle.swreq_words.specs.Meant.{meant};
-ghost use Rattle.swreq_words.specs.Form.{takes_number};
-ghost use Rattle.swreq_words.specs.Reading.{if_new, is_done, nothing_seen, with_limit, with_meaning, with_next, with_number, with_word};
+ghost use Rattle.swreq_words.specs.{Meant.{meant}, Form.{takes_number}, Reading.{if_new, is_done, nothing_seen, with_limit, with_meaning, with_next, with_number, with_word}};
 
 use crate::command::Follows;
 use crate::limits::{GREATEST_COUNT, Limit};

@@ -5,12 +5,12 @@ use Rattle.std.proofs.lemmas.List.{map-append, take_all}
 use Rattle.std.proofs.lemmas.List.Sums.{prefix_len-le-length}
 use Rattle.std.specs.List.{prefix_len}
 use Rattle.std.specs.Option.{option_map}
-use Rattle.swreq_decl.specs.declared.skeleton.FunctionDecl.{FunctionDecl}
-use Rattle.swreq_decl.specs.declared.skeleton.Skeleton.{Skeleton}
-use Rattle.swreq_decl.specs.declared.skeleton.StructDecl.{StructDecl}
-use Rattle.swreq_decl.specs.Signatures as declared
-use Rattle.swreq_decl.specs.Signatures.{of_struct, of_inner, of_function, with_functions, stands_before}
-use Rattle.swreq_names.specs.declared.signature.Signature.{Signature}
+use Rattle.swreq_lexicon.specs.swreq_decl.declared.skeleton.FunctionDecl.{FunctionDecl}
+use Rattle.swreq_lexicon.specs.swreq_decl.declared.skeleton.Skeleton.{Skeleton}
+use Rattle.swreq_lexicon.specs.swreq_decl.declared.skeleton.StructDecl.{StructDecl}
+use Rattle.swreq_lexicon.specs.swreq_decl.Signatures as declared
+use Rattle.swreq_lexicon.specs.swreq_decl.Signatures.{of_struct, of_inner, of_function, with_functions, stands_before}
+use Rattle.swreq_lexicon.specs.swreq_names.declared.signature.Signature.{Signature}
 use Rattle.swreq_lowering.specs.Signatures.{nested_from, functions_from, with_nested, merged_from, in_order}
 use Rattle.swreq_world.specs.Declarations.{nested_declaration, declaration_of, HasSignature}
 use Rattle.swreq_world.proofs.Everywhere.{mapped_from, stands_mapped}

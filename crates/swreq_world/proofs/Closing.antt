@@ -7,21 +7,21 @@ use Rattle.std.specs.Cmp.{IsTotalOrder}
 use Rattle.std.specs.List.{All, IsDistinct}
 use Rattle.std.specs.Ordering.{nat_cmp, then_cmp, on}
 use Rattle.std.specs.Str.{bytes_eq}
-use Rattle.swreq_decl.specs.declared.skeleton.AssocDecl.{AssocDecl}
-use Rattle.swreq_decl.specs.declared.skeleton.Skeleton.{Skeleton}
+use Rattle.swreq_lexicon.specs.swreq_decl.declared.skeleton.AssocDecl.{AssocDecl}
+use Rattle.swreq_lexicon.specs.swreq_decl.declared.skeleton.Skeleton.{Skeleton}
 use Rattle.swreq_resolve.specs.Resolving.{Resolve}
-use Rattle.swreq_names.specs.Spaces.{word}
+use Rattle.swreq_lexicon.specs.swreq_names.Spaces.{word}
 use Rattle.swreq_param.specs.declared.ids.ProtoId.{ProtoId}
 use Rattle.swreq_lexicon.specs.declared.pair.ProtocolName.{ProtocolName}
 use Rattle.swreq_lexicon.specs.Associated.{is_root, depth, order_cmp}
 use Rattle.swreq_lexicon.specs.Lexicons.{pair, proto_by, name_by}
-use Rattle.swreq_rank.specs.Ranks.{Bytes}
+use Rattle.swreq_lexicon.specs.swreq_rank.Ranks.{Bytes}
 use Rattle.swreq_lexicon.specs.Texts.{IsLexiconOf, protocol_names, declared_by}
 use Rattle.swreq_lexicon.specs.Views.{LexiconView, IsProtocol, place_of, inherits, assoc_cmp, symbol_cmp}
 use Rattle.swreq_lexicon.proofs.Declared.{from_pieces, named_within}
 use Rattle.swreq_lexicon.proofs.Depths.{inherits_more}
 use Rattle.swreq_lexicon.proofs.RankLaws.{one_to_one, assoc_total, by_name, written_at, written_protocol, written_once}
-use Rattle.swreq_rank.proofs.Rising.{rising_from_sorted, one_place}
+use Rattle.swreq_lexicon.proofs.swreq_rank.Rising.{rising_from_sorted, one_place}
 use Rattle.swreq_lowering.specs.Signatures.{in_order}
 use Rattle.swreq_world.specs.Closed.{IsClosed, AreIds, IsOfProtocol, HasOwn, HasOuter, IsQueryOf}
 use Rattle.swreq_world.specs.Text.{requirements_named, signature_in, signatures}
@@ -36,7 +36,7 @@ use Rattle.swreq_world.proofs.OnceDeclared.{protocols_differ}
 use Rattle.swreq_world.proofs.Offsets.{AreRising, name_start}
 use Rattle.swreq_world.proofs.Resolving.{protocol_is, resolved}
 use Rattle.swreq_world.proofs.Standing.{outer_within}
-use Rattle.swreq_lemmas.proofs.Elements.{contains_get, get_contains}
+use Rattle.swreq_param.proofs.swreq_lemmas.Elements.{contains_get, get_contains}
 
 module _ (text : Bytes) (s : Skeleton) (x : LexiconView) (is : IsLexiconOf text s x) where
   order_total : IsTotalOrder (order_cmp (inherits x) (length x.protocols))

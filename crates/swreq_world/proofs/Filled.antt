@@ -5,11 +5,12 @@ use Rattle.std.specs.List.{All}
 use Rattle.swreq_param.specs.Terms.{Term}
 use Rattle.swreq_param.specs.Tables.{Extends}
 use Rattle.swreq_param.proofs.Growing.{onward, unchanged}
+use Rattle.swreq_lowering.specs.declared.ids.Asks.{Asks}
+use Rattle.swreq_lowering.specs.declared.ids.Asks.TheVariants as ids
 use Rattle.swreq_lowering.specs.declared.ids.Query.{Query}
-use Rattle.swreq_lowering.specs.declared.ids.Query.TheVariants as ids
-use Rattle.swreq_lowering.specs.Queries.TermQuery.{AsksReduced, AsksConforms, AsksAnyObject, AsksEquals}
-use Rattle.swreq_lowering.specs.ByTable.{query_by, HasQueryIdsOf}
-use Rattle.swreq_lowering.proofs.Growing.{of_stays, are_of_stay, placed_stay}
+use Rattle.swreq_lowering.specs.Queries.TermAsks.{AsksReduced, AsksRequirement}
+use Rattle.swreq_lowering.specs.ByTable.{HasAskedIdsOf, HasQueryIdsOf, asks_by, query_by}
+use Rattle.swreq_lowering.proofs.Growing.{are_of_stay, ids_stay, of_stays, placed_stay, requirement_stays}
 use Rattle.swreq_world.specs.declared.entry.Entry.{Entry}
 use Rattle.swreq_world.specs.Entries.{IsEntryOf, entry_meant}
 use Rattle.swreq_world.specs.Filling.{Fills}
@@ -70,16 +71,18 @@ entry_stays old new e b h = λ i. record {
   requirements = placed_stay old new e.own b h i;
 }
 
+asked_of_stays : (old new : List Term) (a : Asks) → Extends old new → HasAskedIdsOf old a → HasAskedIdsOf new a
+asked_of_stays old new ids.Signature b h = tt
+asked_of_stays old new (ids.Reduced t) b h = of_stays old new t b h
+asked_of_stays old new (ids.Requirement r) b h = ids_stay old new r b h
+
+asked_stays : (old new : List Term) (a : Asks) → Extends old new → HasAskedIdsOf old a → asks_by new a ≡ asks_by old a
+asked_stays old new ids.Signature b h = refl
+asked_stays old new (ids.Reduced t) b h = ap AsksReduced (b.stands t h)
+asked_stays old new (ids.Requirement r) b h = ap AsksRequirement (requirement_stays old new r b h)
+
 pub query_of_stay : (old new : List Term) (q : Query) → Extends old new → HasQueryIdsOf old q → HasQueryIdsOf new q
-query_of_stay old new (ids.Signature f) b h = tt
-query_of_stay old new (ids.Reduced f t) b h = of_stays old new t b h
-query_of_stay old new (ids.Conf f t p) b h = of_stays old new t b h
-query_of_stay old new (ids.Layout f t) b h = of_stays old new t b h
-query_of_stay old new (ids.Same f t u) b h = (of_stays old new t b h.0, of_stays old new u b h.1)
+query_of_stay old new q = asked_of_stays old new q.asks
 
 pub query_stays : (old new : List Term) (q : Query) → Extends old new → HasQueryIdsOf old q → query_by new q ≡ query_by old q
-query_stays old new (ids.Signature f) b h = refl
-query_stays old new (ids.Reduced f t) b h = ap (AsksReduced f) (b.stands t h)
-query_stays old new (ids.Conf f t p) b h = ap (λ u. AsksConforms f u p) (b.stands t h)
-query_stays old new (ids.Layout f t) b h = ap (AsksAnyObject f) (b.stands t h)
-query_stays old new (ids.Same f t u) b h = λ i. AsksEquals f (b.stands t h.0 i) (b.stands u h.1 i)
+query_stays old new q b h = λ i. record { f = q.f; asks = asked_stays old new q.asks b h i }

@@ -5,22 +5,22 @@ use Rattle.std.proofs.lemmas.List.{length-map}
 use Rattle.std.proofs.lemmas.List.Elements.{Contains-append_left, Contains-append_right, Contains-append_cases}
 use Rattle.std.specs.List.{Contains}
 use Rattle.std.specs.Option.{option_map}
-use Rattle.swreq_lemmas.proofs.Members.{no_member}
-use Rattle.swreq_decl.specs.declared.skeleton.FunctionDecl.{FunctionDecl}
-use Rattle.swreq_decl.specs.declared.skeleton.ParamDecl.{ParamDecl}
-use Rattle.swreq_decl.specs.declared.skeleton.Skeleton.{Skeleton}
-use Rattle.swreq_decl.specs.declared.skeleton.StructDecl.{StructDecl}
-use Rattle.swreq_derive.specs.Facts.{params_of_depth}
-use Rattle.swreq_names.specs.declared.directory.Declaration.{Declaration}
-use Rattle.swreq_names.specs.declared.signature.Param.{Param}
-use Rattle.swreq_names.specs.declared.signature.Param.TheVariants.{Outer, Own}
-use Rattle.swreq_names.specs.declared.signature.Signature.{Signature}
-use Rattle.swreq_names.specs.declared.signature.Signature.TheVariants.{Struct, Function, Nested}
-use Rattle.swreq_names.specs.Spaces.{Spaces, spaces, declaration, of_params, param_of}
-use Rattle.swreq_names.specs.Spaces as declarations
+use Rattle.swreq_param.proofs.swreq_lemmas.Members.{no_member}
+use Rattle.swreq_lexicon.specs.swreq_decl.declared.skeleton.FunctionDecl.{FunctionDecl}
+use Rattle.swreq_lexicon.specs.swreq_decl.declared.skeleton.ParamDecl.{ParamDecl}
+use Rattle.swreq_lexicon.specs.swreq_decl.declared.skeleton.Skeleton.{Skeleton}
+use Rattle.swreq_lexicon.specs.swreq_decl.declared.skeleton.StructDecl.{StructDecl}
+use Rattle.swreq_lexicon.specs.swreq_derive.Facts.{params_of_depth}
+use Rattle.swreq_lexicon.specs.swreq_names.declared.directory.Declaration.{Declaration}
+use Rattle.swreq_lexicon.specs.swreq_names.declared.signature.Param.{Param}
+use Rattle.swreq_lexicon.specs.swreq_names.declared.signature.Param.TheVariants.{Outer, Own}
+use Rattle.swreq_lexicon.specs.swreq_names.declared.signature.Signature.{Signature}
+use Rattle.swreq_lexicon.specs.swreq_names.declared.signature.Signature.TheVariants.{Struct, Function, Nested}
+use Rattle.swreq_lexicon.specs.swreq_names.Spaces.{Spaces, spaces, declaration, of_params, param_of}
+use Rattle.swreq_lexicon.specs.swreq_names.Spaces as declarations
 use Rattle.swreq_param.specs.declared.ids.ParamId.{ParamId}
 use Rattle.swreq_param.specs.Terms.{self_param}
-use Rattle.swreq_rank.specs.Ranks.{Bytes}
+use Rattle.swreq_lexicon.specs.swreq_rank.Ranks.{Bytes}
 use Rattle.swreq_lowering.specs.Signatures.{params_of_struct, params_of_function, functions_of, outer_param_decls, own_param_decls, depth_within, own_depth, counts, params_of}
 use Rattle.swreq_lowering.specs.Types.{param_id, param_named}
 use Rattle.swreq_lowering.specs.Words.{WordsView, declared}

@@ -3,17 +3,17 @@ use Rattle.std.proofs.Common.{◌≡◌, ℕ, Bool, true, false, cond, ◌||◌,
 use Rattle.std.proofs.lemmas.List.Elements.{All-nil, All-head, All-tail, All-append, All-map}
 use Rattle.std.specs.List.{All, flat_map}
 use Rattle.std.specs.Str.{bytes_eq}
-use Rattle.swreq_decl.specs.declared.skeleton.AssocDecl.{AssocDecl}
-use Rattle.swreq_decl.specs.declared.skeleton.ProtocolDecl.{ProtocolDecl}
-use Rattle.swreq_decl.specs.declared.skeleton.Span.{Span}
-use Rattle.swreq_names.specs.declared.directory.Declaration.{Declaration}
-use Rattle.swreq_names.specs.Walk as names
+use Rattle.swreq_lexicon.specs.swreq_decl.declared.skeleton.AssocDecl.{AssocDecl}
+use Rattle.swreq_lexicon.specs.swreq_decl.declared.skeleton.ProtocolDecl.{ProtocolDecl}
+use Rattle.swreq_lexicon.specs.swreq_decl.declared.skeleton.Span.{Span}
+use Rattle.swreq_lexicon.specs.swreq_names.declared.directory.Declaration.{Declaration}
+use Rattle.swreq_lexicon.specs.swreq_names.Walk as names
 use Rattle.swreq_resolve.specs.Refusals.{begins_in_protocol, duplicates, of_primaries, of_entity, of_requirement, of_member, of_members}
-use Rattle.swreq_names.specs.Spaces.{self_bytes, word, protocol_of, has_member}
+use Rattle.swreq_lexicon.specs.swreq_names.Spaces.{self_bytes, word, protocol_of, has_member}
 use Rattle.swreq_resolve.specs.Refusals as refusals
 use Rattle.swreq_param.specs.declared.ids.ParamId.{ParamId}
 use Rattle.swreq_param.specs.Terms.{self, self_param, head}
-use Rattle.swreq_rank.specs.Ranks.{Bytes}
+use Rattle.swreq_lexicon.specs.swreq_rank.Ranks.{Bytes}
 use Rattle.swreq_lowering.specs.declared.context.Context.TheVariants.{Protocol}
 use Rattle.swreq_lowering.specs.Requirements.{in_bounds, in_protocol}
 use Rattle.swreq_lowering.specs.Walk.{in_clause, in_member, in_members}

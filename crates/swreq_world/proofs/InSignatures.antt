@@ -2,26 +2,26 @@
 use Rattle.std.proofs.Common.{◌≡◌, ℕ, ◌+◌, ◌≤◌, Bool, true, List, [], ◌∷◌, ◌++◌, Option, Some, None, length, get_or, map, slice_get, refl, subst, sym, ap, ◌∙◌, arith}
 use Rattle.std.proofs.lemmas.List.Elements.{All-nil, All-append, All-weaker, All-map}
 use Rattle.std.specs.List.{All, flat_map}
-use Rattle.swreq_decl.specs.declared.skeleton.FunctionDecl.{FunctionDecl}
-use Rattle.swreq_decl.specs.declared.skeleton.ParamDecl.{ParamDecl}
-use Rattle.swreq_decl.specs.declared.skeleton.ReqDecl.{ReqDecl}
-use Rattle.swreq_decl.specs.declared.skeleton.Span.{Span}
-use Rattle.swreq_decl.specs.declared.skeleton.StructDecl.{StructDecl}
-use Rattle.swreq_derive.specs.Derivation.{TermRequirement}
-use Rattle.swreq_derive.specs.Derivation.TermRequirement.{Conforms, IsAnyObject, Equals}
+use Rattle.swreq_lexicon.specs.swreq_decl.declared.skeleton.FunctionDecl.{FunctionDecl}
+use Rattle.swreq_lexicon.specs.swreq_decl.declared.skeleton.ParamDecl.{ParamDecl}
+use Rattle.swreq_lexicon.specs.swreq_decl.declared.skeleton.ReqDecl.{ReqDecl}
+use Rattle.swreq_lexicon.specs.swreq_decl.declared.skeleton.Span.{Span}
+use Rattle.swreq_lexicon.specs.swreq_decl.declared.skeleton.StructDecl.{StructDecl}
+use Rattle.swreq_lexicon.specs.swreq_derive.Derivation.{TermRequirement}
+use Rattle.swreq_lexicon.specs.swreq_derive.Derivation.TermRequirement.{Conforms, IsAnyObject, Equals}
 use Rattle.swreq_resolve.specs.declared.refusal.Refusal.{Refusal}
-use Rattle.swreq_names.specs.declared.signature.Param.TheVariants.{Own}
-use Rattle.swreq_names.specs.declared.signature.Signature.{Signature}
-use Rattle.swreq_names.specs.declared.signature.Signature.TheVariants.{Struct, Function, Nested}
-use Rattle.swreq_names.specs.Walk as names
+use Rattle.swreq_lexicon.specs.swreq_names.declared.signature.Param.TheVariants.{Own}
+use Rattle.swreq_lexicon.specs.swreq_names.declared.signature.Signature.{Signature}
+use Rattle.swreq_lexicon.specs.swreq_names.declared.signature.Signature.TheVariants.{Struct, Function, Nested}
+use Rattle.swreq_lexicon.specs.swreq_names.Walk as names
 use Rattle.swreq_resolve.specs.Refusals.{begins_in_signature, duplicates, of_param, of_requirement, of_signature, by_place}
 use Rattle.swreq_resolve.specs.Refusals as refusals
-use Rattle.swreq_names.specs.Spaces.{Spaces, spaces, word, declaration, of_params, param_of}
-use Rattle.swreq_names.specs.Spaces as declarations
+use Rattle.swreq_lexicon.specs.swreq_names.Spaces.{Spaces, spaces, word, declaration, of_params, param_of}
+use Rattle.swreq_lexicon.specs.swreq_names.Spaces as declarations
 use Rattle.swreq_param.specs.declared.ids.ParamId.{ParamId}
 use Rattle.swreq_param.specs.Terms.{head}
 use Rattle.swreq_param.specs.Terms.Term.{Generic}
-use Rattle.swreq_rank.specs.Ranks.{Bytes}
+use Rattle.swreq_lexicon.specs.swreq_rank.Ranks.{Bytes}
 use Rattle.swreq_lowering.specs.declared.context.Context.TheVariants as contexts
 use Rattle.swreq_lowering.specs.Heads.{IsOver}
 use Rattle.swreq_lowering.specs.Requirements.{PlacedRequirement, in_signature, in_struct, in_nested}

@@ -6,19 +6,19 @@ use Rattle.std.specs.Str.{bytes_eq}
 use Rattle.std.proofs.lemmas.List.Elements.{Contains-append_cases, Contains-append_left, Contains-append_right}
 use Rattle.std.proofs.lemmas.Bool.{and_parts}
 use Rattle.swreq_param.specs.Terms.{self, with_steps}
-use Rattle.swreq_decl.specs.declared.skeleton.AssocDecl.{AssocDecl}
-use Rattle.swreq_decl.specs.declared.skeleton.Entity.{Entity}
-use Rattle.swreq_decl.specs.declared.skeleton.ProtocolDecl.{ProtocolDecl}
-use Rattle.swreq_decl.specs.declared.skeleton.ReqDecl.{ReqDecl}
-use Rattle.swreq_decl.specs.declared.skeleton.ReqDecl.TheVariants.{Bound, Same}
-use Rattle.swreq_decl.specs.declared.skeleton.Span.{Span}
-use Rattle.swreq_decl.specs.declared.skeleton.StepDecl.{StepDecl}
-use Rattle.swreq_derive.specs.Derivation.TermRequirement.{Conforms, IsAnyObject}
-use Rattle.swreq_lemmas.proofs.Members.{no_member, only_member}
-use Rattle.swreq_names.specs.Inheritance.{direct, is_bare, named_by, named_in}
-use Rattle.swreq_names.specs.Walk.{inherited_in, inherited_in_clause}
-use Rattle.swreq_names.proofs.Walked.{same_direct}
-use Rattle.swreq_names.specs.Spaces.{self_bytes, Spaces, protocol_of, word}
+use Rattle.swreq_lexicon.specs.swreq_decl.declared.skeleton.AssocDecl.{AssocDecl}
+use Rattle.swreq_lexicon.specs.swreq_decl.declared.skeleton.Entity.{Entity}
+use Rattle.swreq_lexicon.specs.swreq_decl.declared.skeleton.ProtocolDecl.{ProtocolDecl}
+use Rattle.swreq_lexicon.specs.swreq_decl.declared.skeleton.ReqDecl.{ReqDecl}
+use Rattle.swreq_lexicon.specs.swreq_decl.declared.skeleton.ReqDecl.TheVariants.{Bound, Same}
+use Rattle.swreq_lexicon.specs.swreq_decl.declared.skeleton.Span.{Span}
+use Rattle.swreq_lexicon.specs.swreq_decl.declared.skeleton.StepDecl.{StepDecl}
+use Rattle.swreq_lexicon.specs.swreq_derive.Derivation.TermRequirement.{Conforms, IsAnyObject}
+use Rattle.swreq_param.proofs.swreq_lemmas.Members.{no_member, only_member}
+use Rattle.swreq_lexicon.specs.swreq_names.Inheritance.{direct, is_bare, named_by, named_in}
+use Rattle.swreq_lexicon.specs.swreq_names.Walk.{inherited_in, inherited_in_clause}
+use Rattle.swreq_lexicon.proofs.swreq_names.Walked.{same_direct}
+use Rattle.swreq_lexicon.specs.swreq_names.Spaces.{self_bytes, Spaces, protocol_of, word}
 use Rattle.swreq_lexicon.proofs.Declared.{from_pieces, in_pieces}
 use Rattle.swreq_lowering.specs.declared.context.Context.TheVariants.{Protocol}
 use Rattle.swreq_lowering.specs.Requirements.{PlacedRequirement, bound_of, in_bound, in_bounds, in_protocol, of_one_side}

@@ -2,26 +2,26 @@
 use Rattle.std.proofs.Common.{◌≡◌, ◌↔◌, ℕ, [], Some, get_or, map, slice_get, Contains, IsTrue, refl, sym, ap, subst, ◌∙◌}
 use Rattle.std.specs.List.{All}
 use Rattle.std.proofs.lemmas.Option.{same_Some, slice_get-get_or}
-use Rattle.swreq_closure.specs.Chains.{Leads, next}
-use Rattle.swreq_closure.specs.Chains.Leads.{more, step}
-use Rattle.swreq_closure.proofs.Marks.{chain_on}
-use Rattle.swreq_decl.specs.declared.skeleton.ProtocolDecl.{ProtocolDecl}
-use Rattle.swreq_decl.specs.declared.skeleton.Skeleton.{Skeleton}
-use Rattle.swreq_derive.specs.Derivation.{TermFacts}
-use Rattle.swreq_derive.specs.Derivation.TermRequirement.{Conforms}
-use Rattle.swreq_derive.specs.Inheritance.{InheritsDirectly, LeadsTo}
-use Rattle.swreq_derive.specs.Inheritance.LeadsTo.{further, here}
-use Rattle.swreq_names.specs.Inheritance.{direct, inheritance}
+use Rattle.swreq_resolve.specs.swreq_closure.Chains.{Leads, next}
+use Rattle.swreq_resolve.specs.swreq_closure.Chains.Leads.{more, step}
+use Rattle.swreq_resolve.proofs.swreq_closure.Marks.{chain_on}
+use Rattle.swreq_lexicon.specs.swreq_decl.declared.skeleton.ProtocolDecl.{ProtocolDecl}
+use Rattle.swreq_lexicon.specs.swreq_decl.declared.skeleton.Skeleton.{Skeleton}
+use Rattle.swreq_lexicon.specs.swreq_derive.Derivation.{TermFacts}
+use Rattle.swreq_lexicon.specs.swreq_derive.Derivation.TermRequirement.{Conforms}
+use Rattle.swreq_lexicon.specs.swreq_derive.Inheritance.{InheritsDirectly, LeadsTo}
+use Rattle.swreq_lexicon.specs.swreq_derive.Inheritance.LeadsTo.{further, here}
+use Rattle.swreq_lexicon.specs.swreq_names.Inheritance.{direct, inheritance}
 use Rattle.swreq_resolve.specs.Resolving.{HasNames}
 use Rattle.swreq_resolve.specs.Refusals as refusals
-use Rattle.swreq_names.specs.Spaces.{Spaces, place, protocol_of, spaces, word}
+use Rattle.swreq_lexicon.specs.swreq_names.Spaces.{Spaces, place, protocol_of, spaces, word}
 use Rattle.swreq_param.specs.declared.ids.ProtoId.{ProtoId}
 use Rattle.swreq_param.specs.Terms.{self}
 use Rattle.swreq_lexicon.specs.Lexicons.{proto_by}
-use Rattle.swreq_rank.specs.Ranks.{Bytes}
+use Rattle.swreq_lexicon.specs.swreq_rank.Ranks.{Bytes}
 use Rattle.swreq_lexicon.specs.Views.{IsProtocol, LexiconView, inherits, place_of}
 use Rattle.swreq_lexicon.proofs.RankLaws.{meant, written_at}
-use Rattle.swreq_lemmas.proofs.Members.{contains_map, contains_of_map}
+use Rattle.swreq_param.proofs.swreq_lemmas.Members.{contains_map, contains_of_map}
 use Rattle.swreq_lowering.specs.Requirements.{PlacedRequirement, in_protocol}
 use Rattle.swreq_lowering.specs.Words.{WordsView, proto_of}
 use Rattle.swreq_world.specs.FactsAt.{facts_of}

@@ -1,3 +1,10 @@
+pub use Rattle.swreq_param.proofs.swreq_lemmas as swreq_lemmas
+pub use Rattle.swreq_resolve.proofs.swreq_decl as swreq_decl
+pub use Rattle.swreq_resolve.proofs as swreq_resolve
+pub use Rattle.swreq_param.proofs as swreq_param
+pub use Rattle.swreq_lexicon.proofs.swreq_derive as swreq_derive
+pub use Rattle.swreq_lexicon.proofs as swreq_lexicon
+pub use Rattle.swreq_lowering.proofs as swreq_lowering
 pub mod WrittenOrder
 pub mod Noting
 pub mod Filled

@@ -1,8 +1,8 @@
 -- What look-ups by names find.
 use Rattle.std.proofs.Common.{◌≡◌, ℕ, List, [], ◌∷◌, Option, Some, map, refl, sym, ap, ◌∙◌}
 use Rattle.std.specs.Option.{option_map}
-use Rattle.swreq_names.specs.declared.signature.Signature.{Signature}
-use Rattle.swreq_names.specs.Names.{NamesView}
+use Rattle.swreq_lexicon.specs.swreq_names.declared.signature.Signature.{Signature}
+use Rattle.swreq_lexicon.specs.swreq_names.Names.{NamesView}
 use Rattle.swreq_lowering.specs.declared.ids.FuncId.{FuncId}
 use Rattle.swreq_lowering.specs.Signatures.{func_id}
 use Rattle.swreq_world.specs.declared.entry.Entry.{Entry}

@@ -6,18 +6,18 @@ use Rattle.std.specs.Str.{chars}
 use Rattle.swreq_lex.specs.declared.token.Token as lexed
 use Rattle.swreq_lex.specs.Slices.{AreSlices}
 use Rattle.swreq_lex.specs.Tokens.{HasTokens, first_offset}
-use Rattle.swreq_grammar.specs.Grammar.{Matches, Parts}
-use Rattle.swreq_decl.specs.declared.skeleton.FunctionDecl.{FunctionDecl}
-use Rattle.swreq_decl.specs.declared.skeleton.ProtocolDecl.{ProtocolDecl}
-use Rattle.swreq_decl.specs.declared.skeleton.StructDecl.{StructDecl}
-use Rattle.swreq_decl.specs.declared.skeleton.Skeleton.{Skeleton}
-use Rattle.swreq_decl.specs.declared.skeleton.Item.{Item}
-use Rattle.swreq_decl.specs.declared.skeleton.Item.TheVariants as items
-use Rattle.swreq_decl.specs.Terminals.{number, with_terminals}
-use Rattle.swreq_decl.specs.Source as lines
-use Rattle.swreq_decl.specs.Skeletons.{StandsFor, protocol_of, struct_of, function_of}
-use Rattle.swreq_decl.proofs.SameTexts.{Tokens}
-use Rattle.swreq_decl.proofs.WrittenOrder.{Starts, Stands, item_stands}
+use Rattle.swreq_lexicon.specs.swreq_grammar.Grammar.{Matches, Parts}
+use Rattle.swreq_lexicon.specs.swreq_decl.declared.skeleton.FunctionDecl.{FunctionDecl}
+use Rattle.swreq_lexicon.specs.swreq_decl.declared.skeleton.ProtocolDecl.{ProtocolDecl}
+use Rattle.swreq_lexicon.specs.swreq_decl.declared.skeleton.StructDecl.{StructDecl}
+use Rattle.swreq_lexicon.specs.swreq_decl.declared.skeleton.Skeleton.{Skeleton}
+use Rattle.swreq_lexicon.specs.swreq_decl.declared.skeleton.Item.{Item}
+use Rattle.swreq_lexicon.specs.swreq_decl.declared.skeleton.Item.TheVariants as items
+use Rattle.swreq_lexicon.specs.swreq_decl.Terminals.{number, with_terminals}
+use Rattle.swreq_lexicon.specs.swreq_decl.Source as lines
+use Rattle.swreq_lexicon.specs.swreq_decl.Skeletons.{StandsFor, protocol_of, struct_of, function_of}
+use Rattle.swreq_resolve.proofs.swreq_decl.SameTexts.{Tokens}
+use Rattle.swreq_resolve.proofs.swreq_decl.WrittenOrder.{Starts, Stands, item_stands}
 pub use Rattle.swreq_resolve.proofs.DeclaredOrder.{AreRising, rising_after, rising_front, rising_past, rising_sooner, slices_rising, start_of}
 
 -- ---- rising offsets

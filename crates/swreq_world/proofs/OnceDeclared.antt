@@ -10,20 +10,20 @@ use Rattle.std.proofs.lemmas.Option.{slice_get-get_or, get_or_from_slice_get}
 use Rattle.std.proofs.lemmas.Slice.Eq.{bytes_eq-Decides}
 use Rattle.std.specs.List.{All, IsDistinct, flat_map, position_from}
 use Rattle.std.specs.Str.{bytes_eq}
-use Rattle.swreq_lemmas.proofs.Elements.{get_contains}
-use Rattle.swreq_decl.specs.declared.skeleton.FunctionDecl.{FunctionDecl}
-use Rattle.swreq_decl.specs.declared.skeleton.ProtocolDecl.{ProtocolDecl}
-use Rattle.swreq_decl.specs.declared.skeleton.Skeleton.{Skeleton}
-use Rattle.swreq_decl.specs.declared.skeleton.Span.{Span}
-use Rattle.swreq_decl.specs.declared.skeleton.StructDecl.{StructDecl}
-use Rattle.swreq_names.specs.declared.directory.Declaration.{Declaration}
+use Rattle.swreq_param.proofs.swreq_lemmas.Elements.{get_contains}
+use Rattle.swreq_lexicon.specs.swreq_decl.declared.skeleton.FunctionDecl.{FunctionDecl}
+use Rattle.swreq_lexicon.specs.swreq_decl.declared.skeleton.ProtocolDecl.{ProtocolDecl}
+use Rattle.swreq_lexicon.specs.swreq_decl.declared.skeleton.Skeleton.{Skeleton}
+use Rattle.swreq_lexicon.specs.swreq_decl.declared.skeleton.Span.{Span}
+use Rattle.swreq_lexicon.specs.swreq_decl.declared.skeleton.StructDecl.{StructDecl}
+use Rattle.swreq_lexicon.specs.swreq_names.declared.directory.Declaration.{Declaration}
 use Rattle.swreq_resolve.specs.declared.refusal.Fault.TheVariants.{Duplicate}
 use Rattle.swreq_resolve.specs.declared.refusal.Refusal.{Refusal}
 use Rattle.swreq_resolve.specs.First.{when}
 use Rattle.swreq_resolve.specs.Resolving.{HasNames}
 use Rattle.swreq_resolve.specs.Refusals.{duplicate_of, duplicates, of_space, of_spaces, of_protocol, of_signatures, of_struct, of_function, of_query, by_place}
-use Rattle.swreq_names.specs.Spaces.{word, declaration, declarations, place, offset_of, is_declared_before, refers_to, protocol_of, Spaces, spaces}
-use Rattle.swreq_rank.specs.Ranks.{Bytes}
+use Rattle.swreq_lexicon.specs.swreq_names.Spaces.{word, declaration, declarations, place, offset_of, is_declared_before, refers_to, protocol_of, Spaces, spaces}
+use Rattle.swreq_lexicon.specs.swreq_rank.Ranks.{Bytes}
 use Rattle.swreq_lexicon.specs.Texts.{protocol_names}
 use Rattle.swreq_lexicon.proofs.Places.{some_place}
 use Rattle.swreq_world.proofs.Everywhere.{all_left, all_right, all_at, each_piece, placed_piece, stands_mapped, mapped_from}

@@ -2,16 +2,16 @@
 use Rattle.std.proofs.Common.{◌≡◌, ℕ, ◌≤◌, List, [], ◌++◌, Option, Some, None, get_or, slice_get, Contains, sym, ap, subst, ◌∙◌, arith}
 use Rattle.std.proofs.lemmas.Option.{same_Some}
 use Rattle.std.specs.List.{All}
-use Rattle.swreq_lemmas.proofs.Elements.{get_contains, there_is}
-use Rattle.swreq_decl.specs.declared.skeleton.FunctionDecl.{FunctionDecl}
-use Rattle.swreq_decl.specs.declared.skeleton.StructDecl.{StructDecl}
-use Rattle.swreq_names.specs.declared.directory.Declaration.{Declaration}
-use Rattle.swreq_names.specs.declared.signature.Signature.{Signature}
-use Rattle.swreq_names.specs.declared.signature.Signature.TheVariants.{Struct, Function, Nested}
-use Rattle.swreq_names.specs.Spaces.{Spaces, spaces, word, place, offset_of}
+use Rattle.swreq_param.proofs.swreq_lemmas.Elements.{get_contains, there_is}
+use Rattle.swreq_lexicon.specs.swreq_decl.declared.skeleton.FunctionDecl.{FunctionDecl}
+use Rattle.swreq_lexicon.specs.swreq_decl.declared.skeleton.StructDecl.{StructDecl}
+use Rattle.swreq_lexicon.specs.swreq_names.declared.directory.Declaration.{Declaration}
+use Rattle.swreq_lexicon.specs.swreq_names.declared.signature.Signature.{Signature}
+use Rattle.swreq_lexicon.specs.swreq_names.declared.signature.Signature.TheVariants.{Struct, Function, Nested}
+use Rattle.swreq_lexicon.specs.swreq_names.Spaces.{Spaces, spaces, word, place, offset_of}
 use Rattle.swreq_resolve.specs.Refusals.{by_place, duplicates, of_nested, of_signature}
 use Rattle.swreq_resolve.specs.Resolving.{HasNames}
-use Rattle.swreq_rank.specs.Ranks.{Bytes}
+use Rattle.swreq_lexicon.specs.swreq_rank.Ranks.{Bytes}
 use Rattle.swreq_lowering.specs.Signatures.{functions_of}
 use Rattle.swreq_lowering.specs.Words.{WordsView}
 use Rattle.swreq_world.specs.Text.{struct_name, function_name, name_of}

@@ -4,25 +4,25 @@ use Rattle.std.proofs.lemmas.List.Elements.{All-nil}
 use Rattle.std.proofs.lemmas.Option.{same_Some}
 use Rattle.std.specs.List.{All, flat_map}
 use Rattle.std.specs.Option.{option_map}
-use Rattle.swreq_lemmas.proofs.Elements.{get_contains, there_is}
-use Rattle.swreq_lemmas.proofs.Members.{no_member}
-use Rattle.swreq_decl.specs.declared.skeleton.FunctionDecl.{FunctionDecl}
-use Rattle.swreq_decl.specs.declared.skeleton.ParamDecl.{ParamDecl}
-use Rattle.swreq_decl.specs.declared.skeleton.ReqDecl.{ReqDecl}
-use Rattle.swreq_decl.specs.declared.skeleton.Skeleton.{Skeleton}
-use Rattle.swreq_decl.specs.declared.skeleton.StructDecl.{StructDecl}
-use Rattle.swreq_names.specs.declared.directory.Declaration.{Declaration}
-use Rattle.swreq_names.specs.declared.signature.Param.{Param}
-use Rattle.swreq_names.specs.declared.signature.Param.TheVariants.{Outer, Own}
-use Rattle.swreq_names.specs.declared.signature.Signature.{Signature}
-use Rattle.swreq_names.specs.declared.signature.Signature.TheVariants.{Struct, Function, Nested}
-use Rattle.swreq_names.specs.Spaces.{Spaces, spaces, word, place, offset_of, of_params, param_of}
-use Rattle.swreq_names.specs.Spaces as declarations
+use Rattle.swreq_param.proofs.swreq_lemmas.Elements.{get_contains, there_is}
+use Rattle.swreq_param.proofs.swreq_lemmas.Members.{no_member}
+use Rattle.swreq_lexicon.specs.swreq_decl.declared.skeleton.FunctionDecl.{FunctionDecl}
+use Rattle.swreq_lexicon.specs.swreq_decl.declared.skeleton.ParamDecl.{ParamDecl}
+use Rattle.swreq_lexicon.specs.swreq_decl.declared.skeleton.ReqDecl.{ReqDecl}
+use Rattle.swreq_lexicon.specs.swreq_decl.declared.skeleton.Skeleton.{Skeleton}
+use Rattle.swreq_lexicon.specs.swreq_decl.declared.skeleton.StructDecl.{StructDecl}
+use Rattle.swreq_lexicon.specs.swreq_names.declared.directory.Declaration.{Declaration}
+use Rattle.swreq_lexicon.specs.swreq_names.declared.signature.Param.{Param}
+use Rattle.swreq_lexicon.specs.swreq_names.declared.signature.Param.TheVariants.{Outer, Own}
+use Rattle.swreq_lexicon.specs.swreq_names.declared.signature.Signature.{Signature}
+use Rattle.swreq_lexicon.specs.swreq_names.declared.signature.Signature.TheVariants.{Struct, Function, Nested}
+use Rattle.swreq_lexicon.specs.swreq_names.Spaces.{Spaces, spaces, word, place, offset_of, of_params, param_of}
+use Rattle.swreq_lexicon.specs.swreq_names.Spaces as declarations
 use Rattle.swreq_param.specs.declared.ids.ParamId.{ParamId}
 use Rattle.swreq_resolve.specs.declared.refusal.Refusal.{Refusal}
 use Rattle.swreq_resolve.specs.Refusals.{begins_in_signature, by_place, duplicates, of_nested, of_param, of_requirement, of_signature}
 use Rattle.swreq_resolve.specs.Resolving.{HasNames}
-use Rattle.swreq_rank.specs.Ranks.{Bytes}
+use Rattle.swreq_lexicon.specs.swreq_rank.Ranks.{Bytes}
 use Rattle.swreq_lowering.specs.Signatures.{depth_within, outer_param_decls, own_param_decls, own_depth, params_of_struct, params_of_function, functions_of}
 use Rattle.swreq_lowering.specs.Types.{param_id}
 use Rattle.swreq_world.specs.Lookups.{param_decls_of_depth, IsParamNamed}

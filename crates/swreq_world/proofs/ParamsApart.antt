@@ -3,24 +3,24 @@ use Rattle.std.proofs.Common.{◌≡◌, ℕ, suc, inl, inr, ⊎_elim, List, [],
 use Rattle.std.proofs.lemmas.Option.{same_Some}
 use Rattle.std.specs.List.{filter_map}
 use Rattle.std.specs.Str.{chars}
-use Rattle.swreq_lemmas.proofs.Members.{member_cases, no_member}
+use Rattle.swreq_param.proofs.swreq_lemmas.Members.{member_cases, no_member}
 use Rattle.swreq_lex.specs.declared.token.Token as lexed
 use Rattle.swreq_lex.specs.Slices.{AreSlices}
 use Rattle.swreq_lex.specs.Tokens.{HasTokens, first_offset}
-use Rattle.swreq_grammar.specs.Grammar.{Matches, Parts, terminal}
-use Rattle.swreq_decl.specs.declared.terminal.Terminal.TheVariants.{Comma}
-use Rattle.swreq_decl.specs.declared.skeleton.FunctionDecl.{FunctionDecl}
-use Rattle.swreq_decl.specs.declared.skeleton.ParamDecl.{ParamDecl}
-use Rattle.swreq_decl.specs.declared.skeleton.StructDecl.{StructDecl}
-use Rattle.swreq_decl.specs.declared.skeleton.Skeleton.{Skeleton}
-use Rattle.swreq_decl.specs.declared.skeleton.Item.{Item}
-use Rattle.swreq_decl.specs.declared.skeleton.Item.TheVariants as items
-use Rattle.swreq_decl.specs.Terminals.{number, with_terminals}
-use Rattle.swreq_decl.specs.Source as lines
-use Rattle.swreq_decl.specs.Source.{after}
-use Rattle.swreq_decl.specs.Skeletons.{StandsFor, struct_of, function_of}
-use Rattle.swreq_decl.proofs.SameTexts.{Tokens}
-use Rattle.swreq_decl.proofs.WrittenOrder.{Starts, starts_left, starts_right, name_starts}
+use Rattle.swreq_lexicon.specs.swreq_grammar.Grammar.{Matches, Parts, terminal}
+use Rattle.swreq_lexicon.specs.swreq_decl.declared.terminal.Terminal.TheVariants.{Comma}
+use Rattle.swreq_lexicon.specs.swreq_decl.declared.skeleton.FunctionDecl.{FunctionDecl}
+use Rattle.swreq_lexicon.specs.swreq_decl.declared.skeleton.ParamDecl.{ParamDecl}
+use Rattle.swreq_lexicon.specs.swreq_decl.declared.skeleton.StructDecl.{StructDecl}
+use Rattle.swreq_lexicon.specs.swreq_decl.declared.skeleton.Skeleton.{Skeleton}
+use Rattle.swreq_lexicon.specs.swreq_decl.declared.skeleton.Item.{Item}
+use Rattle.swreq_lexicon.specs.swreq_decl.declared.skeleton.Item.TheVariants as items
+use Rattle.swreq_lexicon.specs.swreq_decl.Terminals.{number, with_terminals}
+use Rattle.swreq_lexicon.specs.swreq_decl.Source as lines
+use Rattle.swreq_lexicon.specs.swreq_decl.Source.{after}
+use Rattle.swreq_lexicon.specs.swreq_decl.Skeletons.{StandsFor, struct_of, function_of}
+use Rattle.swreq_resolve.proofs.swreq_decl.SameTexts.{Tokens}
+use Rattle.swreq_resolve.proofs.swreq_decl.WrittenOrder.{Starts, starts_left, starts_right, name_starts}
 use Rattle.swreq_world.proofs.Apart.{picked_cases}
 use Rattle.swreq_world.proofs.Offsets.{AreRising, rising_first, rising_past, rising_rest, slices_rising, start_of}
 

@@ -8,28 +8,28 @@ use Rattle.std.proofs.lemmas.Slice.Eq.{bytes_eq-Decides}
 use Rattle.std.specs.List.{All, Contains, flat_map}
 use Rattle.std.specs.Str.{bytes_eq}
 use Rattle.std.proofs.lemmas.Bool.{and_parts, or_cases}
-use Rattle.swreq_lemmas.proofs.Elements.{get_contains}
-use Rattle.swreq_lemmas.proofs.Members.{contains_map}
-use Rattle.swreq_decl.specs.declared.skeleton.AssocDecl.{AssocDecl}
-use Rattle.swreq_decl.specs.declared.skeleton.FunctionDecl.{FunctionDecl}
-use Rattle.swreq_decl.specs.declared.skeleton.ProtocolDecl.{ProtocolDecl}
-use Rattle.swreq_decl.specs.declared.skeleton.Skeleton.{Skeleton}
-use Rattle.swreq_decl.specs.declared.skeleton.Span.{Span}
-use Rattle.swreq_decl.specs.declared.skeleton.StructDecl.{StructDecl}
-use Rattle.swreq_names.specs.declared.directory.Declaration.{Declaration}
+use Rattle.swreq_param.proofs.swreq_lemmas.Elements.{get_contains}
+use Rattle.swreq_param.proofs.swreq_lemmas.Members.{contains_map}
+use Rattle.swreq_lexicon.specs.swreq_decl.declared.skeleton.AssocDecl.{AssocDecl}
+use Rattle.swreq_lexicon.specs.swreq_decl.declared.skeleton.FunctionDecl.{FunctionDecl}
+use Rattle.swreq_lexicon.specs.swreq_decl.declared.skeleton.ProtocolDecl.{ProtocolDecl}
+use Rattle.swreq_lexicon.specs.swreq_decl.declared.skeleton.Skeleton.{Skeleton}
+use Rattle.swreq_lexicon.specs.swreq_decl.declared.skeleton.Span.{Span}
+use Rattle.swreq_lexicon.specs.swreq_decl.declared.skeleton.StructDecl.{StructDecl}
+use Rattle.swreq_lexicon.specs.swreq_names.declared.directory.Declaration.{Declaration}
 use Rattle.swreq_resolve.specs.declared.refusal.Fault.{Fault}
 use Rattle.swreq_resolve.specs.declared.refusal.Fault.TheVariants.{NoSuchMember}
 use Rattle.swreq_resolve.specs.declared.refusal.Refusal.{Refusal}
 use Rattle.swreq_resolve.specs.First.{when}
-use Rattle.swreq_names.specs.Mentioned.{mentioned}
-use Rattle.swreq_names.specs.Walk as names
-use Rattle.swreq_names.proofs.Walked.{same_names}
+use Rattle.swreq_lexicon.specs.swreq_names.Mentioned.{mentioned}
+use Rattle.swreq_lexicon.specs.swreq_names.Walk as names
+use Rattle.swreq_lexicon.proofs.swreq_names.Walked.{same_names}
 use Rattle.swreq_resolve.specs.Resolving.{HasNames}
 use Rattle.swreq_resolve.specs.Refusals.{duplicates, of_spaces, of_protocol, of_primaries, primary_of, of_entity, of_requirement, of_members, begins_in_protocol, of_struct, of_function, of_query, refusals_in, by_place}
 use Rattle.swreq_resolve.proofs.Meaning.{any_to}
-use Rattle.swreq_names.specs.Spaces.{Spaces, spaces, word, declaration, declarations, place, offset_of, is_declared, is_declared_before, refers_to, protocol_of, declares, has_member, any_below}
+use Rattle.swreq_lexicon.specs.swreq_names.Spaces.{Spaces, spaces, word, declaration, declarations, place, offset_of, is_declared, is_declared_before, refers_to, protocol_of, declares, has_member, any_below}
 use Rattle.swreq_lexicon.specs.Lexicons.{pair, proto_by, name_by, assoc_by}
-use Rattle.swreq_rank.specs.Ranks.{Bytes, rank}
+use Rattle.swreq_lexicon.specs.swreq_rank.Ranks.{Bytes, rank}
 use Rattle.swreq_lexicon.specs.Texts.{IsLexiconOf, protocol_names, declared_by, declared_in}
 use Rattle.swreq_lexicon.specs.Views.{LexiconView, IsProtocol, IsName}
 use Rattle.swreq_lexicon.proofs.Declared.{declared_name, in_pieces, named_within}

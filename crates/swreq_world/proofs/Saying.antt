@@ -6,26 +6,26 @@ use Rattle.std.proofs.lemmas.Slice.Eq.{bytes_eq-Decides}
 use Rattle.std.specs.List.{All, flat_map}
 use Rattle.std.specs.Option.{option_map}
 use Rattle.std.specs.Str.{bytes_eq}
-use Rattle.swreq_lemmas.proofs.Elements.{contains_get, get_contains}
-use Rattle.swreq_lemmas.proofs.Members.{contains_map, first_member, later_member}
-use Rattle.swreq_decl.specs.declared.skeleton.AssocDecl.{AssocDecl}
-use Rattle.swreq_decl.specs.declared.skeleton.Entity.{Entity}
-use Rattle.swreq_decl.specs.declared.skeleton.ProtocolDecl.{ProtocolDecl}
-use Rattle.swreq_decl.specs.declared.skeleton.QueryDecl.{QueryDecl}
-use Rattle.swreq_decl.specs.declared.skeleton.Skeleton.{Skeleton}
-use Rattle.swreq_decl.specs.declared.skeleton.Span.{Span}
-use Rattle.swreq_decl.specs.declared.skeleton.StepDecl.{StepDecl}
-use Rattle.swreq_decl.specs.declared.skeleton.StepDecl.TheVariants as decls
-use Rattle.swreq_decl.specs.declared.skeleton.TypeDecl.{TypeDecl}
-use Rattle.swreq_names.specs.declared.signature.Param.TheVariants.{Own}
-use Rattle.swreq_names.specs.declared.signature.Signature.{Signature}
-use Rattle.swreq_names.specs.Mentioned as names
-use Rattle.swreq_names.specs.Mentioned.{mentioned, member_of}
-use Rattle.swreq_names.specs.Parts as parts
-use Rattle.swreq_names.specs.Parts.{Subject, self_of, associated, parameter, written, Constraint, bound, same, in_protocol, in_signature, in_query, numbered, constraints, entities, types}
-use Rattle.swreq_names.specs.Spaces.{Spaces, spaces, word, self_bytes, protocol_of, signature_of, nested_of, declares, has_member, param_of}
-use Rattle.swreq_names.proofs.Firsts.{same_true}
-use Rattle.swreq_names.proofs.Pieces.{in_pieces}
+use Rattle.swreq_param.proofs.swreq_lemmas.Elements.{contains_get, get_contains}
+use Rattle.swreq_param.proofs.swreq_lemmas.Members.{contains_map, first_member, later_member}
+use Rattle.swreq_lexicon.specs.swreq_decl.declared.skeleton.AssocDecl.{AssocDecl}
+use Rattle.swreq_lexicon.specs.swreq_decl.declared.skeleton.Entity.{Entity}
+use Rattle.swreq_lexicon.specs.swreq_decl.declared.skeleton.ProtocolDecl.{ProtocolDecl}
+use Rattle.swreq_lexicon.specs.swreq_decl.declared.skeleton.QueryDecl.{QueryDecl}
+use Rattle.swreq_lexicon.specs.swreq_decl.declared.skeleton.Skeleton.{Skeleton}
+use Rattle.swreq_lexicon.specs.swreq_decl.declared.skeleton.Span.{Span}
+use Rattle.swreq_lexicon.specs.swreq_decl.declared.skeleton.StepDecl.{StepDecl}
+use Rattle.swreq_lexicon.specs.swreq_decl.declared.skeleton.StepDecl.TheVariants as decls
+use Rattle.swreq_lexicon.specs.swreq_decl.declared.skeleton.TypeDecl.{TypeDecl}
+use Rattle.swreq_lexicon.specs.swreq_names.declared.signature.Param.TheVariants.{Own}
+use Rattle.swreq_lexicon.specs.swreq_names.declared.signature.Signature.{Signature}
+use Rattle.swreq_lexicon.specs.swreq_names.Mentioned as names
+use Rattle.swreq_lexicon.specs.swreq_names.Mentioned.{mentioned, member_of}
+use Rattle.swreq_lexicon.specs.swreq_names.Parts as parts
+use Rattle.swreq_lexicon.specs.swreq_names.Parts.{Subject, self_of, associated, parameter, written, Constraint, bound, same, in_protocol, in_signature, in_query, numbered, constraints, entities, types}
+use Rattle.swreq_lexicon.specs.swreq_names.Spaces.{Spaces, spaces, word, self_bytes, protocol_of, signature_of, nested_of, declares, has_member, param_of}
+use Rattle.swreq_lexicon.proofs.swreq_names.Firsts.{same_true}
+use Rattle.swreq_lexicon.proofs.swreq_names.Pieces.{in_pieces}
 use Rattle.swreq_param.specs.declared.ids.ParamId.{ParamId}
 use Rattle.swreq_param.specs.declared.ids.Step.TheVariants as steps
 use Rattle.swreq_param.specs.Terms.{self, self_param, with_steps}
@@ -34,7 +34,7 @@ use Rattle.swreq_resolve.specs.declared.refusal.Fault.TheVariants.{NoSuchMember,
 use Rattle.swreq_resolve.specs.Refusals.{begins_in_protocol, begins_in_signature, of_bound, of_step}
 use Rattle.swreq_resolve.specs.Resolving.{HasNames}
 use Rattle.swreq_resolve.proofs.Gathered.{begins_at, signature_asked}
-use Rattle.swreq_rank.specs.Ranks.{Bytes, rank}
+use Rattle.swreq_lexicon.specs.swreq_rank.Ranks.{Bytes, rank}
 use Rattle.swreq_lexicon.specs.Lexicons.{pair}
 use Rattle.swreq_lexicon.specs.Texts.{IsLexiconOf, protocol_names}
 use Rattle.swreq_lexicon.specs.Views.{LexiconView}

@@ -3,31 +3,31 @@ use Rattle.std.proofs.Common.{◌≡◌, ℕ, Bool, true, false, cond, [], ◌�
 use Rattle.std.proofs.lemmas.List.Elements.{Contains-append_right}
 use Rattle.std.specs.List.{flat_map}
 use Rattle.std.specs.Option.{option_map}
-use Rattle.swreq_lemmas.proofs.Elements.{get_contains}
-use Rattle.swreq_lemmas.proofs.Members.{contains_map, first_member, later_member}
-use Rattle.swreq_decl.specs.declared.skeleton.Ask.{Ask}
-use Rattle.swreq_decl.specs.declared.skeleton.Ask.TheVariants as asked_for
-use Rattle.swreq_decl.specs.declared.skeleton.Entity.{Entity}
-use Rattle.swreq_decl.specs.declared.skeleton.QueryDecl.{QueryDecl}
-use Rattle.swreq_decl.specs.declared.skeleton.Skeleton.{Skeleton}
-use Rattle.swreq_decl.specs.declared.skeleton.TypeDecl.{TypeDecl}
-use Rattle.swreq_names.specs.declared.signature.Signature.{Signature}
-use Rattle.swreq_names.specs.Parts as parts
-use Rattle.swreq_names.specs.Parts.{in_query, numbered, constraints, entities, types}
-use Rattle.swreq_names.specs.Spaces.{word}
-use Rattle.swreq_names.proofs.Pieces.{in_pieces}
+use Rattle.swreq_param.proofs.swreq_lemmas.Elements.{get_contains}
+use Rattle.swreq_param.proofs.swreq_lemmas.Members.{contains_map, first_member, later_member}
+use Rattle.swreq_lexicon.specs.swreq_decl.declared.skeleton.Ask.{Ask}
+use Rattle.swreq_lexicon.specs.swreq_decl.declared.skeleton.Ask.TheVariants as asked_for
+use Rattle.swreq_lexicon.specs.swreq_decl.declared.skeleton.Entity.{Entity}
+use Rattle.swreq_lexicon.specs.swreq_decl.declared.skeleton.QueryDecl.{QueryDecl}
+use Rattle.swreq_lexicon.specs.swreq_decl.declared.skeleton.Skeleton.{Skeleton}
+use Rattle.swreq_lexicon.specs.swreq_decl.declared.skeleton.TypeDecl.{TypeDecl}
+use Rattle.swreq_lexicon.specs.swreq_names.declared.signature.Signature.{Signature}
+use Rattle.swreq_lexicon.specs.swreq_names.Parts as parts
+use Rattle.swreq_lexicon.specs.swreq_names.Parts.{in_query, numbered, constraints, entities, types}
+use Rattle.swreq_lexicon.specs.swreq_names.Spaces.{word}
+use Rattle.swreq_lexicon.proofs.swreq_names.Pieces.{in_pieces}
 use Rattle.swreq_resolve.specs.Resolving.{HasNames}
 use Rattle.swreq_resolve.proofs.SameMembers.{has_number}
-use Rattle.swreq_rank.specs.Ranks.{Bytes}
+use Rattle.swreq_lexicon.specs.swreq_rank.Ranks.{Bytes}
+use Rattle.swreq_lexicon.specs.swreq_derive.Derivation.TermRequirement.{Conforms, IsAnyObject}
 use Rattle.swreq_lowering.specs.declared.ids.FuncId.{FuncId}
 use Rattle.swreq_lowering.specs.declared.context.Context.TheVariants as contexts
 use Rattle.swreq_lowering.specs.Queries.{TermQuery, asked_of, asked_signature, query_of, signature_in_query}
-use Rattle.swreq_lowering.specs.Queries.TermQuery.{AsksConforms, AsksAnyObject}
+use Rattle.swreq_lowering.specs.Queries.TermAsks.{AsksRequirement}
 use Rattle.swreq_lowering.specs.Signatures.{func_id, in_order}
 use Rattle.swreq_lowering.specs.Types.{type_in}
 use Rattle.swreq_lowering.specs.Words.{WordsView, proto_of}
-use Rattle.swreq_world.specs.Lookups.{IsNamedAt}
-use Rattle.swreq_world.specs.ReadBack.{SaysAsk, SaysIn, SaysProtocol, SaysQuery, SaysType, asked}
+use Rattle.swreq_world.specs.ReadBack.{SaysAsk, SaysIn, SaysProtocol, SaysQuery, SaysType}
 use Rattle.swreq_world.specs.WorldOf.{IsWorldOf, words_of}
 use Rattle.swreq_world.specs.Worlds.{SignatureOver, TextWorld, signature_at}
 use Rattle.swreq_lowering.specs.Requirements.{PlacedRequirement}
@@ -44,17 +44,6 @@ module _ (text : Bytes) (s : Skeleton) (v : TextWorld) (is : IsWorldOf text s v)
   -- ---- what is asked of a signature
 
   module _ (g : Signature) (f : FuncId) where
-    asked_is : (a : Ask) → asked (asked_of words g f a) ≡ f
-    asked_is asked_for.Signature = refl
-    asked_is (asked_for.Reduced t) = refl
-    asked_is (asked_for.Is t e) = by e.layout
-      where
-        by : (b : Bool) → asked (cond b (AsksAnyObject f (type_in words (contexts.Signature g) t))
-            (AsksConforms f (type_in words (contexts.Signature g) t) (proto_of words e.span))) ≡ f
-        by true = refl
-        by false = refl
-    asked_is (asked_for.Same t u) = refl
-
     -- The type parameter is the type that is written.
     abbrev IsSaid : TypeDecl → Type 0
     IsSaid t = SaysType text s v.lexicon (contexts.Signature g) (type_in words (contexts.Signature g) t) t
@@ -66,7 +55,7 @@ module _ (text : Bytes) (s : Skeleton) (v : TextWorld) (is : IsWorldOf text s v)
       ask_says : (a : Ask) → ((t : TypeDecl) → Contains (parts.types_of_ask a) t → IsSaid t)
           → ((e : Entity) → Contains (parts.entities_of_ask a) e → e.layout ≡ false
           → SaysProtocol text v.lexicon (proto_of words e.span) e.span)
-          → SaysAsk text s v (asked_of words g f a) a
+          → SaysAsk text s v f (asked_of words g a) a
       ask_says asked_for.Signature types_say entities_say = tt
       ask_says (asked_for.Reduced t) types_say entities_say = says_in t (types_say t (first_member t []))
       ask_says (asked_for.Is t e) types_say entities_say = by e.layout refl
@@ -75,8 +64,8 @@ module _ (text : Bytes) (s : Skeleton) (v : TextWorld) (is : IsWorldOf text s v)
           said = says_in t (types_say t (first_member t (parts.types_of_entity e)))
 
           by : (b : Bool) → e.layout ≡ b
-              → SaysAsk text s v (cond b (AsksAnyObject f (type_in words (contexts.Signature g) t))
-              (AsksConforms f (type_in words (contexts.Signature g) t) (proto_of words e.span))) (asked_for.Is t e)
+              → SaysAsk text s v f (AsksRequirement (cond b (IsAnyObject (type_in words (contexts.Signature g) t))
+              (Conforms (type_in words (contexts.Signature g) t) (proto_of words e.span)))) (asked_for.Is t e)
           by true h = (said, h)
           by false h = (said, h, entities_say e (first_member e []) h)
       ask_says (asked_for.Same t u) types_say entities_say =
@@ -117,8 +106,7 @@ module _ (text : Bytes) (s : Skeleton) (v : TextWorld) (is : IsWorldOf text s v)
       query_of words (in_order s) q,
       ap (λ qs. slice_get qs k) is.queries ∙ stands_mapped (query_of words (in_order s)) s.queries k q at,
       record {
-        named = subst (IsNamedAt v (option_map (word text) q.outer) (word text q.function)) (sym (asked_is g f q.ask))
-            (named_at text s v is (option_map (word text) q.outer) (word text q.function) g is_named);
+        named = named_at text s v is (option_map (word text) q.outer) (word text q.function) g is_named;
         ask = ask_says g f here q.ask (λ t c. query_type_says text s v.lexicon is.lexicon no_refusal k q at t (type_there t c))
             (λ e c l. entity_says text s v.lexicon is.lexicon no_refusal (in_query k) e (entity_there e c) l);
       },

@@ -7,12 +7,12 @@ use Rattle.std.proofs.lemmas.List.Quantifiers.{position-Some}
 use Rattle.std.proofs.lemmas.Option.{slice_get-get_or, slice_get_within, same_Some}
 use Rattle.std.specs.List.{Contains, prefix_len}
 use Rattle.std.specs.Option.{option_map}
-use Rattle.swreq_decl.specs.declared.skeleton.FunctionDecl.{FunctionDecl}
-use Rattle.swreq_decl.specs.declared.skeleton.Skeleton.{Skeleton}
-use Rattle.swreq_decl.specs.declared.skeleton.StructDecl.{StructDecl}
-use Rattle.swreq_decl.specs.Signatures.{of_struct, of_inner, of_function, stands_before}
-use Rattle.swreq_names.specs.declared.signature.Signature.{Signature}
-use Rattle.swreq_names.specs.declared.signature.Signature.TheVariants.{Struct, Function, Nested}
+use Rattle.swreq_lexicon.specs.swreq_decl.declared.skeleton.FunctionDecl.{FunctionDecl}
+use Rattle.swreq_lexicon.specs.swreq_decl.declared.skeleton.Skeleton.{Skeleton}
+use Rattle.swreq_lexicon.specs.swreq_decl.declared.skeleton.StructDecl.{StructDecl}
+use Rattle.swreq_lexicon.specs.swreq_decl.Signatures.{of_struct, of_inner, of_function, stands_before}
+use Rattle.swreq_lexicon.specs.swreq_names.declared.signature.Signature.{Signature}
+use Rattle.swreq_lexicon.specs.swreq_names.declared.signature.Signature.TheVariants.{Struct, Function, Nested}
 use Rattle.swreq_lexicon.proofs.Positions.{fails_all}
 use Rattle.swreq_lexicon.proofs.SymbolPlaces.{get_left}
 use Rattle.swreq_lowering.specs.Signatures.{nested_from, functions_from, with_nested, merged_from, in_order, is_signature, place_in, func_id}
@@ -26,7 +26,7 @@ use Rattle.swreq_world.specs.Text.{outer_of, signature_in, signatures}
 use Rattle.swreq_world.specs.Worlds.{SignatureOver}
 use Rattle.swreq_world.proofs.Everywhere.{stands_mapped}
 use Rattle.swreq_world.proofs.WrittenOrder.{length_rest}
-use Rattle.swreq_lemmas.proofs.Elements.{get_either, get_after}
+use Rattle.swreq_param.proofs.swreq_lemmas.Elements.{get_either, get_after}
 
 -- The signature is of the text.
 abbrev pub IsIn : Skeleton → Signature → Type 0

@@ -3,20 +3,20 @@ use Rattle.std.proofs.Common.{◌≡◌, ⊎_elim, ℕ, Bool, true, false, cond,
 use Rattle.std.proofs.lemmas.List.Elements.{All-contains, Contains-append_cases, Contains-get_or}
 use Rattle.std.specs.List.{All, flat_map}
 use Rattle.std.specs.Option.{option_map}
-use Rattle.swreq_lemmas.proofs.Elements.{get_contains}
-use Rattle.swreq_lemmas.proofs.Members.{no_member, contains_map, contains_of_map}
-use Rattle.swreq_decl.specs.declared.skeleton.Entity.{Entity}
-use Rattle.swreq_decl.specs.declared.skeleton.ProtocolDecl.{ProtocolDecl}
-use Rattle.swreq_decl.specs.declared.skeleton.QueryDecl.{QueryDecl}
-use Rattle.swreq_decl.specs.declared.skeleton.Skeleton.{Skeleton}
-use Rattle.swreq_decl.specs.declared.skeleton.Span.{Span}
-use Rattle.swreq_decl.specs.declared.skeleton.StepDecl.{StepDecl}
-use Rattle.swreq_decl.specs.declared.skeleton.TypeDecl.{TypeDecl}
-use Rattle.swreq_names.specs.declared.signature.Signature.{Signature}
-use Rattle.swreq_names.specs.Parts as parts
-use Rattle.swreq_names.specs.Parts.{Scope, Constraint, bound, same, in_protocol, in_signature, in_query, numbered, standing, constraints, types, entities}
-use Rattle.swreq_names.specs.Spaces.{Spaces, spaces, word, declaration, declarations, protocol_of, struct_of, signature_of, nested_in, has_member}
-use Rattle.swreq_names.proofs.Pieces.{from_pieces}
+use Rattle.swreq_param.proofs.swreq_lemmas.Elements.{get_contains}
+use Rattle.swreq_param.proofs.swreq_lemmas.Members.{no_member, contains_map, contains_of_map}
+use Rattle.swreq_lexicon.specs.swreq_decl.declared.skeleton.Entity.{Entity}
+use Rattle.swreq_lexicon.specs.swreq_decl.declared.skeleton.ProtocolDecl.{ProtocolDecl}
+use Rattle.swreq_lexicon.specs.swreq_decl.declared.skeleton.QueryDecl.{QueryDecl}
+use Rattle.swreq_lexicon.specs.swreq_decl.declared.skeleton.Skeleton.{Skeleton}
+use Rattle.swreq_lexicon.specs.swreq_decl.declared.skeleton.Span.{Span}
+use Rattle.swreq_lexicon.specs.swreq_decl.declared.skeleton.StepDecl.{StepDecl}
+use Rattle.swreq_lexicon.specs.swreq_decl.declared.skeleton.TypeDecl.{TypeDecl}
+use Rattle.swreq_lexicon.specs.swreq_names.declared.signature.Signature.{Signature}
+use Rattle.swreq_lexicon.specs.swreq_names.Parts as parts
+use Rattle.swreq_lexicon.specs.swreq_names.Parts.{Scope, Constraint, bound, same, in_protocol, in_signature, in_query, numbered, standing, constraints, types, entities}
+use Rattle.swreq_lexicon.specs.swreq_names.Spaces.{Spaces, spaces, word, declaration, declarations, protocol_of, struct_of, signature_of, nested_in, has_member}
+use Rattle.swreq_lexicon.proofs.swreq_names.Pieces.{from_pieces}
 use Rattle.swreq_resolve.specs.declared.refusal.Fault.TheVariants.{ConcreteType, NoSuchMember, NotAProtocol, UnknownSignature}
 use Rattle.swreq_resolve.specs.declared.refusal.Refusal.{Refusal}
 use Rattle.swreq_resolve.specs.First.{when}
@@ -24,7 +24,7 @@ use Rattle.swreq_resolve.specs.Refusals.{begins_in_protocol, begins_in_signature
 use Rattle.swreq_resolve.specs.Resolving.{HasNames}
 use Rattle.swreq_resolve.proofs.Gathered.{again_in_function, again_in_protocol, again_in_struct, all_gathered, asked, begins_at, named_at, named_by, of_entities, of_types, own, own_of_protocol, signature_asked, typed_at, typed_by, unknown, unknown_in, unknown_signature, unknown_struct}
 use Rattle.swreq_resolve.proofs.SameMembers.{has_number, number_of}
-use Rattle.swreq_rank.specs.Ranks.{Bytes}
+use Rattle.swreq_lexicon.specs.swreq_rank.Ranks.{Bytes}
 use Rattle.swreq_world.proofs.Everywhere.{all_left, all_right, at_mapped, each_piece}
 use Rattle.swreq_world.proofs.Resolving.{Never, passes, refused}
 use Rattle.swreq_world.proofs.Subjects.{StandsIn, stands_in}

@@ -4,8 +4,8 @@ use Rattle.std.proofs.lemmas.List.{length-map, map-append}
 use Rattle.std.proofs.lemmas.List.Elements.{All-append, All-map, All-nil}
 use Rattle.std.proofs.lemmas.Option.{slice_get_within, same_Some}
 use Rattle.std.specs.List.{All}
-use Rattle.swreq_names.specs.declared.signature.Signature.{Signature}
-use Rattle.swreq_names.specs.declared.signature.Signature.TheVariants.{Struct, Function, Nested}
+use Rattle.swreq_lexicon.specs.swreq_names.declared.signature.Signature.{Signature}
+use Rattle.swreq_lexicon.specs.swreq_names.declared.signature.Signature.TheVariants.{Struct, Function, Nested}
 use Rattle.swreq_param.specs.Terms.{Term}
 use Rattle.swreq_lowering.specs.declared.ids.FuncId.{FuncId}
 use Rattle.swreq_lowering.specs.declared.ids.Written.{Written}
@@ -19,7 +19,7 @@ use Rattle.swreq_world.specs.Entries.{around, entry_view, entry_meant, IsEntryOf
 use Rattle.swreq_world.specs.Own.{of_inner, own_list, own_signature}
 use Rattle.swreq_world.specs.Text.{list_of, of_nested, of_nested_in, of_struct, outer_of, signature_in}
 use Rattle.swreq_world.specs.Worlds.{SignatureOver}
-use Rattle.swreq_lemmas.proofs.Elements.{there_is}
+use Rattle.swreq_param.proofs.swreq_lemmas.Elements.{there_is}
 use Rattle.swreq_world.proofs.Everywhere.{all_at, at_mapped, past_mapped, stands_mapped}
 use Rattle.swreq_world.proofs.Standing.{IsIn, stands}
 

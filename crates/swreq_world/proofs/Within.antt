@@ -1,14 +1,15 @@
 -- Places are within their lists.
 use Rattle.std.proofs.Common.{◌≡◌, ℕ, ◌≤◌, ◌<◌, List, [], Option, Some, None, length, get_or, unwrap_or, refl, subst, arith}
 use Rattle.std.specs.Option.{option_map}
-use Rattle.swreq_decl.specs.declared.skeleton.Span.{Span}
-use Rattle.swreq_names.specs.declared.signature.Signature.{Signature}
-use Rattle.swreq_names.specs.declared.signature.Signature.TheVariants.{Struct, Function, Nested}
-use Rattle.swreq_names.specs.Spaces.{Spaces, place, word, struct_of, function_of, nested_in, nested_of}
+use Rattle.swreq_lexicon.specs.swreq_decl.declared.skeleton.Span.{Span}
+use Rattle.swreq_lexicon.specs.swreq_names.declared.signature.Signature.{Signature}
+use Rattle.swreq_lexicon.specs.swreq_names.declared.signature.Signature.TheVariants.{Struct, Function, Nested}
+use Rattle.swreq_lexicon.specs.swreq_names.Spaces.{Spaces, place, word, struct_of, function_of, nested_in, nested_of}
 use Rattle.swreq_lowering.specs.Queries.{asked_signature, signature_in_query}
 use Rattle.swreq_lowering.specs.Signatures.{is_signature, place_in}
 use Rattle.swreq_lowering.specs.Words.{WordsView, declared}
-use Rattle.swreq_lowering.proofs.Referring.{from_below, place_below}
+use Rattle.swreq_lexicon.proofs.swreq_names.Heirs.{placed_below}
+use Rattle.swreq_lowering.proofs.Referring.{from_below}
 use Rattle.swreq_world.specs.Places.{IsSmall}
 
 found_within : (o : Option ℕ) (n : ℕ) → ((k : ℕ) → o ≡ Some k → k < n) → unwrap_or o 0 ≤ n
@@ -36,7 +37,7 @@ nested_small (Some k) i n h l = let m = h k refl in omega arith
 in_struct_small : (d : Spaces) → Short d → (i : ℕ) (name : List ℕ) → IsSmallIf (nested_in d i name)
 unfolding Short
 in_struct_small d short i name =
-    nested_small (place (get_or d.nested i []) name) i (length (get_or d.nested i [])) (place_below (get_or d.nested i []) name) (short i)
+    nested_small (place (get_or d.nested i []) name) i (length (get_or d.nested i [])) (placed_below (get_or d.nested i []) name) (short i)
 
 of_struct_small : (d : Spaces) → Short d → (o : Option ℕ) (name : List ℕ)
     → IsSmallIf (elim o as (λ _. Option Signature) [ None ↦ None | Some i ↦ nested_in d i name ])

@@ -1,11 +1,11 @@
 -- What holds of the world of each text whose names resolve: all that is written in it is of the world, and inheritance is written.
 use Rattle.std.specs.Prelude.{◌≡◌, ◌↔◌, ◌<◌, ℕ, length, Contains, All, IsTrue, Some, slice_get}
-use Rattle.swreq_derive.specs.declared.known.Params.{Params}
-use Rattle.swreq_derive.specs.Facts.{AreOneToOne, generic_params}
+use Rattle.swreq_lexicon.specs.swreq_derive.declared.known.Params.{Params}
+use Rattle.swreq_lexicon.specs.swreq_derive.Facts.{AreOneToOne, generic_params}
 use Rattle.swreq_param.specs.declared.ids.NameId.{NameId}
 use Rattle.swreq_param.specs.declared.ids.ParamId.{ParamId}
 use Rattle.swreq_param.specs.declared.ids.ProtoId.{ProtoId}
-use Rattle.swreq_param.specs.Terms.{Term, head}
+use Rattle.swreq_param.specs.Terms.{head}
 use Rattle.swreq_lexicon.specs.declared.pair.ProtocolName.{ProtocolName}
 use Rattle.swreq_lexicon.specs.Lexicons.{pair, associated_types}
 use Rattle.swreq_lexicon.specs.Views.{LexiconView, IsProtocol, IsName, HasMember, inherits, depth}
@@ -13,8 +13,8 @@ use Rattle.swreq_lowering.specs.declared.ids.FuncId.{FuncId}
 use Rattle.swreq_lowering.specs.Heads.{IsOver, IsOverSelf}
 pub use Rattle.swreq_lowering.specs.OfText.{IsStepOf, IsTermOf, IsRequirementOf}
 use Rattle.swreq_lowering.specs.Requirements.{PlacedRequirement}
-use Rattle.swreq_lowering.specs.Queries.{TermQuery}
-use Rattle.swreq_lowering.specs.Queries.TermQuery.{AsksSignature, AsksReduced, AsksConforms, AsksAnyObject, AsksEquals}
+use Rattle.swreq_lowering.specs.Queries.{TermAsks, TermQuery}
+use Rattle.swreq_lowering.specs.Queries.TermAsks.{AsksSignature, AsksReduced, AsksRequirement}
 use Rattle.swreq_world.specs.FactsAt.{facts_of}
 use Rattle.swreq_world.specs.Inheritance.{LeadsOnTo}
 use Rattle.swreq_world.specs.Worlds.{TextWorld, SignatureOver, signature_at}
@@ -53,6 +53,12 @@ IsOfSignature x params r = IsRequirementOf x r.requirement × IsOver (IsParamOf 
 abbrev pub HasOwn : LexiconView → SignatureOver PlacedRequirement → Type 0
 HasOwn x g = All (IsOfSignature x g.params) g.requirements
 
+-- What is asked is of the text, and over these generic parameters.
+abbrev pub IsAskedOf : LexiconView → Params → TermAsks → Type 0
+IsAskedOf x params AsksSignature = Unit {0}
+IsAskedOf x params (AsksReduced t) = IsTermOf x t × IsParamOf params (head t)
+IsAskedOf x params (AsksRequirement r) = IsRequirementOf x r × IsOver (IsParamOf params) r
+
 module _ (w : TextWorld) where
   abbrev pub IsSignature : FuncId → Type 0
   IsSignature f = f.place < length w.signatures
@@ -62,15 +68,8 @@ module _ (w : TextWorld) where
   HasOuter g = (f : FuncId) → g.outer ≡ Some f → IsSignature f
 
   -- A query asks a signature of the world about type parameters over its generic parameters.
-  abbrev pub IsAskedOf : FuncId → Term → Type 0
-  IsAskedOf f t = IsTermOf w.lexicon t × IsParamOf (signature_at w f).params (head t)
-
   abbrev pub IsQueryOf : TermQuery → Type 0
-  IsQueryOf (AsksSignature f) = IsSignature f
-  IsQueryOf (AsksReduced f t) = IsSignature f × IsAskedOf f t
-  IsQueryOf (AsksConforms f t p) = IsSignature f × IsAskedOf f t × IsProtocol w.lexicon p
-  IsQueryOf (AsksAnyObject f t) = IsSignature f × IsAskedOf f t
-  IsQueryOf (AsksEquals f t u) = IsSignature f × IsAskedOf f t × IsAskedOf f u
+  IsQueryOf q = IsSignature q.f × IsAskedOf w.lexicon (signature_at w q.f).params q.asks
 
 -- A protocol inherits another if and only if a chain of written conformances of the bare `Self`, one or more, leads there.
 abbrev pub IsInheritanceWritten : TextWorld → Type 0

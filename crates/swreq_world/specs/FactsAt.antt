@@ -1,8 +1,8 @@
 -- From what one derives in a world.
 use Rattle.std.specs.Prelude.{List, length, map}
-use Rattle.swreq_derive.specs.Derivation.{Source, TermFacts, TermRequirement}
-use Rattle.swreq_derive.specs.Derivation.Source.{Written}
-use Rattle.swreq_derive.specs.Facts.{IdFacts, generic_params}
+use Rattle.swreq_lexicon.specs.swreq_derive.Derivation.{Source, TermFacts, TermRequirement}
+use Rattle.swreq_lexicon.specs.swreq_derive.Derivation.Source.{Written}
+use Rattle.swreq_lexicon.specs.swreq_derive.Facts.{IdFacts, generic_params}
 use Rattle.swreq_lexicon.specs.Lexicons.{associated_types}
 use Rattle.swreq_lowering.specs.declared.ids.FuncId.{FuncId}
 use Rattle.swreq_lowering.specs.Requirements.{PlacedRequirement}

@@ -1,7 +1,7 @@
 -- Inheritance as it is written.
 use Rattle.swreq_param.specs.declared.ids.ProtoId.{ProtoId}
-use Rattle.swreq_derive.specs.Derivation.{TermFacts}
-use Rattle.swreq_derive.specs.Inheritance.{InheritsDirectly, LeadsTo}
+use Rattle.swreq_lexicon.specs.swreq_derive.Derivation.{TermFacts}
+use Rattle.swreq_lexicon.specs.swreq_derive.Inheritance.{InheritsDirectly, LeadsTo}
 
 -- A chain of direct steps, one or more, leads from P to Q.
 abbrev pub LeadsOnTo : TermFacts → ProtoId → ProtoId → Type 0

@@ -1,6 +1,6 @@
 -- What the fields of a World show.
 use Rattle.std.specs.Prelude.{◌≡◌, ℕ, ◌≤◌, [], length, map, slice_index_or}
-use Rattle.swreq_derive.specs.Facts.{AreOneToOne}
+use Rattle.swreq_lexicon.specs.swreq_derive.Facts.{AreOneToOne}
 use Rattle.swreq_lexicon.specs.Lexicons.{associated_types}
 use Rattle.swreq_lowering.specs.Small.{HasFewParams}
 use Rattle.swreq_world.specs.declared.world.World.TheInside.{Inside}

@@ -1,3 +1,8 @@
+pub use Rattle.swreq_resolve.specs as swreq_resolve
+pub use Rattle.swreq_param.specs as swreq_param
+pub use Rattle.swreq_lexicon.specs.swreq_derive as swreq_derive
+pub use Rattle.swreq_lexicon.specs as swreq_lexicon
+pub use Rattle.swreq_lowering.specs as swreq_lowering
 pub mod Places
 pub mod Worlds
 pub mod ByTable

@@ -1,8 +1,8 @@
 -- What is written in each signature itself.
 use Rattle.std.specs.Prelude.{ℕ, List, [], Option, Some, None, slice_get}
-use Rattle.swreq_decl.specs.declared.skeleton.FunctionDecl.{FunctionDecl}
-use Rattle.swreq_names.specs.declared.signature.Signature.{Signature}
-use Rattle.swreq_names.specs.declared.signature.Signature.TheVariants.{Struct, Function, Nested}
+use Rattle.swreq_lexicon.specs.swreq_decl.declared.skeleton.FunctionDecl.{FunctionDecl}
+use Rattle.swreq_lexicon.specs.swreq_names.declared.signature.Signature.{Signature}
+use Rattle.swreq_lexicon.specs.swreq_names.declared.signature.Signature.TheVariants.{Struct, Function, Nested}
 use Rattle.swreq_lowering.specs.Requirements.{PlacedRequirement, in_inner}
 use Rattle.swreq_lowering.specs.Signatures.{functions_of, own_depth, params_of}
 use Rattle.swreq_lowering.specs.Words.{WordsView}

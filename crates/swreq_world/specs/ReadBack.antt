@@ -1,21 +1,21 @@
 -- What the ids of a text say, read back by its lexicon: the words that are written.
 use Rattle.std.specs.Prelude.{◌≡◌, ◌≢◌, true, false, List, [], ◌∷◌, Some, slice_get, Contains}
 use Rattle.std.specs.Option.{option_map}
-use Rattle.swreq_decl.specs.declared.skeleton.Span.{Span}
-use Rattle.swreq_decl.specs.declared.skeleton.StepDecl.{StepDecl}
-use Rattle.swreq_decl.specs.declared.skeleton.StepDecl.TheVariants as decls
-use Rattle.swreq_decl.specs.declared.skeleton.TypeDecl.{TypeDecl}
-use Rattle.swreq_decl.specs.declared.skeleton.AssocDecl.{AssocDecl}
-use Rattle.swreq_decl.specs.declared.skeleton.Entity.{Entity}
-use Rattle.swreq_decl.specs.declared.skeleton.ProtocolDecl.{ProtocolDecl}
-use Rattle.swreq_decl.specs.declared.skeleton.Ask.{Ask}
-use Rattle.swreq_decl.specs.declared.skeleton.Ask.TheVariants as asks
-use Rattle.swreq_decl.specs.declared.skeleton.QueryDecl.{QueryDecl}
-use Rattle.swreq_decl.specs.declared.skeleton.Skeleton.{Skeleton}
-use Rattle.swreq_names.specs.declared.signature.Signature.{Signature}
-use Rattle.swreq_names.specs.Parts as parts
-use Rattle.swreq_names.specs.Parts.{Subject, self_of, associated, parameter, written, Constraint, bound, same, in_protocol, in_signature, in_query}
-use Rattle.swreq_names.specs.Spaces.{word, self_bytes}
+use Rattle.swreq_lexicon.specs.swreq_decl.declared.skeleton.Span.{Span}
+use Rattle.swreq_lexicon.specs.swreq_decl.declared.skeleton.StepDecl.{StepDecl}
+use Rattle.swreq_lexicon.specs.swreq_decl.declared.skeleton.StepDecl.TheVariants as decls
+use Rattle.swreq_lexicon.specs.swreq_decl.declared.skeleton.TypeDecl.{TypeDecl}
+use Rattle.swreq_lexicon.specs.swreq_decl.declared.skeleton.AssocDecl.{AssocDecl}
+use Rattle.swreq_lexicon.specs.swreq_decl.declared.skeleton.Entity.{Entity}
+use Rattle.swreq_lexicon.specs.swreq_decl.declared.skeleton.ProtocolDecl.{ProtocolDecl}
+use Rattle.swreq_lexicon.specs.swreq_decl.declared.skeleton.Ask.{Ask}
+use Rattle.swreq_lexicon.specs.swreq_decl.declared.skeleton.Ask.TheVariants as asks
+use Rattle.swreq_lexicon.specs.swreq_decl.declared.skeleton.QueryDecl.{QueryDecl}
+use Rattle.swreq_lexicon.specs.swreq_decl.declared.skeleton.Skeleton.{Skeleton}
+use Rattle.swreq_lexicon.specs.swreq_names.declared.signature.Signature.{Signature}
+use Rattle.swreq_lexicon.specs.swreq_names.Parts as parts
+use Rattle.swreq_lexicon.specs.swreq_names.Parts.{Subject, self_of, associated, parameter, written, Constraint, bound, same, in_protocol, in_signature, in_query}
+use Rattle.swreq_lexicon.specs.swreq_names.Spaces.{word, self_bytes}
 use Rattle.swreq_param.specs.declared.ids.AssocId.{AssocId}
 use Rattle.swreq_param.specs.declared.ids.NameId.{NameId}
 use Rattle.swreq_param.specs.declared.ids.ParamId.{ParamId}
@@ -24,14 +24,16 @@ use Rattle.swreq_param.specs.declared.ids.Step.{Step}
 use Rattle.swreq_param.specs.declared.ids.Step.TheVariants as steps
 use Rattle.swreq_param.specs.Terms.{Term, self, self_param, with_steps}
 use Rattle.swreq_param.specs.Terms.Term.{Generic}
-use Rattle.swreq_rank.specs.Ranks.{Bytes}
+use Rattle.swreq_lexicon.specs.swreq_rank.Ranks.{Bytes}
 use Rattle.swreq_lexicon.specs.declared.pair.ProtocolName.{ProtocolName}
 use Rattle.swreq_lexicon.specs.Views.{LexiconView}
 use Rattle.swreq_lowering.specs.declared.ids.FuncId.{FuncId}
 use Rattle.swreq_lowering.specs.declared.context.Context.{Context}
 use Rattle.swreq_lowering.specs.declared.context.Context.TheVariants as contexts
-use Rattle.swreq_lowering.specs.Queries.{TermQuery, asked_signature, signature_in_query}
-use Rattle.swreq_lowering.specs.Queries.TermQuery.{AsksSignature, AsksReduced, AsksConforms, AsksAnyObject, AsksEquals}
+use Rattle.swreq_lexicon.specs.swreq_derive.Derivation.{TermRequirement}
+use Rattle.swreq_lexicon.specs.swreq_derive.Derivation.TermRequirement.{Conforms, Equals, IsAnyObject}
+use Rattle.swreq_lowering.specs.Queries.{TermAsks, TermQuery, asked_signature, signature_in_query}
+use Rattle.swreq_lowering.specs.Queries.TermAsks.{AsksSignature, AsksReduced, AsksRequirement}
 use Rattle.swreq_lowering.specs.Requirements.{subject_of}
 use Rattle.swreq_lowering.specs.Types.{type_in}
 use Rattle.swreq_lowering.specs.Words.{WordsView, proto_of, name_of, primaries_named}
@@ -151,29 +153,26 @@ pub record SayNames (w : WordsView) (p : ProtocolDecl) : Type 0 where
 
 -- ---- queries
 
--- the signature that a query asks
-abbrev pub asked : TermQuery → FuncId
-asked (AsksSignature f) = f
-asked (AsksReduced f t) = f
-asked (AsksConforms f t p) = f
-asked (AsksAnyObject f t) = f
-asked (AsksEquals f t u) = f
-
 module _ (text : Bytes) (s : Skeleton) (w : TextWorld) where
   -- The type parameter is the type that is written in a query on the signature.
   abbrev pub SaysIn : FuncId → Term → TypeDecl → Type 0
   SaysIn f t u = SaysType text s w.lexicon (contexts.Signature (signature_at w f).signature) t u
 
-  -- What is asked is what is written.
-  abbrev pub SaysAsk : TermQuery → Ask → Type 0
-  SaysAsk (AsksSignature f) asks.Signature = Unit {0}
-  SaysAsk (AsksReduced f t) (asks.Reduced u) = SaysIn f t u
-  SaysAsk (AsksConforms f t p) (asks.Is u e) = SaysIn f t u × (e.layout ≡ false) × SaysProtocol text w.lexicon p e.span
-  SaysAsk (AsksAnyObject f t) (asks.Is u e) = SaysIn f t u × (e.layout ≡ true)
-  SaysAsk (AsksEquals f t v) (asks.Same u r) = SaysIn f t u × SaysIn f v r
-  SaysAsk _ _ = ⊥
+  -- The requirement that is asked of the signature is the one that is written.
+  abbrev pub SaysRequirement : FuncId → TermRequirement → Ask → Type 0
+  SaysRequirement f (Conforms t p) (asks.Is u e) = SaysIn f t u × (e.layout ≡ false) × SaysProtocol text w.lexicon p e.span
+  SaysRequirement f (IsAnyObject t) (asks.Is u e) = SaysIn f t u × (e.layout ≡ true)
+  SaysRequirement f (Equals t v) (asks.Same u r) = SaysIn f t u × SaysIn f v r
+  SaysRequirement f _ _ = ⊥
+
+  -- What is asked of the signature is what is written.
+  abbrev pub SaysAsk : FuncId → TermAsks → Ask → Type 0
+  SaysAsk f AsksSignature asks.Signature = Unit {0}
+  SaysAsk f (AsksReduced t) (asks.Reduced u) = SaysIn f t u
+  SaysAsk f (AsksRequirement r) a = SaysRequirement f r a
+  SaysAsk f _ _ = ⊥
 
   -- The query asks the signature that has the name that is written, and the name of the struct around it, what is written.
   pub record SaysQuery (a : TermQuery) (q : QueryDecl) : Type 0 where
-    pub named : IsNamedAt w (option_map (word text) q.outer) (word text q.function) (asked a)
-    pub ask : SaysAsk a q.ask
+    pub named : IsNamedAt w (option_map (word text) q.outer) (word text q.function) a.f
+    pub ask : SaysAsk a.f a.asks q.ask

@@ -1,6 +1,6 @@
 -- The world of a skeleton.
 use Rattle.std.specs.Prelude.{◌≡◌, ℕ, List, map}
-use Rattle.swreq_decl.specs.declared.skeleton.Skeleton.{Skeleton}
+use Rattle.swreq_lexicon.specs.swreq_decl.declared.skeleton.Skeleton.{Skeleton}
 use Rattle.swreq_lexicon.specs.Texts.{IsLexiconOf}
 use Rattle.swreq_lowering.specs.Queries.{query_of}
 use Rattle.swreq_lowering.specs.Signatures.{in_order}

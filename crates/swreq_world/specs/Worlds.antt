@@ -2,9 +2,9 @@
 -- A world is over type parameters, as a text means it, or over the ids of a table, as the code keeps it: R are its requirements, and
 -- Q its queries.
 use Rattle.std.specs.Prelude.{ℕ, List, [], Option, None, slice_index_or}
-use Rattle.swreq_derive.specs.declared.known.Params.{Params}
-use Rattle.swreq_names.specs.declared.signature.Signature.{Signature}
-use Rattle.swreq_names.specs.declared.signature.Signature.TheVariants.{Function}
+use Rattle.swreq_lexicon.specs.swreq_derive.declared.known.Params.{Params}
+use Rattle.swreq_lexicon.specs.swreq_names.declared.signature.Signature.{Signature}
+use Rattle.swreq_lexicon.specs.swreq_names.declared.signature.Signature.TheVariants.{Function}
 use Rattle.swreq_param.specs.declared.ids.ProtoId.{ProtoId}
 use Rattle.swreq_lexicon.specs.Views.{LexiconView}
 use Rattle.swreq_lowering.specs.declared.ids.FuncId.{FuncId}

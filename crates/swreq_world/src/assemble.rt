@@ -1,28 +1,23 @@
 // The world of a skeleton whose names resolve.
 ghost use Rattle.std.specs.Prelude.{◌≡◌, ◌≤◌, ◌⊎◌, length, IfOk, IfErr, IsOk, Err};
 ghost use Rattle.swreq_param.specs.Tables.{Extends};
-ghost use Rattle.swreq_decl.specs.Skeletons.{StandsFor};
-ghost use Rattle.swreq_names.specs.Names.{HasDeclared};
-ghost use Rattle.swreq_resolve.specs.Resolving.{Resolve, RefusesSkeleton};
-ghost use Rattle.swreq_resolve.specs.declared.refusal.NameErr.{NameErr};
-ghost use Rattle.swreq_resolve.specs.declared.refusal.NameErr.TheVariants.{Memory};
+ghost use Rattle.swreq_lexicon.specs.swreq_decl.Skeletons.{StandsFor};
+ghost use Rattle.swreq_lexicon.specs.swreq_names.Names.{HasDeclared};
+ghost use Rattle.swreq_resolve.specs.{Resolving.{Resolve, RefusesSkeleton}, declared.refusal.NameErr.{NameErr}, declared.refusal.NameErr.TheVariants.{Memory}};
 ghost use Rattle.swreq_lexicon.specs.Texts.{IsLexiconOf};
 ghost use Rattle.swreq_lowering.specs.Short.{HasShortLists};
-ghost use Rattle.swreq_world.specs.ByTable.{world_by, IsOverTable};
-ghost use Rattle.swreq_world.specs.Short.{IsShort};
-ghost use Rattle.swreq_world.specs.TextOver.{IsTextOver};
-ghost use Rattle.swreq_world.specs.WorldOf.{IsWorldOf};
+ghost use Rattle.swreq_world.specs.{ByTable.{world_by, IsOverTable}, Short.{IsShort}, TextOver.{IsTextOver}, WorldOf.{IsWorldOf}};
 
 use crate::laws::{worlds_are_closed, worlds_are_short};
 use crate::making::lists_of;
 use crate::world::World;
 use std::alloc::{AllocError, Global};
-use swreq_decl::Skeleton;
 use swreq_lex::laws::tokens_are_slices;
 use swreq_lexicon::Lexicon;
+use swreq_lexicon::decl::Skeleton;
+use swreq_lexicon::names::Names;
 use swreq_lowering::laws::lists_are_short;
 use swreq_lowering::words_of;
-use swreq_names::Names;
 use swreq_param::ParamTable;
 use swreq_resolve::{NameErr, resolve_names};
 

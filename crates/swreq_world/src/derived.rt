@@ -1,11 +1,10 @@
 // What one derives from the list of a signature.
 ghost use Rattle.std.specs.Prelude.{◌≡◌, ◌<◌, length, map};
-ghost use Rattle.swreq_world.specs.FactsAt.{facts_at};
-ghost use Rattle.swreq_world.specs.Worlds.{signature_at};
+ghost use Rattle.swreq_world.specs.{FactsAt.{facts_at}, Worlds.{signature_at}};
 
 use crate::facts::FunctionFacts;
 use crate::world::World;
-use swreq_derive::{Facts, Params, Requirement};
+use swreq_lexicon::derive::{Facts, Params, Requirement};
 use swreq_lowering::FuncId;
 use swreq_param::{AssocId, NameId, ProtoId};
 

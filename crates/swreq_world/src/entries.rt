@@ -1,22 +1,17 @@
 // The signatures of a text, each with what is written in itself.
 ghost use Rattle.std.specs.Prelude.{◌≡◌, slice_get, map, IfOk};
 ghost use Rattle.swreq_param.specs.Tables.{Extends};
-ghost use Rattle.swreq_world.specs.Entries.{IsEntryOf, entry_meant, FillsEntries};
-ghost use Rattle.swreq_world.specs.Own.{of_inner, own_list, own_signature};
-ghost use Rattle.swreq_world.specs.Text.{function_name, name_of, of_function, of_struct, outer_of, struct_name};
-ghost use Rattle.swreq_lowering.specs.Adding.{Lists};
-ghost use Rattle.swreq_lowering.specs.Short.{HasShortLists};
-ghost use Rattle.swreq_lowering.specs.Signatures.{functions_of};
-ghost use Rattle.swreq_lowering.specs.Words.{words_by};
+ghost use Rattle.swreq_world.specs.{Entries.{IsEntryOf, entry_meant, FillsEntries}, Own.{of_inner, own_list, own_signature}, Text.{function_name, name_of, of_function, of_struct, outer_of, struct_name}};
+ghost use Rattle.swreq_lowering.specs.{Adding.{Lists}, Short.{HasShortLists}, Signatures.{functions_of}, Words.{words_by}};
 
 use crate::entry::Entry;
 use crate::order::Order;
 use std::alloc::{AllocError, Global};
-use swreq_decl::{FunctionDecl, StructDecl};
+use swreq_lexicon::decl::{FunctionDecl, StructDecl};
+use swreq_lexicon::names::{Signature, word};
 use swreq_lowering::{
     FuncId, Words, Written, of_function, of_nested, of_struct, own_depth, params_of,
 };
-use swreq_names::{Signature, word};
 use swreq_param::ParamTable;
 use swreq_text::Seq;
 

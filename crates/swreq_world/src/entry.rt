@@ -1,13 +1,12 @@
 // A signature of a text.
 ghost use Rattle.std.specs.Prelude.{◌≡◌, ◌↔◌, ◌<◌, ◌≤◌, ◌++◌, ◌-◌, [], Some, IfOk, IsTrue, length, map, take};
-ghost use Rattle.swreq_world.specs.Additions.{AddsNothing};
-ghost use Rattle.swreq_world.specs.Entries.{around, entry_view};
+ghost use Rattle.swreq_world.specs.{Additions.{AddsNothing}, Entries.{around, entry_view}};
 
 use crate::listed::bare_of;
 use std::alloc::{AllocError, Global};
-use swreq_derive::{Params, Requirement};
+use swreq_lexicon::derive::{Params, Requirement};
+use swreq_lexicon::names::Signature;
 use swreq_lowering::{FuncId, Written};
-use swreq_names::Signature;
 use swreq_text::Seq;
 
 /// A signature: which it is, its name, the struct around it, the depth of its own generic parameters, how many have depth 0

@@ -1,11 +1,11 @@
 // A signature of a world, as a list from which one derives.
 ghost use Rattle.std.specs.Prelude.{◌≡◌, ◌<◌, length, map};
-ghost use Rattle.swreq_derive.specs.Facts.{AreOneToOne};
+ghost use Rattle.swreq_lexicon.specs.swreq_derive.Facts.{AreOneToOne};
 ghost use Rattle.swreq_lexicon.specs.Lexicons.{associated_types};
 ghost use Rattle.swreq_world.specs.Worlds.{signature_at};
 
 use crate::world::World;
-use swreq_derive::Requirement;
+use swreq_lexicon::derive::Requirement;
 use swreq_lowering::FuncId;
 
 /// The list of a signature of a world, over the protocols of the world.

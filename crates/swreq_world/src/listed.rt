@@ -3,7 +3,7 @@ ghost use Rattle.std.specs.Prelude.{◌≡◌, map, IfOk};
 
 use std::alloc::{AllocError, Global};
 use std::marker::Model;
-use swreq_derive::Requirement;
+use swreq_lexicon::derive::Requirement;
 use swreq_lowering::Written;
 use swreq_text::Seq;
 

@@ -1,10 +1,9 @@
 // The lists of the world of a text.
 ghost use Rattle.std.specs.Prelude.{IfOk};
-ghost use Rattle.swreq_names.specs.Names.{HasDeclared};
+ghost use Rattle.swreq_lexicon.specs.swreq_names.Names.{HasDeclared};
 ghost use Rattle.swreq_param.specs.Tables.{Extends};
 ghost use Rattle.swreq_world.specs.Made.{AreListsOf};
-ghost use Rattle.swreq_lowering.specs.Short.{HasShortLists};
-ghost use Rattle.swreq_lowering.specs.Words.{words_by};
+ghost use Rattle.swreq_lowering.specs.{Short.{HasShortLists}, Words.{words_by}};
 
 use crate::entries::entries;
 use crate::made::WorldLists;

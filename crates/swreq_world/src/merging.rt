@@ -1,12 +1,11 @@
 // The signatures of a text in written order.
-ghost use Rattle.std.specs.Prelude.{◌≡◌, ◌+◌, ◌++◌, ◌<◌, ◌≤◌, ◌-◌, length, drop, IfOk, OnOk};
-ghost use Rattle.std.specs.List.{prefix_len};
-ghost use Rattle.swreq_decl.specs.Signatures.{stands_before};
+ghost use Rattle.std.specs.{Prelude.{◌≡◌, ◌+◌, ◌++◌, ◌<◌, ◌≤◌, ◌-◌, length, drop, IfOk, OnOk}, List.{prefix_len}};
+ghost use Rattle.swreq_lexicon.specs.swreq_decl.Signatures.{stands_before};
 ghost use Rattle.swreq_lowering.specs.Signatures.{functions_from, in_order, nested_from, with_nested};
 
 use std::alloc::{AllocError, Global};
-use swreq_decl::{FunctionDecl, Skeleton, StructDecl};
-use swreq_names::Signature;
+use swreq_lexicon::decl::{FunctionDecl, Skeleton, StructDecl};
+use swreq_lexicon::names::Signature;
 
 /// Whether a function stands before a struct.
 fn stands_before(item: &StructDecl, function: &FunctionDecl) -> bool

@@ -1,6 +1,6 @@
 // The signatures of a text, by their places.
 ghost use Rattle.std.specs.Prelude.{◌≡◌, ◌≤◌, length, unwrap_or, slice_index_or, None, IfOk};
-ghost use Rattle.swreq_names.specs.declared.signature.Signature.TheVariants.{Struct, Function};
+ghost use Rattle.swreq_lexicon.specs.swreq_names.declared.signature.Signature.TheVariants.{Struct, Function};
 ghost use Rattle.swreq_world.specs.Places.{IsSmall};
 ghost use Rattle.swreq_lowering.specs.Signatures.{func_id, in_order, place_in};
 
@@ -8,9 +8,9 @@ use crate::merging::in_order;
 use crate::places::{Places, places_of};
 use std::alloc::{AllocError, Global};
 use std::marker::Model;
-use swreq_decl::Skeleton;
+use swreq_lexicon::decl::Skeleton;
+use swreq_lexicon::names::Signature;
 use swreq_lowering::FuncId;
-use swreq_names::Signature;
 
 /// At most 1,048,576 signatures in written order.
 #[derive(Drop)]
@@ -21,7 +21,7 @@ pub struct Order {
 
 impl Model for Order {
     ghost use Rattle.std.specs.Prelude.{List, length, ◌≤◌};
-    ghost use Rattle.swreq_names.specs.declared.signature.Signature.{Signature};
+    ghost use Rattle.swreq_lexicon.specs.swreq_names.declared.signature.Signature.{Signature};
     ghost use Rattle.swreq_world.specs.Places.{ArePlaces};
 
     ghost Value = { List Signature };

@@ -1,11 +1,11 @@
 // The places of signatures.
 ghost use Rattle.std.specs.Prelude.{◌≡◌, ℕ, cond, nat_eq, None, Some, slice_index_or, IfOk, OnOk};
-ghost use Rattle.swreq_names.specs.declared.signature.Signature.TheVariants.{Struct, Function};
+ghost use Rattle.swreq_lexicon.specs.swreq_names.declared.signature.Signature.TheVariants.{Struct, Function};
 ghost use Rattle.swreq_world.specs.Places.{ArePlaces};
 ghost use Rattle.swreq_lowering.specs.Signatures.{is_signature};
 
 use std::alloc::{AllocError, Global};
-use swreq_names::Signature;
+use swreq_lexicon::names::Signature;
 
 /// The places of structs, and of functions at the top.
 #[derive(Drop)]

@@ -1,11 +1,8 @@
 // The requirements of the protocols, by rank.
 ghost use Rattle.std.specs.Prelude.{◌≡◌, ◌<◌, length, map, slice_get, IfOk};
 ghost use Rattle.swreq_param.specs.Tables.{Extends};
-ghost use Rattle.swreq_world.specs.Filling.{FillsLists};
-ghost use Rattle.swreq_world.specs.Text.{of_protocol, of_place, requirements_named};
-ghost use Rattle.swreq_lowering.specs.Adding.{Lists};
-ghost use Rattle.swreq_lowering.specs.ByTable.{AreOf, placed};
-ghost use Rattle.swreq_lowering.specs.Words.{words_by};
+ghost use Rattle.swreq_world.specs.{Filling.{FillsLists}, Text.{of_protocol, of_place, requirements_named}};
+ghost use Rattle.swreq_lowering.specs.{Adding.{Lists}, ByTable.{AreOf, placed}, Words.{words_by}};
 
 use crate::listed::RequirementList;
 use std::alloc::{AllocError, Global};

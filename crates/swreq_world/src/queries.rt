@@ -1,17 +1,14 @@
 // The queries of a text.
 ghost use Rattle.std.specs.Prelude.{◌≡◌, map, IfOk};
-ghost use Rattle.swreq_names.specs.Names.{HasDeclared};
+ghost use Rattle.swreq_lexicon.specs.swreq_names.Names.{HasDeclared};
 ghost use Rattle.swreq_param.specs.Tables.{Extends};
 ghost use Rattle.swreq_world.specs.Filling.{FillsQueries};
-ghost use Rattle.swreq_lowering.specs.Adding.{Asks};
-ghost use Rattle.swreq_lowering.specs.Queries.{query_of};
-ghost use Rattle.swreq_lowering.specs.Short.{HasShortLists};
-ghost use Rattle.swreq_lowering.specs.Words.{words_by};
+ghost use Rattle.swreq_lowering.specs.{ByTable.{HasQueryIdsOf, query_by}, Queries.{query_of}, Short.{HasShortLists}, Words.{words_by}};
 
 use crate::order::Order;
 use std::alloc::{AllocError, Global};
-use swreq_decl::QueryDecl;
-use swreq_lowering::{Query, Words, asked_signature, query};
+use swreq_lexicon::decl::QueryDecl;
+use swreq_lowering::{Query, Words, asked_of, asked_signature};
 use swreq_param::ParamTable;
 
 /// What a written query asks, over the ids of the table.
@@ -24,13 +21,15 @@ fn query_of(
     requires short { HasShortLists words.now.text.now words.now.skeleton.now }
     requires declared { HasDeclared words.now.text.now words.now.skeleton.now
         words.now.lexicon.now.resolved }
+    ensures of { IfOk result (HasQueryIdsOf table.new) }
     ensures asks { IfOk result
-        (Asks table.old table.new (query_of (words_by words.now) order.now asked.now)) }
+        (λ q. query_by table.new q ≡ query_of (words_by words.now) order.now asked.now) }
     ensures extends { Extends table.old table.new }
 {
     let signature = asked_signature(words, asked);
     let function = order.func_id(signature);
-    query(table, words, signature, function, &asked.ask)
+    let asks = asked_of(table, words, signature, &asked.ask)?;
+    Ok(Query { f: function, asks })
 }
 
 /// The queries in written order.

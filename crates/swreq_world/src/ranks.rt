@@ -1,7 +1,6 @@
 // The protocols, names, associated types and member symbols of a world, by rank.
 ghost use Rattle.std.specs.Prelude.{◌≡◌, ◌↔◌, ◌<◌, IsTrue, Some, length, slice_get, Contains, MatchOption};
-ghost use Rattle.swreq_lexicon.specs.Lexicons.{pair};
-ghost use Rattle.swreq_lexicon.specs.Views.{inherits, depth, HasMember};
+ghost use Rattle.swreq_lexicon.specs.{Lexicons.{pair}, Views.{inherits, depth, HasMember}};
 
 use crate::world::World;
 use swreq_lexicon::ProtocolName;

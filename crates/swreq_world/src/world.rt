@@ -1,13 +1,8 @@
 // The world of a text.
-ghost use Rattle.std.specs.Prelude.{◌≡◌, ◌↔◌, ◌<◌, IsTrue, Some, None, length, map, IfOk, MatchOption};
-ghost use Rattle.std.specs.Option.{option_map};
-ghost use Rattle.swreq_derive.specs.Facts.{AreOneToOne};
+ghost use Rattle.std.specs.{Prelude.{◌≡◌, ◌↔◌, ◌<◌, IsTrue, Some, None, length, map, IfOk, MatchOption}, Option.{option_map}};
+ghost use Rattle.swreq_lexicon.specs.swreq_derive.Facts.{AreOneToOne};
 ghost use Rattle.swreq_lexicon.specs.Lexicons.{associated_types};
-ghost use Rattle.swreq_world.specs.Additions.{AddsNothing};
-ghost use Rattle.swreq_world.specs.Entries.{entry_view};
-ghost use Rattle.swreq_world.specs.Lookups.{func_named, is_struct, outer_name, param_of_signature};
-ghost use Rattle.swreq_world.specs.Ready.{IsReady};
-ghost use Rattle.swreq_world.specs.Worlds.{requirements_of, signature_at};
+ghost use Rattle.swreq_world.specs.{Additions.{AddsNothing}, Entries.{entry_view}, Lookups.{func_named, is_struct, outer_name, param_of_signature}, Ready.{IsReady}, Worlds.{requirements_of, signature_at}};
 
 use crate::entry::{Entry, adds_nothing, whole, whole_after};
 use crate::listed::{RequirementList, bare_of};
@@ -15,10 +10,10 @@ use crate::made::WorldLists;
 use crate::order::Order;
 use std::alloc::{AllocError, Global};
 use std::marker::Model;
-use swreq_derive::{Params, Requirement};
 use swreq_lexicon::Lexicon;
+use swreq_lexicon::derive::{Params, Requirement};
+use swreq_lexicon::names::{Param, Signature};
 use swreq_lowering::{FuncId, Query, Written};
-use swreq_names::{Param, Signature};
 use swreq_param::{ParamId, ProtoId};
 use swreq_text::Seq;
 
@@ -37,8 +32,7 @@ pub struct World {
 }
 
 impl Model for World {
-    ghost use Rattle.swreq_world.specs.Inside.{view_of, IsWhole};
-    ghost use Rattle.swreq_world.specs.Worlds.{IdWorld};
+    ghost use Rattle.swreq_world.specs.{Inside.{view_of, IsWhole}, Worlds.{IdWorld}};
 
     ghost Value = { IdWorld };
 

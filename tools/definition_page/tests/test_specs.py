@@ -74,6 +74,16 @@ class Rests(Folder):
         self.assertEqual(names["turned"], (LOW_MODULE, "other"))
         self.assertEqual(aliases, {"low": LOW_MODULE})
 
+    def test_a_name_that_another_crate_passes_on_is_brought_from_its_own_module(self) -> None:
+        names, aliases = uses("use Rattle.high.specs.low.Low.{other}\nuse Rattle.high.specs.low.declared.file.Kind.{Kind}\n"
+                              "use Rattle.high.specs.low.Low as under\n", "use")
+        self.assertEqual(names, {"other": (LOW_MODULE, "other"), "Kind": ("Rattle.low.specs.declared.file.Kind", "Kind")})
+        self.assertEqual(aliases, {"under": LOW_MODULE})
+
+    def test_one_line_may_bring_names_of_several_modules(self) -> None:
+        names, _ = uses("ghost use Rattle.high.specs.{low.Low.{other as turned, all}, High.{Alone}};", "ghost use")
+        self.assertEqual(names, {"turned": (LOW_MODULE, "other"), "all": (LOW_MODULE, "all"), "Alone": (HIGH_MODULE, "Alone")})
+
     def test_a_definition_rests_on_all_that_it_names_and_so_on(self) -> None:
         keys, _ = self.specs.closure([(HIGH_MODULE, "IsTurned")])
         self.assertEqual(keys, {(HIGH_MODULE, "IsTurned"), (LOW_MODULE, "other"), (LOW_MODULE, "Colour")})

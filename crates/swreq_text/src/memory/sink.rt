@@ -1,7 +1,6 @@
 // Memory as a sink.
 ghost use Rattle.std.specs.Prelude.{◌≡◌, ◌⊎◌, ◌+◌, ◌-◌, ◌≤◌, ◌↔◌, [], ◌++◌, min, length, take, Some, None, IsErr, IfOk, OnErr};
-ghost use Rattle.swreq_text.specs.Faults.{greatest_count, one_more};
-ghost use Rattle.swreq_text.specs.Memory.{FailsNext, IsFullFor};
+ghost use Rattle.swreq_text.specs.{Faults.{greatest_count, one_more}, Memory.{FailsNext, IsFullFor}};
 
 use super::source::names;
 use crate::{IoFailed, Sink};

@@ -1,7 +1,6 @@
 // Bytes in memory as a source.
 ghost use Rattle.std.specs.Prelude.{◌≡◌, ◌<◌, ◌≤◌, ◌↔◌, [], min, length, take, drop, Some, Contains, IsTrue, IsErr, IsOk, IfOk, OnErr};
-ghost use Rattle.swreq_text.specs.Faults.{one_more};
-ghost use Rattle.swreq_text.specs.Memory.{FailsNext};
+ghost use Rattle.swreq_text.specs.{Faults.{one_more}, Memory.{FailsNext}};
 
 use crate::{IoFailed, Source};
 use std::marker::Model;

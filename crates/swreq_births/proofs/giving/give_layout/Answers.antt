@@ -1,7 +1,7 @@
 use Rattle.std.proofs.Common.{sym, subst}
 use Rattle.swreq_param.specs.Tables.{term_at}
-use Rattle.swreq_derive.specs.Derivation.TermRequirement.{IsAnyObject}
-use Rattle.swreq_derive.specs.Derivation.TermStatement.{Requires}
+use Rattle.swreq_correspondence.specs.swreq_derive.Derivation.TermRequirement.{IsAnyObject}
+use Rattle.swreq_correspondence.specs.swreq_derive.Derivation.TermStatement.{Requires}
 use Rattle.swreq_derivation.specs.UnderWay.{States}
 use Rattle.swreq_readings.proofs.ReadingLemmas.{term_still, word_still}
 use Rattle.swreq_births.proofs.Equations.{layout_both}

@@ -2,11 +2,11 @@ use Rattle.std.proofs.Common.{inl, refl, subst}
 use Rattle.std.proofs.lemmas.Option.{slice_get_within}
 use Rattle.std.proofs.lemmas.Result.{on_ok_weaker}
 use Rattle.swreq_param.specs.Tables.{term_at}
-use Rattle.swreq_derive.specs.Derivation.TermRequirement.{Conforms}
-use Rattle.swreq_derive.specs.Derivation.TermStatement.{Requires}
+use Rattle.swreq_correspondence.specs.swreq_derive.Derivation.TermRequirement.{Conforms}
+use Rattle.swreq_correspondence.specs.swreq_derive.Derivation.TermStatement.{Requires}
 use Rattle.swreq_derivation.specs.UnderWay.{States}
-use Rattle.swreq_readings.specs.declared.alphabet.Named.{Named}
-use Rattle.swreq_readings.specs.Alphabets.{member_at}
+use Rattle.swreq_readings.specs.swreq_lexicon.declared.pair.ProtocolName.{ProtocolName}
+use Rattle.swreq_readings.specs.Alphabets.{lexicon, member_at}
 use Rattle.swreq_readings.specs.Readable.{AllowsName}
 use Rattle.swreq_births.proofs.giving.give_member.Goals as goal
 
@@ -17,7 +17,7 @@ returns-clause-both c =
     let t = term_at c.args.derivation.now.table c.args.subject in
     let m = member_at g c.args.rank in
     let says : States u (Requires (Conforms t m.proto)) = c.inherit.ensures.continues.grows.stays _ c.requires.conforms in
-    let within = slice_get_within g.members c.args.rank c.requires.named.0 c.requires.named.1 in
+    let within = slice_get_within (lexicon g).symbols c.args.rank c.requires.named.0 c.requires.named.1 in
     on_ok_weaker c.inherit.result (λ name.
-    let named : AllowsName g u t m.name = subst (λ (z : Named). AllowsName g u t z.name) c.member_at-named.ensures name in
+    let named : AllowsName g u t m.name = subst (λ (z : ProtocolName). AllowsName g u t z.name) c.member_at-named.ensures name in
     record { left = (says, (named, tt)); right = ((within, says, named), tt); equal = inl refl }) c.inherit.ensures.name

@@ -1,21 +1,14 @@
 use Rattle.std.proofs.Common.{subst, sym}
-use Rattle.swreq_lowering.specs.declared.ids.Query.TheVariants.{Signature}
-use Rattle.swreq_symbols.proofs.Growing.{text_stays, world_stays}
-use Rattle.swreq_symbols.proofs.OfText.{query_at}
+use Rattle.swreq_machine.proofs.swreq_symbols.Growing.{text_stays, world_stays}
+use Rattle.swreq_machine.proofs.swreq_symbols.OfText.{query_at}
 use Rattle.swreq_calling.specs.Ready.{AreProtocolsOf}
+use Rattle.swreq_machine.specs.swreq_lowering.ByTable.{no_query}
 use Rattle.swreq_calling.proofs.asking.answers_over.Goals as goal
-
-pub loop-k-init : goal.loop-k-init
-loop-k-init c = record {
-  text = c.requires.text;
-  short = c.requires.short;
-  protocols = record { rounds = (_, c.in_ok-protocols.ensures.rounds); rules = c.in_ok-protocols.ensures.rules };
-}
 
 pub put_answer-requires-clause-query : goal.put_answer-requires-clause-query
 put_answer-requires-clause-query c =
     query_at c.args.world.now c.loop-k.table c.loop-k.invariant.text c.queries-queries.result.now c.loop-k.k
-    (Signature (record { place = 0 })) c.queries-queries.ensures c.loop-k-test.true
+    no_query c.queries-queries.ensures c.loop-k-test.true
 
 pub loop-k-preserved : goal.loop-k-preserved
 loop-k-preserved c =
@@ -25,6 +18,6 @@ loop-k-preserved c =
     let ready = c.loop-k.invariant in record {
       text = text_stays old new more c.args.world.now ready.text;
       short = ready.short;
-      protocols = subst (λ w. AreProtocolsOf w c.in_ok-protocols.protocols)
+      protocols = subst (λ w. AreProtocolsOf w c.in_ok-built.built)
           (sym (world_stays old new more c.args.world.now ready.text.table)) ready.protocols;
     }

@@ -1,5 +1,5 @@
-use Rattle.swreq_derive.specs.Derivation.Source.{Written}
-use Rattle.swreq_correspondence.specs.Equations.{UsableEquation}
+use Rattle.swreq_canonical.specs.swreq_derive.Derivation.Source.{Written}
+use Rattle.swreq_canonical.specs.swreq_correspondence.Equations.{UsableEquation}
 use Rattle.swreq_rounds.specs.Presents.{ProtocolEquation}
 use Rattle.swreq_candidates.proofs.RulesGive.{least_words, reduced_system}
 use Rattle.swreq_candidates.proofs.laws.complete_rules_give_least_words.Goals as goal

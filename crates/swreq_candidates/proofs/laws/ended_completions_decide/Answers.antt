@@ -1,4 +1,4 @@
-use Rattle.swreq_derive.specs.Derivation.TermStatement.{Requires}
+use Rattle.swreq_canonical.specs.swreq_derive.Derivation.TermStatement.{Requires}
 use Rattle.swreq_candidates.proofs.Completions.{cuts, derivable_here, firsts_here, reduced_here}
 use Rattle.swreq_candidates.proofs.laws.ended_completions_decide.Goals as goal
 

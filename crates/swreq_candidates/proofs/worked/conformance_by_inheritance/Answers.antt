@@ -1,16 +1,16 @@
 use Rattle.std.proofs.Common.{[], ◌∷◌, refl, inl, inr, lit<}
-use Rattle.swreq_param.specs.Terms.{self}
-use Rattle.swreq_derive.specs.Derivation.Derives.{generic}
-use Rattle.swreq_derive.specs.Derivation.TermRequirement.{Conforms}
-use Rattle.swreq_derive.specs.Worked.{τ_0_0}
-use Rattle.swreq_lemmas.proofs.Members.{each_member}
-use Rattle.swreq_word.specs.declared.symbols.Symbol.TheVariants.{Proto}
-use Rattle.swreq_word.specs.Relations.Chain.{done, more}
-use Rattle.swreq_word.proofs.Chains.{at_once}
-use Rattle.swreq_correspondence.specs.Equations.Equation.{of_protocol}
-use Rattle.swreq_correspondence.specs.Equations.Link.{back, forth, there}
-use Rattle.swreq_correspondence.specs.Symbols.{Word}
-use Rattle.swreq_correspondence.specs.Worked.{first_param}
+use Rattle.swreq_canonical.specs.swreq_param.Terms.{self}
+use Rattle.swreq_canonical.specs.swreq_derive.Derivation.Derives.{generic}
+use Rattle.swreq_canonical.specs.swreq_derive.Derivation.TermRequirement.{Conforms}
+use Rattle.swreq_canonical.specs.swreq_derive.Worked.{τ_0_0}
+use Rattle.swreq_canonical.proofs.swreq_lemmas.Members.{each_member}
+use Rattle.swreq_canonical.specs.swreq_word.declared.symbols.Symbol.TheVariants.{Proto}
+use Rattle.swreq_canonical.specs.swreq_word.Relations.Chain.{done, more}
+use Rattle.swreq_canonical.proofs.swreq_word.Chains.{at_once}
+use Rattle.swreq_canonical.specs.swreq_correspondence.Equations.Equation.{of_protocol}
+use Rattle.swreq_canonical.specs.swreq_correspondence.Equations.Link.{back, forth, there}
+use Rattle.swreq_canonical.specs.swreq_correspondence.Symbols.{Word}
+use Rattle.swreq_canonical.specs.swreq_correspondence.Worked.{first_param}
 use Rattle.swreq_canonical.specs.Worked.{one, Base, Derived, inherited, inherited_g}
 use Rattle.swreq_candidates.specs.Evidence.{HasPlainTypes, RestEquation}
 use Rattle.swreq_candidates.specs.Worked.{inherited_symbols}

@@ -1,19 +1,19 @@
 use Rattle.std.proofs.Common.{◌≡◌, zero, suc, [], ◌∷◌, refl, ap, subst, lit<, arith}
-use Rattle.swreq_param.specs.Terms.{Term, head, self}
-use Rattle.swreq_derive.specs.Derivation.Derives.{generic}
-use Rattle.swreq_derive.specs.Derivation.TermRequirement.{Conforms, IsAnyObject, Equals}
-use Rattle.swreq_derive.specs.Worked.{of_two, param, τ_0_0, τ_0_1, P, layouts, layouts_f}
-use Rattle.swreq_word.specs.declared.symbols.Symbol.TheVariants.{Proto, Layout}
-use Rattle.swreq_word.specs.Least.{IsLeast}
-use Rattle.swreq_word.specs.Order.{WordLess}
-use Rattle.swreq_word.specs.Relations.Chain.{done, more}
-use Rattle.swreq_word.proofs.Comparing.{by_length}
-use Rattle.swreq_correspondence.specs.Equations.{UsableEquation, AreCongruent}
-use Rattle.swreq_correspondence.specs.Equations.Equation.{of_protocol, of_source}
-use Rattle.swreq_correspondence.specs.Equations.Link.{back, forth, there}
-use Rattle.swreq_correspondence.specs.Symbols.{Word}
-use Rattle.swreq_correspondence.specs.Worked.{first_param, second_param}
-use Rattle.swreq_correspondence.proofs.Orders.{none_less}
+use Rattle.swreq_canonical.specs.swreq_param.Terms.{Term, head, self}
+use Rattle.swreq_canonical.specs.swreq_derive.Derivation.Derives.{generic}
+use Rattle.swreq_canonical.specs.swreq_derive.Derivation.TermRequirement.{Conforms, IsAnyObject, Equals}
+use Rattle.swreq_canonical.specs.swreq_derive.Worked.{of_two, param, τ_0_0, τ_0_1, P, layouts, layouts_f}
+use Rattle.swreq_canonical.specs.swreq_word.declared.symbols.Symbol.TheVariants.{Proto, Layout}
+use Rattle.swreq_canonical.specs.swreq_word.Least.{IsLeast}
+use Rattle.swreq_canonical.specs.swreq_word.Order.{WordLess}
+use Rattle.swreq_canonical.specs.swreq_word.Relations.Chain.{done, more}
+use Rattle.swreq_canonical.proofs.swreq_word.Comparing.{by_length}
+use Rattle.swreq_canonical.specs.swreq_correspondence.Equations.{UsableEquation, AreCongruent}
+use Rattle.swreq_canonical.specs.swreq_correspondence.Equations.Equation.{of_protocol, of_source}
+use Rattle.swreq_canonical.specs.swreq_correspondence.Equations.Link.{back, forth, there}
+use Rattle.swreq_canonical.specs.swreq_correspondence.Symbols.{Word}
+use Rattle.swreq_canonical.specs.swreq_correspondence.Worked.{first_param, second_param}
+use Rattle.swreq_canonical.proofs.swreq_correspondence.Orders.{none_less}
 use Rattle.swreq_candidates.specs.Worked.{layouts_symbols}
 use Rattle.swreq_candidates.proofs.Ends.{factors_by_ends, layout_least, param_least, single_factors}
 use Rattle.swreq_candidates.proofs.worked.equal_parameters.Goals as goal

@@ -1,19 +1,19 @@
 use Rattle.std.proofs.Common.{◌≡◌, zero, suc, [], ◌∷◌, refl, ap, lit<, arith}
-use Rattle.swreq_derive.specs.Derivation.{AssociatedType}
-use Rattle.swreq_derive.specs.Derivation.Derives.{generic, conf}
-use Rattle.swreq_derive.specs.Derivation.TermRequirement.{Conforms}
-use Rattle.swreq_derive.specs.Worked.{declared, of_one, param, τ_0_0, N, Missing, Next, Next_of_N, endless, endless_f}
-use Rattle.swreq_derive.proofs.WorkedDerivations.{endless_conforms, endless_next}
-use Rattle.swreq_lemmas.proofs.Members.{only_member}
-use Rattle.swreq_word.specs.declared.symbols.Symbol.TheVariants.{Proto}
-use Rattle.swreq_word.proofs.Chains.{at_once}
-use Rattle.swreq_word.proofs.Comparing.{by_length}
-use Rattle.swreq_correspondence.specs.Equations.{AreCongruent, UsableEquation}
-use Rattle.swreq_correspondence.specs.Equations.Equation.{of_source}
-use Rattle.swreq_correspondence.specs.Equations.Link.{forth}
-use Rattle.swreq_correspondence.specs.Readings.{HasName}
-use Rattle.swreq_correspondence.specs.Worked.{first_param, endless_symbols}
-use Rattle.swreq_correspondence.proofs.Orders.{none_less}
+use Rattle.swreq_canonical.specs.swreq_derive.Derivation.{AssociatedType}
+use Rattle.swreq_canonical.specs.swreq_derive.Derivation.Derives.{generic, conf}
+use Rattle.swreq_canonical.specs.swreq_derive.Derivation.TermRequirement.{Conforms}
+use Rattle.swreq_canonical.specs.swreq_derive.Worked.{declared, of_one, param, τ_0_0, N, Missing, Next, Next_of_N, endless, endless_f}
+use Rattle.swreq_canonical.proofs.swreq_derive.WorkedDerivations.{endless_conforms, endless_next}
+use Rattle.swreq_canonical.proofs.swreq_lemmas.Members.{only_member}
+use Rattle.swreq_canonical.specs.swreq_word.declared.symbols.Symbol.TheVariants.{Proto}
+use Rattle.swreq_canonical.proofs.swreq_word.Chains.{at_once}
+use Rattle.swreq_canonical.proofs.swreq_word.Comparing.{by_length}
+use Rattle.swreq_canonical.specs.swreq_correspondence.Equations.{AreCongruent, UsableEquation}
+use Rattle.swreq_canonical.specs.swreq_correspondence.Equations.Equation.{of_source}
+use Rattle.swreq_canonical.specs.swreq_correspondence.Equations.Link.{forth}
+use Rattle.swreq_canonical.specs.swreq_correspondence.Readings.{HasName}
+use Rattle.swreq_canonical.specs.swreq_correspondence.Worked.{first_param, endless_symbols}
+use Rattle.swreq_canonical.proofs.swreq_correspondence.Orders.{none_less}
 use Rattle.swreq_candidates.specs.Blocks.{AreMembersNamed}
 use Rattle.swreq_candidates.specs.Blocks.Cut.{alone, at_end, on, opened}
 use Rattle.swreq_candidates.proofs.Ends.{factors_by_ends, param_least, proto_least}

@@ -1,17 +1,17 @@
 use Rattle.std.proofs.Common.{◌≡◌, [], ◌∷◌, ◌++◌, refl, ap, ap₂, subst, sym, ◌∙◌, lit<, arith}
-use Rattle.swreq_param.specs.declared.ids.Step.TheVariants.{Bound, Name as NameStep}
-use Rattle.swreq_param.specs.Terms.{Term}
-use Rattle.swreq_param.specs.Terms.Term.{Generic, Member as MemberOf}
-use Rattle.swreq_derive.specs.Derivation.{TermRequirement}
-use Rattle.swreq_derive.specs.Derivation.TermRequirement.{Conforms, IsAnyObject, Equals}
-use Rattle.swreq_derive.specs.Worked.{bound, of_one, τ_0_0, P, A, A_of_P, shared, shared_f}
-use Rattle.swreq_derive.proofs.WorkedDerivations.{shared_to_p}
-use Rattle.swreq_word.specs.declared.symbols.Symbol.{Symbol}
-use Rattle.swreq_word.specs.declared.symbols.Symbol.TheVariants.{Proto, Member, Layout}
-use Rattle.swreq_correspondence.specs.Symbols.{Word}
-use Rattle.swreq_correspondence.specs.Types.{IsFirstFor, IsTypeOf}
-use Rattle.swreq_correspondence.specs.Worked.{first_param, shared_symbols}
-use Rattle.swreq_correspondence.proofs.OneType.{one_first, one_type}
+use Rattle.swreq_canonical.specs.swreq_param.declared.ids.Step.TheVariants.{Bound, Name as NameStep}
+use Rattle.swreq_canonical.specs.swreq_param.Terms.{Term}
+use Rattle.swreq_canonical.specs.swreq_param.Terms.Term.{Generic, Member as MemberOf}
+use Rattle.swreq_canonical.specs.swreq_derive.Derivation.{TermRequirement}
+use Rattle.swreq_canonical.specs.swreq_derive.Derivation.TermRequirement.{Conforms, IsAnyObject, Equals}
+use Rattle.swreq_canonical.specs.swreq_derive.Worked.{bound, of_one, τ_0_0, P, A, A_of_P, shared, shared_f}
+use Rattle.swreq_canonical.proofs.swreq_derive.WorkedDerivations.{shared_to_p}
+use Rattle.swreq_canonical.specs.swreq_word.declared.symbols.Symbol.{Symbol}
+use Rattle.swreq_canonical.specs.swreq_word.declared.symbols.Symbol.TheVariants.{Proto, Member, Layout}
+use Rattle.swreq_canonical.specs.swreq_correspondence.Symbols.{Word}
+use Rattle.swreq_canonical.specs.swreq_correspondence.Types.{IsFirstFor, IsTypeOf}
+use Rattle.swreq_canonical.specs.swreq_correspondence.Worked.{first_param, shared_symbols}
+use Rattle.swreq_canonical.proofs.swreq_correspondence.OneType.{one_first, one_type}
 use Rattle.swreq_candidates.specs.Candidates.{IsNamed, IsReadOff, SpeaksOf}
 use Rattle.std.proofs.lemmas.List.{same_from_push}
 use Rattle.swreq_candidates.proofs.worked.one_name_in_two_protocols.Goals as goal

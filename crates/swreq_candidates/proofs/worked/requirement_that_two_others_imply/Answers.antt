@@ -1,21 +1,21 @@
 use Rattle.std.proofs.Common.{◌≡◌, [], ◌∷◌, refl, inl, inr, lit<}
-use Rattle.swreq_param.specs.declared.ids.ProtoId.{ProtoId}
-use Rattle.swreq_param.specs.Terms.{Term, self}
-use Rattle.swreq_derive.specs.Derivation.{Derivable}
-use Rattle.swreq_derive.specs.Derivation.Derives.{generic, conf, assoc_name}
-use Rattle.swreq_derive.specs.Derivation.Source.{SelfOf}
-use Rattle.swreq_derive.specs.Derivation.TermRequirement.{Conforms, Equals}
-use Rattle.swreq_derive.specs.Derivation.TermStatement.{IsValid}
-use Rattle.swreq_derive.specs.Inheritance.LeadsTo.{here}
-use Rattle.swreq_derive.specs.Worked.{◌·◌, bound, τ_0_0, τ_0_1, P, Q, A, A_of_P}
-use Rattle.swreq_lemmas.proofs.Members.{each_member, first_member, only_member}
-use Rattle.swreq_word.specs.declared.symbols.Symbol.TheVariants.{Proto, Member, Name}
-use Rattle.swreq_word.specs.Relations.Chain.{done, more}
-use Rattle.swreq_correspondence.specs.Equations.{Linking}
-use Rattle.swreq_correspondence.specs.Equations.Equation.{member, of_protocol}
-use Rattle.swreq_correspondence.specs.Equations.Link.{back, forth, there}
-use Rattle.swreq_correspondence.specs.Symbols.{Word}
-use Rattle.swreq_correspondence.specs.Worked.{first_param, second_param}
+use Rattle.swreq_canonical.specs.swreq_param.declared.ids.ProtoId.{ProtoId}
+use Rattle.swreq_canonical.specs.swreq_param.Terms.{Term, self}
+use Rattle.swreq_canonical.specs.swreq_derive.Derivation.{Derivable}
+use Rattle.swreq_canonical.specs.swreq_derive.Derivation.Derives.{generic, conf, assoc_name}
+use Rattle.swreq_canonical.specs.swreq_derive.Derivation.Source.{SelfOf}
+use Rattle.swreq_canonical.specs.swreq_derive.Derivation.TermRequirement.{Conforms, Equals}
+use Rattle.swreq_canonical.specs.swreq_derive.Derivation.TermStatement.{IsValid}
+use Rattle.swreq_canonical.specs.swreq_derive.Inheritance.LeadsTo.{here}
+use Rattle.swreq_canonical.specs.swreq_derive.Worked.{◌·◌, bound, τ_0_0, τ_0_1, P, Q, A, A_of_P}
+use Rattle.swreq_canonical.proofs.swreq_lemmas.Members.{each_member, first_member, only_member}
+use Rattle.swreq_canonical.specs.swreq_word.declared.symbols.Symbol.TheVariants.{Proto, Member, Name}
+use Rattle.swreq_canonical.specs.swreq_word.Relations.Chain.{done, more}
+use Rattle.swreq_canonical.specs.swreq_correspondence.Equations.{Linking}
+use Rattle.swreq_canonical.specs.swreq_correspondence.Equations.Equation.{member, of_protocol}
+use Rattle.swreq_canonical.specs.swreq_correspondence.Equations.Link.{back, forth, there}
+use Rattle.swreq_canonical.specs.swreq_correspondence.Symbols.{Word}
+use Rattle.swreq_canonical.specs.swreq_correspondence.Worked.{first_param, second_param}
 use Rattle.swreq_rounds.specs.Presents.{ProtocolEquation}
 use Rattle.swreq_canonical.specs.Worked.{two}
 use Rattle.swreq_candidates.specs.Evidence.{HasPlainTypes, RestEquation}

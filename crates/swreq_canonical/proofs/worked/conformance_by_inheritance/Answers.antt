@@ -1,7 +1,7 @@
 use Rattle.std.proofs.Common.{◌≡◌, ◌⊎◌, true, ℕ, zero, suc, List, [], ◌∷◌, Contains, refl, ap, subst, sym, ◌∙◌, inl, inr, lit<, arith}
-use Rattle.swreq_param.specs.declared.ids.ProtoId.{ProtoId}
-use Rattle.swreq_param.specs.Terms.{Term, self}
-use Rattle.swreq_param.specs.Terms.Term.{Generic}
+use Rattle.swreq_derive.specs.swreq_param.declared.ids.ProtoId.{ProtoId}
+use Rattle.swreq_derive.specs.swreq_param.Terms.{Term, self}
+use Rattle.swreq_derive.specs.swreq_param.Terms.Term.{Generic}
 use Rattle.swreq_derive.specs.Derivation.{Derivable, Derives, TermRequirement, TermStatement, for_self}
 use Rattle.swreq_derive.specs.Derivation.Derives.{generic, conf, same, layout, assoc_name, assoc_decl, assoc_bind, assoc_conf, assoc_same, assoc_layout, reflex, symm, trans, same_conf, same_layout, same_name, same_decl}
 use Rattle.swreq_derive.specs.Derivation.Source.{Written}
@@ -13,7 +13,7 @@ use Rattle.swreq_derive.specs.Reduced.{IsReduced}
 use Rattle.swreq_derive.specs.Worked.{by_rank, of_one, param, τ_0_0}
 use Rattle.swreq_derive.proofs.ByInheritance.{by_inheritance, conformance_is_no_layout, conformance_is_no_same_type, subject_of}
 use Rattle.swreq_derive.proofs.Guard.{sound}
-use Rattle.swreq_lemmas.proofs.Members.{each_member, no_member, only_member}
+use Rattle.swreq_derive.proofs.swreq_lemmas.Members.{each_member, no_member, only_member}
 use Rattle.swreq_derive.proofs.NoConformance.{says}
 use Rattle.swreq_derive.proofs.Substitution.{derives_members}
 use Rattle.swreq_canonical.specs.Canonical.{IsCanonical}

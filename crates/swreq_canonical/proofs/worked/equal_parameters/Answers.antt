@@ -1,8 +1,8 @@
 use Rattle.std.proofs.Common.{◌≡◌, ◌⊎◌, true, ℕ, zero, suc, List, [], ◌∷◌, Contains, refl, ap, ap₂, subst, sym, inl, inr, lit<, arith}
-use Rattle.swreq_param.specs.declared.ids.ParamId.{ParamId}
-use Rattle.swreq_param.specs.declared.ids.ProtoId.{ProtoId}
-use Rattle.swreq_param.specs.Terms.{Term, self}
-use Rattle.swreq_param.specs.Terms.Term.{Generic}
+use Rattle.swreq_derive.specs.swreq_param.declared.ids.ParamId.{ParamId}
+use Rattle.swreq_derive.specs.swreq_param.declared.ids.ProtoId.{ProtoId}
+use Rattle.swreq_derive.specs.swreq_param.Terms.{Term, self}
+use Rattle.swreq_derive.specs.swreq_param.Terms.Term.{Generic}
 use Rattle.swreq_derive.specs.Derivation.{Derivable, Derives, TermRequirement, TermStatement, for_self}
 use Rattle.swreq_derive.specs.Derivation.Derives.{generic, conf, same, layout, assoc_name, assoc_decl, assoc_bind, assoc_conf, assoc_same, assoc_layout, reflex, symm, trans, same_conf, same_layout, same_name, same_decl}
 use Rattle.swreq_derive.specs.Derivation.Source.{Written}
@@ -13,7 +13,7 @@ use Rattle.swreq_derive.specs.Worked.{by_rank, of_two, param, τ_0_0, τ_0_1, P,
 use Rattle.swreq_derive.proofs.Guard.{sound}
 use Rattle.swreq_derive.proofs.Lengths.{IsAlike, alike}
 use Rattle.swreq_derive.proofs.Listed.{none_listed}
-use Rattle.swreq_lemmas.proofs.Members.{Each, each_member, member_cases, no_member, only_member}
+use Rattle.swreq_derive.proofs.swreq_lemmas.Members.{Each, each_member, member_cases, no_member, only_member}
 use Rattle.swreq_derive.proofs.NoConformance.{IsBare, says}
 use Rattle.swreq_derive.proofs.ReducedTypes.{reduced_is_one}
 use Rattle.swreq_canonical.specs.Canonical.{IsCanonical}

@@ -1,5 +1,5 @@
 use Rattle.std.proofs.Common.{◌≡◌, zero, suc, [], ◌∷◌, refl, ap, lit<, arith}
-use Rattle.swreq_param.specs.declared.ids.ParamId.{ParamId}
+use Rattle.swreq_derive.specs.swreq_param.declared.ids.ParamId.{ParamId}
 use Rattle.swreq_derive.specs.Derivation.{Derivable}
 use Rattle.swreq_derive.specs.Derivation.Derives.{generic, conf, same, symm, same_conf}
 use Rattle.swreq_derive.specs.Derivation.Source.{Written}
@@ -9,7 +9,7 @@ use Rattle.swreq_derive.specs.Worked.{declared, members, members_requirements, �
 use Rattle.swreq_derive.proofs.Guard.{sound}
 use Rattle.swreq_derive.proofs.Lengths.{IsAlike, alike}
 use Rattle.swreq_derive.proofs.Listed.{none_listed}
-use Rattle.swreq_lemmas.proofs.Members.{each_member}
+use Rattle.swreq_derive.proofs.swreq_lemmas.Members.{each_member}
 use Rattle.swreq_derive.proofs.NoConformance.{IsBare, says}
 use Rattle.swreq_canonical.specs.Minimised.Leaves.{dropped, kept, nothing}
 use Rattle.swreq_canonical.specs.Worked.{two}

@@ -7,7 +7,7 @@ use Rattle.swreq_derive.specs.Reduced.{IsReduced, IsReducedTypeOf}
 use Rattle.swreq_derive.specs.Worked.{bound, of_one, τ_0_0, A_of_P, A_of_Q, shared, shared_f}
 use Rattle.swreq_derive.proofs.Lengths.{reduced_first}
 use Rattle.swreq_derive.proofs.WorkedDerivations.{shared_has_no_same_type, shared_to_p, shared_to_q}
-use Rattle.swreq_lemmas.proofs.Members.{each_member}
+use Rattle.swreq_derive.proofs.swreq_lemmas.Members.{each_member}
 use Rattle.swreq_canonical.specs.Generators.{IsEarlier}
 use Rattle.swreq_derive.proofs.FirstParam.{first_reduced}
 use Rattle.swreq_canonical.proofs.worked.one_name_in_two_protocols.Goals as goal

@@ -1,8 +1,8 @@
 use Rattle.std.proofs.Common.{◌≡◌, ◌+◌, ◌<◌, ◌∙◌, arith, ap, get_or, length, ℕ, set, Some, subst, sym}
 use Rattle.std.proofs.lemmas.Bool.{eqb-false, eqb-true}
 use Rattle.std.proofs.lemmas.List.{get_or_default}
-use Rattle.swreq_param.proofs.Growing.{onward, unchanged}
-use Rattle.swreq_world.specs.Worlds.{TextWorld}
+use Rattle.swreq_births.proofs.swreq_param.Growing.{onward, unchanged}
+use Rattle.swreq_machine.specs.swreq_world.Worlds.{TextWorld}
 use Rattle.swreq_check.specs.Made.{AreMadeTo, IsPiece}
 use Rattle.swreq_check.specs.Settings.{HasHistory, world_in}
 use Rattle.swreq_check.specs.Wanted.{count_of, maker, places_of}

@@ -1,4 +1,4 @@
-use Rattle.swreq_param.specs.Tables.{Extends}
+use Rattle.swreq_machine.specs.swreq_param.Tables.{Extends}
 use Rattle.swreq_check.specs.Made.{AreMadeTo, IsPiece}
 use Rattle.swreq_check.specs.Settings.{AreMeansFor, IsReady, world_in}
 use Rattle.swreq_check.specs.Wanted.{count_of, maker}

@@ -1,9 +1,9 @@
 use Rattle.std.proofs.Common.{◌≡◌, ◌∙◌, ℕ, List, Result, Ok, Err, IfOk, ap, length, subst, subst₂, sym, take}
 use Rattle.std.specs.declared.alloc.AllocError.{AllocError}
-use Rattle.swreq_rule.specs.declared.rules.Rule.{Rule}
-use Rattle.swreq_map.specs.Follows.{AreEndingsOf, IsMapOf, MapView}
-use Rattle.swreq_valid.specs.Rounds.{last_rules}
-use Rattle.swreq_valid.proofs.FromBase.{last_begins}
+use Rattle.swreq_machine.specs.swreq_rule.declared.rules.Rule.{Rule}
+use Rattle.swreq_machine.specs.swreq_map.Follows.{AreEndingsOf, IsMapOf, MapView}
+use Rattle.swreq_machine.specs.swreq_valid.Rounds.{last_rules}
+use Rattle.swreq_machine.proofs.swreq_valid.FromBase.{last_begins}
 use Rattle.swreq_machine.specs.Machines.{MachineView}
 use Rattle.swreq_check.specs.declared.setting.Setting.{Setting}
 use Rattle.swreq_check.specs.Settings.{HaveEndings, IsMapFor}

@@ -1,29 +1,57 @@
-use Rattle.std.proofs.Common.{◌≡◌, [], Some, append-nil, rules, sym, true}
+use Rattle.std.proofs.Common.{◌≡◌, ◌∙◌, [], Some, append-nil, ap, rules, subst, sym, true}
 use Rattle.std.specs.Bool.{Decides}
 use Rattle.std.proofs.lemmas.Bool.Decides.{not_from_Decides}
 use Rattle.std.proofs.lemmas.Result.{on_ok_weaker}
-use Rattle.swreq_lowering.specs.ByTable.{query_by}
+use Rattle.swreq_machine.specs.swreq_derive.Derivation.{Derivable, TermRequirement}
+use Rattle.swreq_machine.specs.swreq_derive.Derivation.TermStatement.{Requires}
+use Rattle.swreq_machine.specs.swreq_derive.Facts.{requirement_of}
+use Rattle.swreq_machine.specs.swreq_lowering.declared.ids.Asks.{Asks}
+use Rattle.swreq_machine.specs.swreq_lowering.declared.ids.FuncId.{FuncId}
+use Rattle.swreq_machine.specs.swreq_lowering.ByTable.{asks_by, query_by}
+use Rattle.swreq_machine.specs.swreq_lowering.Queries.TermAsks.{AsksRequirement}
+use Rattle.swreq_machine.specs.swreq_symbols.Known.{IsAskedIn}
+use Rattle.swreq_machine.specs.swreq_symbols.Meaning.{facts_of}
+use Rattle.swreq_machine.specs.swreq_world.FactsAt.{source_of}
+use Rattle.swreq_machine.specs.swreq_world.Worlds.{signature_at}
 use Rattle.swreq_query.specs.Answers.Answer.{Yes}
 use Rattle.swreq_query.specs.declared.verdict.Verdict.TheVariants as verdicts
 use Rattle.swreq_check.specs.Contents.{backing_of}
-use Rattle.swreq_check.specs.QueryLines.{HasAnswer}
+use Rattle.swreq_check.specs.QueryLines.{BacksYes, HasAnswer}
 use Rattle.swreq_check.specs.Settings.{world_in}
 use Rattle.swreq_check.proofs.Lines.{behind_others, behind_yes}
 use Rattle.swreq_check.proofs.answering.put_behind.Goals as goal
 
 pub put_backing-requires-clause-yes : goal.put_backing-requires-clause-yes
 put_backing-requires-clause-yes c =
+    let terms = c.args.table.now in
+    let w = world_in terms c.args.s.now in
+    let r = requirement_of terms c.in-Requirement.r in
     let decides : Decides c.eq.result (c.args.verdict ≡ Some verdicts.Yes) = search rules in
-    (c.requires.verdict verdicts.Yes).1 (decides.0 c.if-eq.true)
+    let has : HasAnswer w true Yes (query_by terms c.args.query.now) = (c.requires.verdict verdicts.Yes).1 (decides.0 c.if-eq.true) in
+    let asks : AsksRequirement has.1.0 ≡ AsksRequirement r = sym has.1.1 ∙ ap (asks_by terms) c.in-Requirement.is in
+    let same : has.1.0 ≡ r = cc in record {
+      ids = subst (IsAskedIn terms c.args.s.now.world.now.lexicon) c.in-Requirement.is c.requires.query;
+      derivable = subst (λ (f : FuncId). Derivable (facts_of w) (source_of (signature_at w f)) (Requires r)) c.requires.f
+          (subst (λ (z : TermRequirement). Derivable (facts_of w) (source_of (signature_at w c.args.query.now.f)) (Requires z)) same
+          has.1.2);
+    }
 
 pub returns-then-eq-clause-backing : goal.returns-then-eq-clause-backing
 returns-then-eq-clause-backing c =
-    let w = world_in c.args.table.now c.args.s.now in
-    let q = query_by c.args.table.now c.args.query.now in
+    let terms = c.args.table.now in
+    let w = world_in terms c.args.s.now in
+    let b = backing_of c.args.s.now.content in
+    let q = query_by terms c.args.query.now in
+    let r = requirement_of terms c.in-Requirement.r in
     let decides : Decides c.eq.result (c.args.verdict ≡ Some verdicts.Yes) = search rules in
     let has : HasAnswer w true Yes q = (c.requires.verdict verdicts.Yes).1 (decides.0 c.if-eq.true) in
     on_ok_weaker c.put_backing.result
-    (λ (text, backs, grown). (text, behind_yes w (backing_of c.args.s.now.content) q text has backs, grown))
+    (λ (text, backs, grown). (
+      text,
+      behind_yes w b q text r has (ap (asks_by terms) c.in-Requirement.is)
+          (subst (λ (f : FuncId). BacksYes w b f r text) (sym c.requires.f) backs),
+      grown,
+    ))
     c.put_backing.ensures.backing
 
 pub returns-else-eq-clause-backing : goal.returns-else-eq-clause-backing

@@ -1,7 +1,7 @@
 use Rattle.swreq_reqsig.proofs.WellFormed.{list_formed}
-use Rattle.swreq_symbols.specs.Meaning.{facts_of}
-use Rattle.swreq_world.specs.FactsAt.{source_of}
-use Rattle.swreq_world.specs.Worlds.{signature_at}
+use Rattle.swreq_machine.specs.swreq_symbols.Meaning.{facts_of}
+use Rattle.swreq_machine.specs.swreq_world.FactsAt.{source_of}
+use Rattle.swreq_machine.specs.swreq_world.Worlds.{signature_at}
 use Rattle.swreq_check.specs.Settings.{world_in}
 use Rattle.swreq_check.proofs.answering.put_path.Goals as goal
 

@@ -1,20 +1,20 @@
 use Rattle.std.proofs.Common.{◌≡◌, ◌↔◌, ◌∙◌, ◌+◌, ◌<◌, ap, arith, Contains, length, List, map, Option, Some, subst, sym, Vec, ℕ}
 use Rattle.std.specs.Prelude.{All}
 use Rattle.std.specs.declared.alloc.Global.{Global}
-use Rattle.swreq_lowering.specs.declared.ids.FuncId.{FuncId}
-use Rattle.swreq_param.specs.Tables.{Extends}
-use Rattle.swreq_param.specs.Terms.{Term}
+use Rattle.swreq_machine.specs.swreq_lowering.declared.ids.FuncId.{FuncId}
+use Rattle.swreq_machine.specs.swreq_param.Tables.{Extends}
+use Rattle.swreq_machine.specs.swreq_param.Terms.{Term}
 use Rattle.swreq_subst.specs.declared.calls.Call.{Call}
-use Rattle.swreq_symbols.specs.Known.{IsTextOver}
-use Rattle.swreq_world.specs.Worlds.{TextWorld}
+use Rattle.swreq_machine.specs.swreq_symbols.Known.{IsTextOver}
+use Rattle.swreq_machine.specs.swreq_world.Worlds.{TextWorld}
 use Rattle.swreq_subst.proofs.Staying.{calls_stay}
 use Rattle.swreq_check.specs.declared.passed.Passed.{Passed}
 use Rattle.swreq_check.specs.declared.piece.Piece.{Piece}
 use Rattle.swreq_check.specs.Checks.{HavePassed}
 use Rattle.swreq_check.specs.Made.{AreMade}
-use Rattle.swreq_param.proofs.Growing.{onward, unchanged}
+use Rattle.swreq_births.proofs.swreq_param.Growing.{onward, unchanged}
 use Rattle.swreq_subst.specs.Calls.{IsCallIn, TermCall, call_by}
-use Rattle.swreq_symbols.proofs.Growing.{text_stays, world_stays}
+use Rattle.swreq_machine.proofs.swreq_symbols.Growing.{text_stays, world_stays}
 use Rattle.swreq_check.specs.CallLines.{AreCallLines, IsLineThere, caller_at}
 use Rattle.swreq_check.specs.Passed.{rules_of, world_of}
 use Rattle.swreq_check.proofs.PiecesMade.{none_made}

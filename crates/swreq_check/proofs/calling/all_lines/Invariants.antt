@@ -1,5 +1,5 @@
-use Rattle.swreq_param.specs.Tables.{Extends}
-use Rattle.swreq_symbols.specs.Known.{IsTextOver}
+use Rattle.swreq_machine.specs.swreq_param.Tables.{Extends}
+use Rattle.swreq_machine.specs.swreq_symbols.Known.{IsTextOver}
 use Rattle.swreq_check.specs.CallLines.{AreCallLines}
 use Rattle.swreq_check.specs.Passed.{HasPassed, world_of}
 use Rattle.swreq_check.proofs.calling.all_lines.Given as goal

@@ -1,6 +1,6 @@
 use Rattle.std.proofs.Common.{◌<◌, arith, length, subst, sym}
 use Rattle.std.proofs.lemmas.Option.{get_or_from_slice_get}
-use Rattle.swreq_lemmas.proofs.Elements.{there_is}
+use Rattle.swreq_machine.proofs.swreq_lemmas.Elements.{there_is}
 use Rattle.swreq_subst.specs.Lines.{IsLineOf}
 use Rattle.swreq_check.proofs.Lines.{lines_all, lines_next, lines_none}
 use Rattle.swreq_check.proofs.calling.joined.Goals as goal

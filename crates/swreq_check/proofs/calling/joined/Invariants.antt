@@ -1,7 +1,7 @@
 use Rattle.std.proofs.Common.{◌≡◌, ℕ, List, Some, length, slice_get, take}
 use Rattle.swreq_subst.specs.Calls.{TermCall}
 use Rattle.swreq_subst.specs.Lines.{IsLineOf}
-use Rattle.swreq_world.specs.Worlds.{TextWorld}
+use Rattle.swreq_machine.specs.swreq_world.Worlds.{TextWorld}
 use Rattle.swreq_check.specs.CallLines.{AnswersCalls}
 use Rattle.swreq_check.specs.Made.{text_at}
 use Rattle.swreq_check.proofs.calling.joined.Given as goal

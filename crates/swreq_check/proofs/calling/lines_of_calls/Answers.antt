@@ -3,7 +3,7 @@ use Rattle.std.specs.Option.{option_map}
 use Rattle.std.proofs.lemmas.List.{length-map}
 use Rattle.std.proofs.lemmas.Option.{get_or_from_slice_get, slice_get_within}
 use Rattle.std.proofs.lemmas.Result.{IfOk-weaker}
-use Rattle.swreq_lemmas.proofs.Elements.{get_of_map}
+use Rattle.swreq_machine.proofs.swreq_lemmas.Elements.{get_of_map}
 use Rattle.swreq_subst.specs.declared.calls.Call.{Call}
 use Rattle.swreq_subst.specs.Calls.{TermCall, call_by}
 use Rattle.swreq_subst.specs.Lines.{IsLineOf}

@@ -2,13 +2,13 @@ use Rattle.std.proofs.Common.{◌≡◌, ◌+◌, ◌∙◌, ap, arith, length, 
 use Rattle.std.proofs.lemmas.List.{get_or_default}
 use Rattle.std.proofs.lemmas.Option.{same_Some}
 use Rattle.std.specs.Option.{option_map}
-use Rattle.swreq_lowering.specs.declared.ids.FuncId.{FuncId}
-use Rattle.swreq_param.proofs.Growing.{onward, unchanged}
+use Rattle.swreq_machine.specs.swreq_lowering.declared.ids.FuncId.{FuncId}
+use Rattle.swreq_births.proofs.swreq_param.Growing.{onward, unchanged}
 use Rattle.swreq_subst.specs.declared.calls.Call.{Call}
 use Rattle.swreq_subst.specs.Calls.{IsMachineOn, TermCall, call_by}
 use Rattle.swreq_subst.proofs.Staying.{calls_in_stay, calls_stay}
-use Rattle.swreq_symbols.proofs.Growing.{text_stays, world_stays}
-use Rattle.swreq_world.specs.Worlds.{TextWorld}
+use Rattle.swreq_machine.proofs.swreq_symbols.Growing.{text_stays, world_stays}
+use Rattle.swreq_machine.specs.swreq_world.Worlds.{TextWorld}
 use Rattle.swreq_check.specs.CallLines.{IsLineThere, caller_at}
 use Rattle.swreq_check.specs.Made.{AreMadeTo}
 use Rattle.swreq_check.specs.Passed.{world_of}

@@ -1,7 +1,7 @@
 use Rattle.std.proofs.Common.{length, map}
-use Rattle.swreq_param.specs.Tables.{Extends}
+use Rattle.swreq_machine.specs.swreq_param.Tables.{Extends}
 use Rattle.swreq_subst.specs.Calls.{IsMachineOn, call_by}
-use Rattle.swreq_symbols.specs.Known.{IsTextOver}
+use Rattle.swreq_machine.specs.swreq_symbols.Known.{IsTextOver}
 use Rattle.swreq_check.specs.CallLines.{IsLineThere, caller_at}
 use Rattle.swreq_check.specs.Made.{AreMadeTo}
 use Rattle.swreq_check.specs.Passed.{world_of}

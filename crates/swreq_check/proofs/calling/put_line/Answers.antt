@@ -1,6 +1,6 @@
 use Rattle.std.proofs.Common.{◌≡◌, ◌∙◌, ◌++◌, None, Some, ap, map, refl, slice_get, subst, sym}
 use Rattle.std.proofs.lemmas.Option.{same_Some, slice_get-get_or}
-use Rattle.swreq_lemmas.proofs.Elements.{get_map}
+use Rattle.swreq_machine.proofs.swreq_lemmas.Elements.{get_map}
 use Rattle.swreq_subst.specs.Calls.{call_by}
 use Rattle.swreq_subst.specs.Lines.{IsLineOf}
 use Rattle.swreq_check.specs.Passed.{world_of}

@@ -1,6 +1,6 @@
 use Rattle.std.proofs.Common.{◌≡◌, ◌∙◌, ap, length, map, ℕ, Some, subst, sym}
 use Rattle.std.proofs.lemmas.Bool.{eqb-true}
-use Rattle.swreq_lowering.specs.declared.ids.FuncId.{FuncId}
+use Rattle.swreq_machine.specs.swreq_lowering.declared.ids.FuncId.{FuncId}
 use Rattle.swreq_subst.specs.Calls.{call_by}
 use Rattle.swreq_check.specs.CallLines.{IsLineThere, caller_at}
 use Rattle.swreq_check.specs.Made.{AreMadeTo}

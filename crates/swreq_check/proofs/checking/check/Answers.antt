@@ -1,7 +1,7 @@
 use Rattle.std.proofs.Common.{◌∙◌, []}
-use Rattle.swreq_valid.specs.declared.refused.Refused.TheVariants.{Memory}
-use Rattle.swreq_watch.proofs.Told.{grew_none}
-use Rattle.swreq_world.specs.ByTable.{world_by}
+use Rattle.swreq_machine.specs.swreq_valid.declared.refused.Refused.TheVariants.{Memory}
+use Rattle.swreq_births.proofs.swreq_watch.Told.{grew_none}
+use Rattle.swreq_machine.specs.swreq_world.ByTable.{world_by}
 use Rattle.swreq_reqsig.proofs.WellFormed.{protocols_formed}
 use Rattle.swreq_check.specs.Told.SignaturesTell.{nothing_yet}
 use Rattle.swreq_check.proofs.OfChecks.{err_is, protocols_failed, then_all, then_failed}

@@ -1,8 +1,8 @@
 use Rattle.std.proofs.Common.{◌≡◌, ◌⊎◌, inl, inr, Err, Ok, refl, rules}
 use Rattle.swreq_machine.specs.OfSignatures.{signature_plan}
-use Rattle.swreq_valid.specs.Rounds.{last_rules}
-use Rattle.swreq_valid.specs.declared.refused.Refused.TheVariants.{Memory}
-use Rattle.swreq_world.specs.Worlds.{signature_at}
+use Rattle.swreq_machine.specs.swreq_valid.Rounds.{last_rules}
+use Rattle.swreq_machine.specs.swreq_valid.declared.refused.Refused.TheVariants.{Memory}
+use Rattle.swreq_machine.specs.swreq_world.Worlds.{signature_at}
 use Rattle.swreq_check.specs.Settings.{world_in}
 use Rattle.swreq_check.proofs.OfChecks.{err_is}
 use Rattle.swreq_check.proofs.checking.check_again.Goals as goal

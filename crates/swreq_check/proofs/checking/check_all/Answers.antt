@@ -1,8 +1,8 @@
 use Rattle.std.proofs.Common.{◌≡◌, [], arith, length, subst, sym}
 use Rattle.std.proofs.lemmas.List.{length-map}
-use Rattle.swreq_param.proofs.Growing.{onward, unchanged}
-use Rattle.swreq_watch.proofs.Told.{grew_none}
-use Rattle.swreq_world.specs.ByTable.{signature_by}
+use Rattle.swreq_births.proofs.swreq_param.Growing.{onward, unchanged}
+use Rattle.swreq_births.proofs.swreq_watch.Told.{grew_none}
+use Rattle.swreq_machine.specs.swreq_world.ByTable.{signature_by}
 use Rattle.swreq_check.specs.Machines.SignaturesCome.{all}
 use Rattle.swreq_check.proofs.OfChecks.{came_more, err_is, stopped_at}
 use Rattle.swreq_check.proofs.Settled.{made_alike, ready_on, world_on}

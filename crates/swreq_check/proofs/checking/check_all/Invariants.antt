@@ -1,5 +1,5 @@
-use Rattle.swreq_param.specs.Tables.{Extends}
-use Rattle.swreq_valid.specs.Rounds.{last_rules}
+use Rattle.swreq_machine.specs.swreq_param.Tables.{Extends}
+use Rattle.swreq_machine.specs.swreq_valid.Rounds.{last_rules}
 use Rattle.swreq_check.specs.Settings.{AreMadeIn, IsLast, IsReady, world_in}
 use Rattle.swreq_check.proofs.OfChecks.{CameFirst}
 use Rattle.swreq_check.proofs.checking.check_all.Given as goal

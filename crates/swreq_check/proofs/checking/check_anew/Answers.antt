@@ -1,6 +1,6 @@
 use Rattle.std.proofs.Common.{inr}
-use Rattle.swreq_valid.specs.Rounds.{last_rules}
-use Rattle.swreq_world.specs.Worlds.{signature_at}
+use Rattle.swreq_machine.specs.swreq_valid.Rounds.{last_rules}
+use Rattle.swreq_machine.specs.swreq_world.Worlds.{signature_at}
 use Rattle.swreq_check.specs.Settings.{IsMachineFor, world_in}
 use Rattle.swreq_check.proofs.OfChecks.{err_is, one_refused}
 use Rattle.swreq_check.proofs.Settled.{machine_on}

@@ -1,13 +1,13 @@
 use Rattle.std.proofs.Common.{◌≡◌, List, refl, sym}
-use Rattle.swreq_derive.specs.Derivation.{TermRequirement}
-use Rattle.swreq_derive.specs.Derivation.Source.{Written}
-use Rattle.swreq_derive.specs.Facts.{generic_params}
-use Rattle.swreq_derive.specs.declared.known.Params.{Params}
-use Rattle.swreq_lowering.specs.Requirements.{PlacedRequirement}
-use Rattle.swreq_symbols.specs.Meaning.{facts_of}
+use Rattle.swreq_machine.specs.swreq_derive.Derivation.{TermRequirement}
+use Rattle.swreq_machine.specs.swreq_derive.Derivation.Source.{Written}
+use Rattle.swreq_machine.specs.swreq_derive.Facts.{generic_params}
+use Rattle.swreq_machine.specs.swreq_derive.declared.known.Params.{Params}
+use Rattle.swreq_machine.specs.swreq_lowering.Requirements.{PlacedRequirement}
+use Rattle.swreq_machine.specs.swreq_symbols.Meaning.{facts_of}
 use Rattle.swreq_machine.specs.Machines.{IsMachineOf, list_of}
-use Rattle.swreq_valid.specs.Rounds.{AreRounds, last_rules}
-use Rattle.swreq_valid.specs.Sides.{HoldsOfEach, IsValidSide, sides}
+use Rattle.swreq_machine.specs.swreq_valid.Rounds.{AreRounds, last_rules}
+use Rattle.swreq_machine.specs.swreq_valid.Sides.{HoldsOfEach, IsValidSide, sides}
 use Rattle.swreq_machine.proofs.OfSignatures.{as_meant, as_read}
 use Rattle.swreq_check.specs.Settings.{world_in}
 use Rattle.swreq_check.proofs.Settled.{machine_on}

@@ -1,5 +1,5 @@
 use Rattle.std.proofs.Common.{subst₂}
-use Rattle.swreq_map.specs.Follows.{AreEndingsOf}
+use Rattle.swreq_machine.specs.swreq_map.Follows.{AreEndingsOf}
 use Rattle.swreq_check.proofs.checking.endings_for.Goals as goal
 
 pub returns-in_ok-endings-in-Lines : goal.returns-in_ok-endings-in-Lines

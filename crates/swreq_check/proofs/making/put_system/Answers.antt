@@ -1,8 +1,8 @@
 use Rattle.std.proofs.Common.{◌∙◌, ◌++◌, ◌+◌, List, None, Some, ap, set, subst, sym, ℕ}
 use Rattle.std.proofs.lemmas.Option.{same_Some}
-use Rattle.swreq_lowering.specs.declared.ids.FuncId.{FuncId}
+use Rattle.swreq_machine.specs.swreq_lowering.declared.ids.FuncId.{FuncId}
 use Rattle.swreq_query.specs.Systems.{IsSystemText}
-use Rattle.swreq_world.specs.Worlds.{signature_at}
+use Rattle.swreq_machine.specs.swreq_world.Worlds.{signature_at}
 use Rattle.swreq_check.specs.declared.content.Made.{Made}
 use Rattle.swreq_check.specs.declared.content.Made.TheVariants.{Systems}
 use Rattle.swreq_check.specs.declared.piece.Piece.{Piece}

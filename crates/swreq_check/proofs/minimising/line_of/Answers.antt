@@ -1,6 +1,6 @@
 use Rattle.std.proofs.Common.{[], inl}
-use Rattle.swreq_minimal.specs.Told.AreParts.{no_part}
-use Rattle.swreq_watch.proofs.Told.{grew_none}
+use Rattle.swreq_query.specs.swreq_minimal.Told.AreParts.{no_part}
+use Rattle.swreq_births.proofs.swreq_watch.Told.{grew_none}
 use Rattle.swreq_check.proofs.OfChecks.{err_is}
 use Rattle.swreq_check.proofs.minimising.line_of.Goals as goal
 

@@ -1,15 +1,15 @@
 use Rattle.std.proofs.Common.{◌≡◌, ℕ, Bool, ◌∷◌, ◌++◌, [], List, Option, length, arith, ap, append-nil, length-append, inl, inr, refl, rules, subst, sym}
-use Rattle.swreq_complete.specs.declared.limit.Failed.{Failed}
-use Rattle.swreq_complete.specs.declared.limit.Failed.TheVariants.{Memory}
-use Rattle.swreq_complete.specs.declared.limit.Limits.{Limits}
-use Rattle.swreq_lowering.specs.declared.ids.FuncId.{FuncId}
-use Rattle.swreq_lemmas.proofs.Elements.{get_cases}
-use Rattle.swreq_param.proofs.Growing.{onward, unchanged}
-use Rattle.swreq_rule.specs.declared.rules.Rule.{Rule}
-use Rattle.swreq_symbols.proofs.Growing.{text_stays, world_stays}
-use Rattle.swreq_watch.specs.declared.events.Event.{Event}
-use Rattle.swreq_watch.proofs.Told.{grew_none}
-use Rattle.swreq_world.specs.Worlds.{TextWorld, signature_at}
+use Rattle.swreq_machine.specs.swreq_complete.declared.limit.Failed.{Failed}
+use Rattle.swreq_machine.specs.swreq_complete.declared.limit.Failed.TheVariants.{Memory}
+use Rattle.swreq_machine.specs.swreq_complete.declared.limit.Limits.{Limits}
+use Rattle.swreq_machine.specs.swreq_lowering.declared.ids.FuncId.{FuncId}
+use Rattle.swreq_machine.proofs.swreq_lemmas.Elements.{get_cases}
+use Rattle.swreq_births.proofs.swreq_param.Growing.{onward, unchanged}
+use Rattle.swreq_machine.specs.swreq_rule.declared.rules.Rule.{Rule}
+use Rattle.swreq_machine.proofs.swreq_symbols.Growing.{text_stays, world_stays}
+use Rattle.swreq_machine.specs.swreq_watch.declared.events.Event.{Event}
+use Rattle.swreq_births.proofs.swreq_watch.Told.{grew_none}
+use Rattle.swreq_machine.specs.swreq_world.Worlds.{TextWorld, signature_at}
 use Rattle.swreq_check.specs.declared.content.Content.{Content}
 use Rattle.swreq_check.specs.Checks.{HavePassed}
 use Rattle.swreq_check.specs.Made.{AreLinesKept, IsLineKept}

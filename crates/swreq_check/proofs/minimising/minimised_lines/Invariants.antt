@@ -1,6 +1,6 @@
 use Rattle.std.proofs.Common.{◌≡◌, length}
-use Rattle.swreq_param.specs.Tables.{Extends}
-use Rattle.swreq_symbols.specs.Known.{IsTextOver}
+use Rattle.swreq_machine.specs.swreq_param.Tables.{Extends}
+use Rattle.swreq_machine.specs.swreq_symbols.Known.{IsTextOver}
 use Rattle.swreq_check.specs.Listing.{AreReady, rules_of, wants, world_of}
 use Rattle.swreq_check.specs.Made.{AreLinesKept}
 use Rattle.swreq_check.specs.Told.{MinimisingAllTells}

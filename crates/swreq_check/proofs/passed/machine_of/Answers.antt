@@ -1,8 +1,8 @@
 use Rattle.std.proofs.Common.{◌<◌, arith, length, map}
 use Rattle.std.proofs.lemmas.List.{length-map}
 use Rattle.std.proofs.lemmas.List.Elements.{Contains-get_or}
-use Rattle.swreq_world.specs.ByTable.{signature_by}
-use Rattle.swreq_world.specs.Worlds.{no_signature, signature_at}
+use Rattle.swreq_machine.specs.swreq_world.ByTable.{signature_by}
+use Rattle.swreq_machine.specs.swreq_world.Worlds.{no_signature, signature_at}
 use Rattle.swreq_check.specs.Passed.{rules_of, world_of}
 use Rattle.swreq_check.proofs.OfChecks.{only_memory}
 use Rattle.swreq_check.proofs.passed.machine_of.Goals as goal

@@ -1,5 +1,5 @@
 use Rattle.std.proofs.Common.{arith, sym, ◌∙◌, subst}
-use Rattle.swreq_word.specs.Relations.{IsIrreducible}
+use Rattle.swreq_rule.specs.swreq_word.Relations.{IsIrreducible}
 use Rattle.swreq_rule.specs.Reduction.{FirstRedex}
 use Rattle.swreq_rule.specs.Steps.{Step}
 use Rattle.swreq_path.specs.Reductions.{StepsReduce}

@@ -1,5 +1,5 @@
-use Rattle.swreq_word.specs.Relations.Chain.{done, more}
-use Rattle.swreq_word.proofs.Chains.{joined}
+use Rattle.swreq_rule.specs.swreq_word.Relations.Chain.{done, more}
+use Rattle.swreq_rule.proofs.swreq_word.Chains.{joined}
 use Rattle.swreq_rule.proofs.Remaining.{remaining_falls}
 use Rattle.swreq_complete.proofs.Places.{read_none}
 use Rattle.swreq_complete.proofs.reading.reduce.Goals as goal

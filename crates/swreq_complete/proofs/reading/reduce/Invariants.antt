@@ -1,4 +1,4 @@
-use Rattle.swreq_word.specs.Relations.{Chain}
+use Rattle.swreq_rule.specs.swreq_word.Relations.{Chain}
 use Rattle.swreq_rule.specs.Reduction.{ReductionStep}
 use Rattle.swreq_rule.proofs.Remaining.{remaining}
 use Rattle.swreq_complete.specs.Reading.{AreRead}

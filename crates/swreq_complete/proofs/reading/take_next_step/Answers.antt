@@ -1,6 +1,6 @@
 use Rattle.std.proofs.Common.{◌≡◌, ℕ, ◌<◌, ◌≤◌, List, refl, subst, Some}
 use Rattle.std.specs.List.{slice_get}
-use Rattle.swreq_word.specs.Relations.{IsIrreducible}
+use Rattle.swreq_rule.specs.swreq_word.Relations.{IsIrreducible}
 use Rattle.swreq_rule.specs.Reduction.{FirstRedex}
 use Rattle.swreq_rule.specs.Steps.{Step}
 use Rattle.swreq_complete.specs.Reading.{AreRead}

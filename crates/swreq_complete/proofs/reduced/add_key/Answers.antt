@@ -1,10 +1,10 @@
 use Rattle.std.proofs.Common.{◌<◌, refl, sym, subst, length}
 use Rattle.std.proofs.lemmas.Result.{on_ok_weaker}
-use Rattle.swreq_word.specs.Relations.{IsIrreducible}
+use Rattle.swreq_rule.specs.swreq_word.Relations.{IsIrreducible}
 use Rattle.swreq_rule.specs.Steps.{Step}
-use Rattle.swreq_word.specs.Least.{EachFactor}
+use Rattle.swreq_rule.specs.swreq_word.Least.{EachFactor}
 use Rattle.swreq_complete.proofs.Sorting.{key_skipped, key_added}
-use Rattle.swreq_word.proofs.Comparing.{greater_some}
+use Rattle.swreq_rule.proofs.swreq_word.Comparing.{greater_some}
 use Rattle.swreq_complete.proofs.reduced.add_key.Goals as goal
 
 pub is_minimal-requires : goal.is_minimal-requires

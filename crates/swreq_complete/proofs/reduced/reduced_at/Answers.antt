@@ -1,9 +1,9 @@
 use Rattle.std.proofs.Common.{◌≡◌, sym, ◌∙◌, subst}
 use Rattle.std.proofs.lemmas.Option.{same_Some}
-use Rattle.swreq_word.specs.Relations.{IsIrreducible}
+use Rattle.swreq_rule.specs.swreq_word.Relations.{IsIrreducible}
 use Rattle.swreq_rule.specs.declared.rules.Rule.{Rule}
 use Rattle.swreq_rule.specs.Steps.{Step}
-use Rattle.swreq_word.specs.Least.{EachFactor}
+use Rattle.swreq_rule.specs.swreq_word.Least.{EachFactor}
 use Rattle.swreq_complete.proofs.reduced.reduced_at.Goals as goal
 
 pub returns-then-not-is_minimal : goal.returns-then-not-is_minimal

@@ -1,8 +1,8 @@
 use Rattle.std.proofs.Common.{◌∙◌, sym, subst}
 use Rattle.std.proofs.lemmas.Result.{IfOk-weaker}
 use Rattle.swreq_confpath.specs.declared.sought.Sought.{Sought}
-use Rattle.swreq_complete.specs.Complete.{IsComplete}
-use Rattle.swreq_valid.specs.Rounds.{last_rules}
+use Rattle.swreq_machine.specs.swreq_complete.Complete.{IsComplete}
+use Rattle.swreq_machine.specs.swreq_valid.Rounds.{last_rules}
 use Rattle.swreq_confpath.specs.Parting.{AllSpareOthers}
 use Rattle.swreq_confpath.specs.Routes.TermPlace.{Start}
 use Rattle.swreq_confpath.proofs.Requirements.{given_of, known_of}

@@ -1,7 +1,7 @@
 use Rattle.std.proofs.Common.{◌≡◌, get_or, length, take, refl, subst, arith}
 use Rattle.std.proofs.lemmas.Option.{slice_get-get_or}
-use Rattle.swreq_word.specs.declared.symbols.Symbol.TheVariants.{Proto}
-use Rattle.swreq_lemmas.proofs.Members.{no_member}
+use Rattle.swreq_print.specs.swreq_word.declared.symbols.Symbol.TheVariants.{Proto}
+use Rattle.swreq_print.proofs.swreq_lemmas.Members.{no_member}
 use Rattle.swreq_confpath.specs.Parting.{HasNoProtocol}
 use Rattle.swreq_confpath.proofs.Spared.{no_protocol_more, none_at_all}
 use Rattle.swreq_confpath.proofs.parting.before_protocol.Goals as goal

@@ -1,6 +1,6 @@
 use Rattle.std.proofs.Common.{◌<◌, ◌∙◌, get_or, length, sym, true≢false, arith}
 use Rattle.std.proofs.lemmas.Option.{slice_get-get_or}
-use Rattle.swreq_word.specs.declared.symbols.Symbol.TheVariants.{Proto}
+use Rattle.swreq_print.specs.swreq_word.declared.symbols.Symbol.TheVariants.{Proto}
 use Rattle.swreq_confpath.proofs.Spared.{parts_at}
 use Rattle.swreq_confpath.proofs.parting.parts_for_good.Goals as goal
 

@@ -2,9 +2,9 @@ use Rattle.std.proofs.Common.{◌≡◌, ◌++◌, ◌∷◌, [], ◌∙◌, get
 use Rattle.std.proofs.Math.Seq.{take-length}
 use Rattle.std.proofs.lemmas.List.{append-nil}
 use Rattle.std.proofs.lemmas.Option.{slice_get-get_or}
-use Rattle.swreq_word.specs.declared.symbols.Symbol.TheVariants.{Proto}
-use Rattle.swreq_word.specs.Relations.Linked.{here}
-use Rattle.swreq_symbols.specs.Vanishing.{IsLeastBy, Links}
+use Rattle.swreq_print.specs.swreq_word.declared.symbols.Symbol.TheVariants.{Proto}
+use Rattle.swreq_print.specs.swreq_word.Relations.Linked.{here}
+use Rattle.swreq_machine.specs.swreq_symbols.Vanishing.{IsLeastBy, Links}
 use Rattle.swreq_confpath.proofs.Standing.{linked_more}
 use Rattle.swreq_confpath.proofs.sought.least.Goals as goal
 

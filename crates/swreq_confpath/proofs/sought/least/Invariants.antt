@@ -1,5 +1,5 @@
 use Rattle.std.proofs.Common.{◌++◌, take}
-use Rattle.swreq_symbols.specs.Vanishing.{IsLeastBy, Links}
+use Rattle.swreq_machine.specs.swreq_symbols.Vanishing.{IsLeastBy, Links}
 use Rattle.swreq_confpath.proofs.sought.least.Given as goal
 
 abbrev pub invariant-loop-k : goal.invariant-loop-k

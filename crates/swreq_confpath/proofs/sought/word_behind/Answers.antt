@@ -1,7 +1,7 @@
 use Rattle.std.proofs.Common.{◌∙◌, sym, subst}
-use Rattle.swreq_param.specs.Tables.{term_at}
-use Rattle.swreq_symbols.specs.Vanishing.{IsLeastBy}
-use Rattle.swreq_valid.specs.Rounds.{last_rules}
+use Rattle.swreq_machine.specs.swreq_param.Tables.{term_at}
+use Rattle.swreq_machine.specs.swreq_symbols.Vanishing.{IsLeastBy}
+use Rattle.swreq_machine.specs.swreq_valid.Rounds.{last_rules}
 use Rattle.swreq_confpath.proofs.Standing.{next_word}
 use Rattle.swreq_confpath.proofs.sought.word_behind.Goals as goal
 

@@ -1,8 +1,8 @@
 use Rattle.std.proofs.Common.{◌++◌, ◌∙◌, ap}
 use Rattle.std.proofs.lemmas.Result.{on_ok_weaker}
-use Rattle.swreq_derive.specs.Facts.{requirement_of}
+use Rattle.swreq_machine.specs.swreq_derive.Facts.{requirement_of}
 use Rattle.swreq_print.specs.Signatures.{requirement_text}
-use Rattle.swreq_lexicon.specs.Views.{LexiconView}
+use Rattle.swreq_machine.specs.swreq_lexicon.Views.{LexiconView}
 use Rattle.swreq_confpath.specs.Numbers.{in_brackets}
 use Rattle.swreq_confpath.proofs.Texting.{first_known, first_names_protocol, numbers_after_first, path_written}
 use Rattle.swreq_confpath.proofs.text.path_text.Goals as goal

@@ -1,12 +1,12 @@
 use Rattle.std.proofs.Common.{◌++◌, ◌+◌, ◌-◌, ◌∙◌, List, map, get_or, drop, sym, ap, subst}
-use Rattle.swreq_derive.specs.declared.requirements.Requirement.{Requirement}
-use Rattle.swreq_derive.specs.declared.requirements.Requirement.TheVariants.{Conf}
-use Rattle.swreq_derive.specs.Facts.{requirement_of}
+use Rattle.swreq_machine.specs.swreq_derive.declared.requirements.Requirement.{Requirement}
+use Rattle.swreq_machine.specs.swreq_derive.declared.requirements.Requirement.TheVariants.{Conf}
+use Rattle.swreq_machine.specs.swreq_derive.Facts.{requirement_of}
 use Rattle.swreq_print.specs.Signatures.{self_text}
-use Rattle.swreq_lexicon.specs.Views.{LexiconView}
-use Rattle.swreq_symbols.proofs.OfText.{own_requirements}
-use Rattle.swreq_world.specs.ByTable.{world_by}
-use Rattle.swreq_world.specs.FactsAt.{facts_of}
+use Rattle.swreq_machine.specs.swreq_lexicon.Views.{LexiconView}
+use Rattle.swreq_machine.proofs.swreq_symbols.OfText.{own_requirements}
+use Rattle.swreq_machine.specs.swreq_world.ByTable.{world_by}
+use Rattle.swreq_machine.specs.swreq_world.FactsAt.{facts_of}
 use Rattle.swreq_confpath.specs.Numbers.{AreNumbersBehind, in_brackets, steps_text}
 use Rattle.swreq_confpath.proofs.Requirements.{protocol_in_list}
 use Rattle.swreq_confpath.proofs.Texting.{is_member, names, names_protocol, next_left, number_is, number_within, requirement_is, step_written}

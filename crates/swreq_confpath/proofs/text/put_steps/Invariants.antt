@@ -1,7 +1,7 @@
 use Rattle.std.proofs.Common.{◌≡◌, ◌++◌, drop}
-use Rattle.swreq_lexicon.specs.Views.{IsProtocol}
-use Rattle.swreq_world.specs.ByTable.{world_by}
-use Rattle.swreq_world.specs.FactsAt.{facts_of}
+use Rattle.swreq_machine.specs.swreq_lexicon.Views.{IsProtocol}
+use Rattle.swreq_machine.specs.swreq_world.ByTable.{world_by}
+use Rattle.swreq_machine.specs.swreq_world.FactsAt.{facts_of}
 use Rattle.swreq_confpath.specs.Numbers.{AreNumbersBehind, steps_text}
 use Rattle.swreq_confpath.proofs.text.put_steps.Given as goal
 

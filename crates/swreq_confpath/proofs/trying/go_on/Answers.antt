@@ -1,6 +1,6 @@
 use Rattle.std.proofs.Common.{List, length, sym, ap, subst, arith}
-use Rattle.swreq_derive.specs.declared.requirements.Requirement.{Requirement}
-use Rattle.swreq_derive.specs.declared.requirements.Requirement.TheVariants.{Conf}
+use Rattle.swreq_machine.specs.swreq_derive.declared.requirements.Requirement.{Requirement}
+use Rattle.swreq_machine.specs.swreq_derive.declared.requirements.Requirement.TheVariants.{Conf}
 use Rattle.swreq_confpath.specs.Searches.{IsPlaceIn, required_at}
 use Rattle.swreq_confpath.proofs.Requirements.{numbered_at}
 use Rattle.swreq_confpath.proofs.Searching.{finished, spot_at, turned}

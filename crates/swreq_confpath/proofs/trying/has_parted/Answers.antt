@@ -1,5 +1,5 @@
 use Rattle.std.proofs.Common.{subst}
-use Rattle.swreq_valid.specs.Rounds.{last_rules}
+use Rattle.swreq_machine.specs.swreq_valid.Rounds.{last_rules}
 use Rattle.swreq_confpath.specs.Parting.{PartsForGood}
 use Rattle.swreq_confpath.specs.Spots.{word_at}
 use Rattle.swreq_confpath.proofs.trying.has_parted.Goals as goal

@@ -1,9 +1,9 @@
 use Rattle.std.proofs.Common.{subst}
 use Rattle.std.proofs.lemmas.Result.{IfOk-weaker}
-use Rattle.swreq_lemmas.proofs.Elements.{there_is}
-use Rattle.swreq_derive.specs.Instances.{HasNumber}
-use Rattle.swreq_derive.proofs.InstanceLemmas.{contains_number}
-use Rattle.swreq_symbols.specs.Known.{IsRequirementIn}
+use Rattle.swreq_print.proofs.swreq_lemmas.Elements.{there_is}
+use Rattle.swreq_machine.specs.swreq_derive.Instances.{HasNumber}
+use Rattle.swreq_machine.proofs.swreq_derive.InstanceLemmas.{contains_number}
+use Rattle.swreq_machine.specs.swreq_symbols.Known.{IsRequirementIn}
 use Rattle.swreq_confpath.specs.Searches.{required_at}
 use Rattle.swreq_confpath.proofs.Requirements.{requirement_in}
 use Rattle.swreq_confpath.proofs.Searching.{passed_by, set_aside_by, tried_by, within}

@@ -1,5 +1,5 @@
 use Rattle.std.proofs.Common.{refl, lit<}
-use Rattle.swreq_param.specs.Terms.{self}
+use Rattle.swreq_derive.specs.swreq_param.Terms.{self}
 use Rattle.swreq_derive.specs.Derivation.TermRequirement.{Equals}
 use Rattle.swreq_derive.specs.Derivation.Derives.{generic, conf, assoc_name}
 use Rattle.swreq_derive.specs.Worked.{◌·◌, τ_0_0, τ_0_1, P, B, B_of_P}

@@ -1,5 +1,5 @@
 use Rattle.std.proofs.Common.{refl, lit<, arith}
-use Rattle.swreq_param.specs.Terms.{self}
+use Rattle.swreq_derive.specs.swreq_param.Terms.{self}
 use Rattle.swreq_derive.specs.Derivation.TermRequirement.{Conforms}
 use Rattle.swreq_derive.specs.Derivation.Derives.{generic}
 use Rattle.swreq_derive.specs.Worked.{◌·◌, τ_0_0, N, Next, Next_of_N}

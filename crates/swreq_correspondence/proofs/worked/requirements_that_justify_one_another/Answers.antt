@@ -1,14 +1,14 @@
 use Rattle.std.proofs.Common.{◌≡◌, [], ◌∷◌, subst, inl, inr}
-use Rattle.swreq_param.specs.Terms.Term.{Member}
-use Rattle.swreq_param.specs.Terms.{Term}
-use Rattle.swreq_param.specs.declared.ids.Step.{Step}
-use Rattle.swreq_param.specs.declared.ids.Step.TheVariants.{Name}
+use Rattle.swreq_derive.specs.swreq_param.Terms.Term.{Member}
+use Rattle.swreq_derive.specs.swreq_param.Terms.{Term}
+use Rattle.swreq_derive.specs.swreq_param.declared.ids.Step.{Step}
+use Rattle.swreq_derive.specs.swreq_param.declared.ids.Step.TheVariants.{Name}
 use Rattle.swreq_derive.specs.WellFormed.{HasValidSides}
 use Rattle.swreq_word.specs.declared.symbols.Symbol.TheVariants.{Param as ParamSymbol}
 use Rattle.swreq_derive.specs.Derivation.{TermRequirement}
 use Rattle.swreq_derive.specs.Derivation.TermRequirement.{Conforms, IsAnyObject, Equals}
 use Rattle.swreq_derive.specs.Worked.{◌·◌, of_one, τ_0_0, Q, A, B, circular, circular_f}
-use Rattle.swreq_lemmas.proofs.Members.{member_cases, only_member}
+use Rattle.swreq_word.proofs.swreq_lemmas.Members.{member_cases, only_member}
 use Rattle.swreq_correspondence.specs.Symbols.{Word}
 use Rattle.swreq_correspondence.specs.Equations.{UsableEquation, UsableIn}
 use Rattle.swreq_correspondence.specs.Equations.Equation.{twice, member, of_protocol, of_source}

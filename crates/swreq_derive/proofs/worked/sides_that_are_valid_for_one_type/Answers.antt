@@ -9,7 +9,7 @@ use Rattle.swreq_derive.specs.Derivation.Derives.{generic, conf, same, layout, a
 use Rattle.swreq_derive.specs.Worked.{◌·◌, of_one, τ_0_0, P, Q, A, B, elsewhere, elsewhere_requirements, elsewhere_f, by_rank}
 use Rattle.swreq_derive.proofs.worked.sides_that_are_valid_for_one_type.Goals as goal
 use Rattle.swreq_derive.proofs.Guard.{unguarded}
-use Rattle.swreq_lemmas.proofs.Members.{each_member, no_member}
+use Rattle.swreq_param.proofs.swreq_lemmas.Members.{each_member, no_member}
 
 -- Self.A.B is a side of each requirement of the protocols.
 abbrev IsSide : TermRequirement → Type 0

@@ -1,10 +1,10 @@
-use Rattle.swreq_evidence_tests.proofs.Queries.{query_asked, query_signature}
+use Rattle.std.proofs.Common.{◌∙◌, ap, subst}
+use Rattle.swreq_machine.specs.swreq_lowering.declared.ids.Asks.{Asks}
+use Rattle.swreq_machine.specs.swreq_lowering.declared.ids.Asks.TheVariants.{Requirement}
+use Rattle.swreq_machine.specs.swreq_symbols.Known.{IsAskedIn}
 use Rattle.swreq_evidence_tests.proofs.paths.put_asked.Goals as goal
-
-pub machine_of-requires-clause-f : goal.machine_of-requires-clause-f
-machine_of-requires-clause-f c =
-    query_signature c.args.table.now c.args.world.now c.args.query c.in-Conf.f c.in-Conf.t c.in-Conf.p c.in-Conf.is c.requires.query
 
 pub put_given-requires-clause-asked : goal.put_given-requires-clause-asked
 put_given-requires-clause-asked c =
-    query_asked c.args.table.now c.args.world.now c.args.query c.in-Conf.f c.in-Conf.t c.in-Conf.p c.in-Conf.is c.requires.query
+    subst (λ (a : Asks). IsAskedIn c.args.table.now c.args.world.now.lexicon a) (c.in-Requirement.is ∙ ap Requirement c.in-Conf.is)
+    c.requires.query.1

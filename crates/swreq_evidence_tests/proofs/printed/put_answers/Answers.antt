@@ -1,5 +1,5 @@
 use Rattle.std.proofs.Common.{subst}
-use Rattle.swreq_map.specs.Follows.{IsMapOf}
+use Rattle.swreq_machine.specs.swreq_map.Follows.{IsMapOf}
 use Rattle.swreq_evidence_tests.proofs.printed.put_answers.Goals as goal
 
 pub put_each-requires-clause-map : goal.put_each-requires-clause-map

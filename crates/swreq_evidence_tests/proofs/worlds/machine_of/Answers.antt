@@ -1,8 +1,8 @@
 use Rattle.swreq_reqsig.proofs.WellFormed.{list_formed}
-use Rattle.swreq_symbols.specs.Meaning.{facts_of}
-use Rattle.swreq_world.specs.ByTable.{world_by}
-use Rattle.swreq_world.specs.FactsAt.{source_of}
-use Rattle.swreq_world.specs.Worlds.{signature_at}
+use Rattle.swreq_machine.specs.swreq_symbols.Meaning.{facts_of}
+use Rattle.swreq_machine.specs.swreq_world.ByTable.{world_by}
+use Rattle.swreq_machine.specs.swreq_world.FactsAt.{source_of}
+use Rattle.swreq_machine.specs.swreq_world.Worlds.{signature_at}
 use Rattle.swreq_evidence_tests.proofs.worlds.machine_of.Goals as goal
 
 pub returns : goal.returns

@@ -1,4 +1,4 @@
-use Rattle.swreq_world.specs.ByTable.{world_by}
+use Rattle.swreq_machine.specs.swreq_world.ByTable.{world_by}
 use Rattle.swreq_evidence_tests.proofs.worlds.protocols_of.Goals as goal
 
 pub returns-clause-formed : goal.returns-clause-formed

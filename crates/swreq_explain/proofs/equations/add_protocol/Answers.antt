@@ -1,10 +1,9 @@
-use Rattle.std.proofs.Common.{◌≡◌, ◌∙◌, [], ◌∷◌, ◌++◌, append_assoc, ap, arith, length, map, slice_get}
+use Rattle.std.proofs.Common.{◌≡◌, ◌∙◌, [], ◌∷◌, ◌++◌, append_assoc, ap, arith, map}
 use Rattle.std.proofs.lemmas.List.{length-map, map-append}
-use Rattle.swreq_lemmas.proofs.Elements.{get_map, there_is}
-use Rattle.swreq_rounds.specs.Given.{doubled, named_from}
-use Rattle.swreq_symbols.specs.Meaning.{member_name, symbols_of}
-use Rattle.swreq_valid.proofs.OfProtocols.{name_more, names_all}
-use Rattle.swreq_explain.specs.TextAlphabet.{named_by}
+use Rattle.swreq_machine.proofs.swreq_lemmas.Elements.{there_is}
+use Rattle.swreq_machine.specs.swreq_rounds.Given.{doubled, named_from}
+use Rattle.swreq_machine.specs.swreq_symbols.Meaning.{member_name, symbols_of}
+use Rattle.swreq_machine.proofs.swreq_valid.OfProtocols.{name_more, names_all}
 use Rattle.swreq_explain.specs.Numbering.{sides_of}
 use Rattle.swreq_explain.proofs.equations.add_protocol.Goals as goal
 
@@ -14,14 +13,13 @@ loop-rank-preserved c =
     let rank = c.loop-rank.rank in
     let p = c.args.p in
     let test = c.loop-rank-test.true in
-    let count = ap length c.requires.members ∙ length-map x.symbols named_by in
+    let count = c.members-rank-end.ensures in
     let (d, at) = there_is x.symbols rank (omega (arith, test, count)) in
-    let there = ap (λ z. slice_get z rank) c.requires.members ∙ get_map named_by x.symbols rank d at in
     record {
       basic = c.in_ok-add_member.ensures.basic;
       sides = name_more p x.symbols rank d (map sides_of c.loop-rank.given.items) (map sides_of c.add_member.new.given.items)
           (map sides_of c.push.new.self.items ++ named_from p 0 (symbols_of x).members) at
-          (c.in_ok-add_member.ensures.sides (named_by d) there) c.loop-rank.invariant.sides;
+          (c.in_ok-add_member.ensures.sides d at) c.loop-rank.invariant.sides;
     }
 
 pub returns : goal.returns
@@ -32,7 +30,7 @@ returns c =
     let old = c.args.given.now.items in
     let ms = (symbols_of x).members in
     let test = c.loop-rank-test.false in
-    let end = ap length c.requires.members ∙ length-map x.symbols named_by in
+    let end = c.members-rank-end.ensures in
     let count = length-map x.symbols member_name in
     let sides : sides_of e ≡ doubled p = λ i. (c.in_ok-e.ensures.left i, c.in_ok-e.ensures.right i) in
     record {

@@ -1,7 +1,7 @@
 use Rattle.std.proofs.Common.{◌≡◌, ◌++◌, List, take}
-use Rattle.swreq_symbols.specs.Meaning.{symbols_of}
+use Rattle.swreq_machine.specs.swreq_symbols.Meaning.{symbols_of}
 use Rattle.swreq_births.specs.declared.history.Equation.{Equation}
-use Rattle.swreq_valid.specs.Flags.{chosen}
+use Rattle.swreq_machine.specs.swreq_valid.Flags.{chosen}
 use Rattle.swreq_explain.specs.Numbering.{AreEquationsOf}
 use Rattle.swreq_explain.specs.Uses.{course_of}
 use Rattle.swreq_explain.proofs.equations.add_used.Given as goal

@@ -1,11 +1,11 @@
 use Rattle.std.proofs.lemmas.List.{length-map}
-use Rattle.swreq_lowering.specs.declared.ids.Written.{Written}
-use Rattle.swreq_explain.proofs.ParentLemmas.{short_list}
+use Rattle.swreq_machine.specs.swreq_lowering.declared.ids.Written.{Written}
+use Rattle.swreq_explain.proofs.NumberingLemmas.{short_list}
 use Rattle.std.proofs.Common.{length, Some, arith, refl, ap, ◌∙◌, ◌++◌}
-use Rattle.swreq_world.specs.Worlds.{requirements_of}
-use Rattle.swreq_valid.specs.Plans.{bare}
-use Rattle.swreq_valid.proofs.Listing.{parts_all}
-use Rattle.swreq_valid.proofs.OfProtocols.{part_at, proto_within}
+use Rattle.swreq_machine.specs.swreq_world.Worlds.{requirements_of}
+use Rattle.swreq_machine.specs.swreq_valid.Plans.{bare}
+use Rattle.swreq_machine.proofs.swreq_valid.Listing.{parts_all}
+use Rattle.swreq_machine.proofs.swreq_valid.OfProtocols.{part_at, proto_within}
 use Rattle.swreq_explain.specs.Numbering.{numbered_from, numbered_in}
 use Rattle.swreq_explain.proofs.numbered.protocols_numbered.Goals as goal
 

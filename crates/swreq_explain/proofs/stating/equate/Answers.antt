@@ -1,5 +1,5 @@
 use Rattle.std.proofs.Common.{◌≡◌, ◌∙◌, ap, sym}
-use Rattle.swreq_param.specs.Tables.{term_at}
+use Rattle.swreq_machine.specs.swreq_param.Tables.{term_at}
 use Rattle.swreq_readings.specs.Readable.{read_word}
 use Rattle.swreq_readings.proofs.ReadingLemmas.{equal_as, equal_ids_now, equal_now, is_still, term_still}
 use Rattle.swreq_explain.specs.Stating.{alphabet_at}

@@ -1,9 +1,9 @@
 use Rattle.std.proofs.Common.{◌≡◌, ◌∙◌, ◌-◌, [], ◌∷◌, ◌++◌, ap, arith, get_or, length, sym, take, take_all, suc}
 use Rattle.std.proofs.Math.Seq.{take-suc}
-use Rattle.swreq_param.specs.ComparisonLaws.{with_more}
-use Rattle.swreq_param.specs.declared.ids.Step.TheVariants.{Bound}
-use Rattle.swreq_param.specs.Terms.{with_steps}
-use Rattle.swreq_param.specs.Terms.Term.{Generic, Member}
+use Rattle.swreq_machine.specs.swreq_param.ComparisonLaws.{with_more}
+use Rattle.swreq_machine.specs.swreq_param.declared.ids.Step.TheVariants.{Bound}
+use Rattle.swreq_machine.specs.swreq_param.Terms.{with_steps}
+use Rattle.swreq_machine.specs.swreq_param.Terms.Term.{Generic, Member}
 use Rattle.swreq_explain.proofs.validity.split.Goals as goal
 
 pub returns-in_ok-steps-in-len1-up : goal.returns-in_ok-steps-in-len1-up

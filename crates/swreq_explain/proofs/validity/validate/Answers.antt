@@ -1,12 +1,12 @@
 use Rattle.std.proofs.Common.{◌≡◌, ◌∙◌, ◌-◌, List, Contains, None, MatchOption, ap, length, subst, sym, take}
-use Rattle.swreq_param.specs.declared.ids.ParamId.{ParamId}
-use Rattle.swreq_param.specs.Tables.{term_at}
-use Rattle.swreq_derive.specs.Derivation.TermStatement.{IsValid}
+use Rattle.swreq_machine.specs.swreq_param.declared.ids.ParamId.{ParamId}
+use Rattle.swreq_machine.specs.swreq_param.Tables.{term_at}
+use Rattle.swreq_machine.specs.swreq_derive.Derivation.TermStatement.{IsValid}
 use Rattle.swreq_derivation.specs.UnderWay.{States}
 use Rattle.swreq_readings.specs.Readable.{IsGiven, read_word}
 use Rattle.swreq_readings.proofs.ReadingLemmas.{equal_as, equals_still, is_still, term_still}
-use Rattle.swreq_param.specs.Owned.{as_term}
-use Rattle.swreq_param.specs.Terms.Term.{Generic, Member}
+use Rattle.swreq_machine.specs.swreq_param.Owned.{as_term}
+use Rattle.swreq_machine.specs.swreq_param.Terms.Term.{Generic, Member}
 use Rattle.swreq_explain.specs.Stating.{alphabet_at, rules_of}
 use Rattle.swreq_explain.proofs.SideLemmas.{base_shown, ready_still, shown_generic, step_shown}
 use Rattle.swreq_derivation.proofs.DerivationLemmas.{continues_anyway, continues_if, continues_then, grows_then}

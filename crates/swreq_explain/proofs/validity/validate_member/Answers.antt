@@ -1,28 +1,28 @@
 use Rattle.std.proofs.Common.{◌≡◌, ◌∙◌, List, ap, ap₂, subst, sym}
-use Rattle.swreq_param.specs.declared.ids.AssocId.{AssocId}
-use Rattle.swreq_param.specs.declared.ids.NameId.{NameId}
-use Rattle.swreq_param.specs.declared.ids.Step.{Step}
-use Rattle.swreq_param.specs.declared.ids.Step.TheVariants.{Bound, Name}
-use Rattle.swreq_param.specs.declared.ids.TermId.{TermId}
-use Rattle.swreq_param.specs.Tables.{IsOf, term_at}
-use Rattle.swreq_param.specs.Terms.{Term}
-use Rattle.swreq_param.specs.Terms.Term.{Member}
-use Rattle.swreq_derive.specs.Derivation.{Declares}
+use Rattle.swreq_machine.specs.swreq_param.declared.ids.AssocId.{AssocId}
+use Rattle.swreq_machine.specs.swreq_param.declared.ids.NameId.{NameId}
+use Rattle.swreq_machine.specs.swreq_param.declared.ids.Step.{Step}
+use Rattle.swreq_machine.specs.swreq_param.declared.ids.Step.TheVariants.{Bound, Name}
+use Rattle.swreq_machine.specs.swreq_param.declared.ids.TermId.{TermId}
+use Rattle.swreq_machine.specs.swreq_param.Tables.{IsOf, term_at}
+use Rattle.swreq_machine.specs.swreq_param.Terms.{Term}
+use Rattle.swreq_machine.specs.swreq_param.Terms.Term.{Member}
+use Rattle.swreq_machine.specs.swreq_derive.Derivation.{Declares}
 use Rattle.swreq_derivation.specs.declared.derivation.Derivation.{Derivation}
 use Rattle.swreq_derivation.specs.UnderWay.{AddsLines, Assumptions}
-use Rattle.swreq_readings.specs.declared.alphabet.Named.{Named}
+use Rattle.swreq_machine.specs.swreq_lexicon.declared.pair.ProtocolName.{ProtocolName}
 use Rattle.swreq_readings.specs.Readable.{IsGiven, IsOfStep}
 use Rattle.swreq_readings.proofs.ReadingLemmas.{term_still}
 use Rattle.swreq_derivation.proofs.DerivationLemmas.{continues_anyway, continues_if, continues_then}
 use Rattle.swreq_births.specs.Systems.{FitsHistory}
-use Rattle.swreq_explain.specs.declared.sides.ReadAs.{ReadAs}
-use Rattle.swreq_explain.specs.declared.sides.RoundReader.{RoundReader}
+use Rattle.swreq_explain.specs.declared.validity.ReadAs.{ReadAs}
+use Rattle.swreq_explain.specs.declared.validity.RoundReader.{RoundReader}
 use Rattle.swreq_explain.specs.Stating.{alphabet_at}
 use Rattle.swreq_explain.proofs.validity.validate_member.Goals as goal
 
 -- The protocol declares the associated type that the step names, and the id stands for the member by the step.
 module _ (d : RoundReader) (s u v : Derivation) (grows : AddsLines s u) (table : v.table ≡ u.table) (base : ReadAs) (id : TermId) (x : Step)
-    (n : Named) (t : Term) (h : IsOf s.table base.itself) (w : IsGiven (alphabet_at d) s t x n)
+    (n : ProtocolName) (t : Term) (h : IsOf s.table base.itself) (w : IsGiven (alphabet_at d) s t x n)
     (stands : term_at u.table id ≡ Member (term_at s.table base.itself) x) where
   member_by : (y : Step) → x ≡ y → term_at v.table id ≡ Member (term_at v.table base.itself) y
   member_by y e =

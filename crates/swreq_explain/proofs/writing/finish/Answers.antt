@@ -1,8 +1,8 @@
 use Rattle.std.proofs.Common.{List, subst, sym, take}
-use Rattle.swreq_param.specs.Tables.{AreDistinct}
-use Rattle.swreq_derive.specs.declared.lines.Line.{Line}
-use Rattle.swreq_derive.specs.declared.requirements.Statement.TheVariants.{Holds}
-use Rattle.swreq_derive.specs.Lines.{AreDerived}
+use Rattle.swreq_machine.specs.swreq_param.Tables.{AreDistinct}
+use Rattle.swreq_machine.specs.swreq_derive.declared.lines.Line.{Line}
+use Rattle.swreq_machine.specs.swreq_derive.declared.requirements.Statement.TheVariants.{Holds}
+use Rattle.swreq_machine.specs.swreq_derive.Lines.{AreDerived}
 use Rattle.swreq_derivation.specs.Needed.{AreSomeOf, EndIn}
 use Rattle.swreq_explain.proofs.Fronts.{front_derived, front_ends, front_ids, line_said}
 use Rattle.swreq_explain.proofs.writing.finish.Goals as goal

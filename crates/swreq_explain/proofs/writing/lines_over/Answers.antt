@@ -1,6 +1,6 @@
 use Rattle.std.proofs.Common.{List, ap, subst, sym, ◌∙◌}
-use Rattle.swreq_param.specs.Tables.{Extends}
-use Rattle.swreq_param.specs.Terms.{Term}
+use Rattle.swreq_machine.specs.swreq_param.Tables.{Extends}
+use Rattle.swreq_machine.specs.swreq_param.Terms.{Term}
 use Rattle.swreq_derivation.specs.declared.derivation.Derivation.{Derivation}
 use Rattle.swreq_explain.specs.Written.{AreWritten}
 use Rattle.swreq_explain.proofs.Standing.{written_over}

@@ -1,6 +1,6 @@
 use Rattle.std.proofs.Common.{◌≡◌, ◌-◌, ◌<◌, ℕ, List, Some, false, get_or, refl, slice_get, sym, true, ◌∙◌, ap, subst, subst₂, arith, length}
 use Rattle.std.proofs.lemmas.Option.{slice_get_within}
-use Rattle.swreq_word.specs.declared.symbols.Symbol.{Symbol}
+use Rattle.swreq_rule.specs.swreq_word.declared.symbols.Symbol.{Symbol}
 use Rattle.swreq_rule.specs.declared.rules.Rule.{Rule}
 use Rattle.swreq_rule.specs.Steps.{RuleAt}
 use Rattle.swreq_rule.proofs.Numbers.{number_some, number_within, rule_there}

@@ -1,5 +1,5 @@
 use Rattle.std.proofs.Common.{◌≡◌, ◌-◌, refl, ◌∙◌, ap, ◌++◌, length, take, drop, min}
-use Rattle.swreq_word.proofs.Cuts.{whole_rest}
+use Rattle.swreq_rule.proofs.swreq_word.Cuts.{whole_rest}
 use Rattle.swreq_rule.proofs.Numbers.{rule_read, number_some, number_within}
 use Rattle.std.proofs.lemmas.List.{drop_min}
 use Rattle.swreq_homotopy.proofs.loops.pair_word.Goals as goal

@@ -1,6 +1,6 @@
 use Rattle.std.proofs.Common.{◌≡◌, ℕ, false, length}
 use Rattle.swreq_closure.specs.Bits.{has}
-use Rattle.swreq_param.specs.declared.ids.NameId.{NameId}
+use Rattle.swreq_derive.specs.swreq_param.declared.ids.NameId.{NameId}
 use Rattle.swreq_lexicon.specs.Symbols.{row_of}
 use Rattle.swreq_lexicon.proofs.members.no_rows.Given as goal
 

@@ -1,5 +1,5 @@
 use Rattle.std.proofs.Common.{◌≡◌, ◌∙◌, ◌+◌, ℕ, List, length, get_or, take, slice_get, Some, ap, sym, subst, arith}
-use Rattle.swreq_param.specs.declared.ids.ProtoId.{ProtoId}
+use Rattle.swreq_derive.specs.swreq_param.declared.ids.ProtoId.{ProtoId}
 use Rattle.swreq_lexicon.specs.Symbols.{has_member, having}
 use Rattle.swreq_lexicon.specs.Views.{inherits_by}
 use Rattle.swreq_lexicon.proofs.SymbolPlaces.{filter_place}

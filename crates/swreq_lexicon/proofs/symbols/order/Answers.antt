@@ -1,5 +1,5 @@
 use Rattle.std.proofs.Common.{◌∙◌, ◌≤◌, ◌<◌, ◌↔◌, List, length, map, Contains, sym, ap, subst, arith}
-use Rattle.swreq_param.specs.declared.ids.ProtoId.{ProtoId}
+use Rattle.swreq_derive.specs.swreq_param.declared.ids.ProtoId.{ProtoId}
 use Rattle.swreq_lexicon.specs.declared.symbols.OrderKey.{OrderKey}
 use Rattle.swreq_lexicon.specs.Associated.{order_cmp}
 use Rattle.swreq_rank.specs.Ranks.{IsRanking}

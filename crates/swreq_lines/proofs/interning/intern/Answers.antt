@@ -1,6 +1,6 @@
-use Rattle.swreq_param.proofs.Growing.{onward}
-use Rattle.swreq_param.specs.Tables.{term_at}
-use Rattle.swreq_param.specs.Terms.Term.{Generic}
+use Rattle.swreq_print.proofs.swreq_param.Growing.{onward}
+use Rattle.swreq_print.specs.swreq_param.Tables.{term_at}
+use Rattle.swreq_print.specs.swreq_param.Terms.Term.{Generic}
 use Rattle.swreq_lines.proofs.OneStep.{with_one}
 use Rattle.swreq_lines.proofs.interning.intern.Goals as goal
 

@@ -1,7 +1,7 @@
 use Rattle.std.proofs.Common.{◌≡◌, take}
-use Rattle.swreq_param.specs.Tables.{Extends, IsOf, term_at}
-use Rattle.swreq_param.specs.Terms.{with_steps}
-use Rattle.swreq_param.specs.Terms.Term.{Generic}
+use Rattle.swreq_print.specs.swreq_param.Tables.{Extends, IsOf, term_at}
+use Rattle.swreq_print.specs.swreq_param.Terms.{with_steps}
+use Rattle.swreq_print.specs.swreq_param.Terms.Term.{Generic}
 use Rattle.swreq_lines.proofs.interning.intern.Given as goal
 
 abbrev pub invariant-loop-step : goal.invariant-loop-step

@@ -1,5 +1,5 @@
 use Rattle.std.proofs.Common.{◌∙◌, map, sym}
-use Rattle.swreq_derive.specs.Lines.{line_of}
+use Rattle.swreq_print.specs.swreq_derive.Lines.{line_of}
 use Rattle.swreq_lines.proofs.Back.{none_is_bad, read_back}
 use Rattle.swreq_lines.proofs.Grown.{line_ids, lines_still}
 use Rattle.swreq_lines.proofs.SameIds.{same_lines}

@@ -1,9 +1,9 @@
 use Rattle.std.proofs.Common.{◌+◌, ◌∷◌, [], ⊎_elim, ap, subst, sym, arith, length, length-append, Contains}
 use Rattle.std.proofs.lemmas.List.Elements.{Contains-append_cases}
 use Rattle.std.proofs.lemmas.Result.{err_from_is_err_and}
-use Rattle.swreq_derive.specs.declared.lines.Line.{Line}
-use Rattle.swreq_lemmas.proofs.Members.{only_member}
-use Rattle.swreq_param.proofs.Growing.{onward}
+use Rattle.swreq_print.specs.swreq_derive.declared.lines.Line.{Line}
+use Rattle.swreq_print.proofs.swreq_lemmas.Members.{only_member}
+use Rattle.swreq_print.proofs.swreq_param.Growing.{onward}
 use Rattle.swreq_text.proofs.Lined.{rest_shorter}
 use Rattle.swreq_lines.specs.LineTexts.{HasLineIds}
 use Rattle.swreq_lines.proofs.Grown.{line_ids, lines_still}

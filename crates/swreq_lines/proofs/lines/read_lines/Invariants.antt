@@ -1,6 +1,6 @@
 use Rattle.std.proofs.Common.{◌+◌, ◌≤◌, length, Contains}
-use Rattle.swreq_derive.specs.declared.lines.Line.{Line}
-use Rattle.swreq_param.specs.Tables.{Extends}
+use Rattle.swreq_print.specs.swreq_derive.declared.lines.Line.{Line}
+use Rattle.swreq_print.specs.swreq_param.Tables.{Extends}
 use Rattle.swreq_lines.specs.LineTexts.{HasLineIds}
 use Rattle.swreq_lines.proofs.SoFar.{AreSoFar}
 use Rattle.swreq_lines.proofs.lines.read_lines.Given as goal

@@ -1,4 +1,4 @@
-use Rattle.swreq_lexicon.specs.Lexicons.{pair}
+use Rattle.swreq_print.specs.swreq_lexicon.Lexicons.{pair}
 use Rattle.swreq_lines.proofs.Names.{found_assoc, there_assoc}
 use Rattle.swreq_lines.proofs.named.associated.Goals as goal
 

@@ -1,6 +1,6 @@
 use Rattle.std.proofs.Common.{subst, sym}
 use Rattle.std.specs.List.{AllByRecursion}
-use Rattle.swreq_lowering.specs.OfText.{IsStepOf}
+use Rattle.swreq_print.specs.swreq_lowering.OfText.{IsStepOf}
 use Rattle.swreq_lines.proofs.TypeWords.{by_steps_readable, readable_by_steps}
 use Rattle.swreq_lines.proofs.of_text.has_type.Goals as goal
 

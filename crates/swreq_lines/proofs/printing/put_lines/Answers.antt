@@ -1,5 +1,5 @@
 use Rattle.std.proofs.Common.{◌++◌, map, sym}
-use Rattle.swreq_derive.specs.Lines.{line_of}
+use Rattle.swreq_print.specs.swreq_derive.Lines.{line_of}
 use Rattle.swreq_lines.specs.LineTexts.{lines_text}
 use Rattle.swreq_lines.proofs.Numbered.{all_lines, one_line}
 use Rattle.swreq_lines.proofs.printing.put_lines.Goals as goal

@@ -1,7 +1,7 @@
 use Rattle.std.proofs.Common.{ap}
-use Rattle.swreq_derive.specs.Derivation.TermRequirement.{Equals}
-use Rattle.swreq_derive.specs.Derivation.TermStatement.{Requires}
-use Rattle.swreq_param.specs.Owned.{as_term}
+use Rattle.swreq_print.specs.swreq_derive.Derivation.TermRequirement.{Equals}
+use Rattle.swreq_print.specs.swreq_derive.Derivation.TermStatement.{Requires}
+use Rattle.swreq_print.specs.swreq_param.Owned.{as_term}
 use Rattle.swreq_print.specs.Types.{type_text}
 use Rattle.swreq_lines.proofs.StatementWords.{before_by}
 use Rattle.swreq_lines.proofs.TypeWords.{type_without}

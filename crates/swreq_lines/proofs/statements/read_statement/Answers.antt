@@ -2,10 +2,10 @@ use Rattle.std.proofs.Common.{◌≡◌, ◌∙◌, ◌++◌, ap, codes, sym, tr
 use Rattle.std.proofs.lemmas.Bool.Decides.{Decides-eqb}
 use Rattle.std.proofs.lemmas.Result.{IfOk-weaker}
 use Rattle.std.proofs.lemmas.Slice.Eq.{slice_eq-Decides}
-use Rattle.swreq_derive.specs.Derivation.{TermStatement}
-use Rattle.swreq_derive.specs.Derivation.TermRequirement.{Equals}
-use Rattle.swreq_derive.specs.Derivation.TermStatement.{IsValid, Requires}
-use Rattle.swreq_param.specs.Owned.{as_term}
+use Rattle.swreq_print.specs.swreq_derive.Derivation.{TermStatement}
+use Rattle.swreq_print.specs.swreq_derive.Derivation.TermRequirement.{Equals}
+use Rattle.swreq_print.specs.swreq_derive.Derivation.TermStatement.{IsValid, Requires}
+use Rattle.swreq_print.specs.swreq_param.Owned.{as_term}
 use Rattle.swreq_print.specs.Names.{Text}
 use Rattle.swreq_lines.specs.GoodLines.{IsReadableStatement}
 use Rattle.swreq_lines.specs.LineTexts.{statement_text}

@@ -1,7 +1,7 @@
 use Rattle.std.proofs.Common.{◌≡◌, ◌++◌, List, length}
 use Rattle.std.specs.List.{AllByRecursion}
-use Rattle.swreq_lowering.specs.OfText.{IsStepOf}
-use Rattle.swreq_param.specs.declared.ids.Step.{Step}
+use Rattle.swreq_print.specs.swreq_lowering.OfText.{IsStepOf}
+use Rattle.swreq_print.specs.swreq_param.declared.ids.Step.{Step}
 use Rattle.swreq_print.specs.Types.{steps_text}
 use Rattle.swreq_lines.specs.Pieces.{behind}
 use Rattle.swreq_lines.proofs.types.read_steps.Given as goal

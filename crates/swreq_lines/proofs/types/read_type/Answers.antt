@@ -1,7 +1,7 @@
 use Rattle.std.proofs.Common.{◌∙◌, ap₂}
-use Rattle.swreq_param.specs.ComparisonLaws.{as_steps, steps_of}
-use Rattle.swreq_param.specs.Terms.{head, with_steps}
-use Rattle.swreq_param.specs.Terms.Term.{Generic}
+use Rattle.swreq_print.specs.swreq_param.ComparisonLaws.{as_steps, steps_of}
+use Rattle.swreq_print.specs.swreq_param.Terms.{head, with_steps}
+use Rattle.swreq_print.specs.swreq_param.Terms.Term.{Generic}
 use Rattle.swreq_print.proofs.Steps.{each_step}
 use Rattle.swreq_lines.proofs.TypeWords.{parts_of_type}
 use Rattle.swreq_lines.proofs.types.read_type.Goals as goal

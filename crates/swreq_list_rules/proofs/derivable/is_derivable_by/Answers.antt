@@ -1,10 +1,10 @@
 use Rattle.std.proofs.Common.{[], subst}
 use Rattle.std.specs.Bool.{Decides}
 use Rattle.std.proofs.lemmas.Result.{IfOk-weaker}
-use Rattle.swreq_derive.specs.Facts.{requirement_of}
-use Rattle.swreq_derive.specs.Derivation.Source.{Written}
-use Rattle.swreq_correspondence.specs.Symbols.{Word, right_side}
-use Rattle.swreq_symbols.specs.Vanishing.{Links}
+use Rattle.swreq_machine.specs.swreq_derive.Facts.{requirement_of}
+use Rattle.swreq_machine.specs.swreq_derive.Derivation.Source.{Written}
+use Rattle.swreq_machine.specs.swreq_correspondence.Symbols.{Word, right_side}
+use Rattle.swreq_machine.specs.swreq_symbols.Vanishing.{Links}
 use Rattle.swreq_list_rules.specs.Settings.{symbols_in}
 use Rattle.swreq_list_rules.proofs.ByEquation.{held, not_held}
 use Rattle.swreq_list_rules.proofs.derivable.is_derivable_by.Goals as goal

@@ -1,4 +1,4 @@
-use Rattle.swreq_derive.specs.Facts.{requirement_of}
+use Rattle.swreq_machine.specs.swreq_derive.Facts.{requirement_of}
 use Rattle.swreq_list_rules.proofs.Growing.{completed}
 use Rattle.swreq_list_rules.proofs.settling.completed_by.Goals as goal
 

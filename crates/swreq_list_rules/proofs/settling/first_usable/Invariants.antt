@@ -1,6 +1,6 @@
 use Rattle.std.proofs.Common.{Contains, take}
-use Rattle.swreq_derive.specs.declared.requirements.Requirement.{Requirement}
-use Rattle.swreq_derive.specs.Facts.{requirement_of}
+use Rattle.swreq_machine.specs.swreq_derive.declared.requirements.Requirement.{Requirement}
+use Rattle.swreq_machine.specs.swreq_derive.Facts.{requirement_of}
 use Rattle.swreq_list_rules.specs.ListRules.{AreShownBy}
 use Rattle.swreq_list_rules.proofs.settling.first_usable.Given as goal
 

@@ -1,5 +1,5 @@
 use Rattle.std.proofs.Common.{◌∙◌, ◌++◌, ◌∷◌, [], sym, subst, get_or, Contains}
-use Rattle.swreq_derive.specs.Facts.{requirement_of}
+use Rattle.swreq_machine.specs.swreq_derive.Facts.{requirement_of}
 use Rattle.swreq_list_rules.specs.ListRules.{AreCompletedBy, AreOfList, AreShownBy, AreUnderway}
 use Rattle.swreq_list_rules.proofs.Growing.{one_more, settled}
 use Rattle.swreq_list_rules.proofs.Parting.{was_there}

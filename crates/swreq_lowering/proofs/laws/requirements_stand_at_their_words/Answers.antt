@@ -1,4 +1,4 @@
-use Rattle.swreq_names.specs.declared.signature.Signature.TheVariants.{Struct, Function}
+use Rattle.swreq_lexicon.specs.swreq_names.declared.signature.Signature.TheVariants.{Struct, Function}
 use Rattle.swreq_lowering.proofs.Standing.{protocol_stands, signature_stands, nested_stands}
 use Rattle.swreq_lowering.proofs.laws.requirements_stand_at_their_words.Goals as goal
 

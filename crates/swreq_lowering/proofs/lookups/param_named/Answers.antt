@@ -1,6 +1,6 @@
 use Rattle.std.proofs.Common.{Some, sym, ap, ◌∙◌, arith}
-use Rattle.swreq_names.specs.Spaces.{param_of}
-use Rattle.swreq_names.specs.Names.{NamesView}
+use Rattle.swreq_lexicon.specs.swreq_names.Spaces.{param_of}
+use Rattle.swreq_lexicon.specs.swreq_names.Names.{NamesView}
 use Rattle.swreq_lowering.proofs.Referring.{outer_below, own_below}
 use Rattle.swreq_lowering.proofs.lookups.param_named.Goals as goal
 

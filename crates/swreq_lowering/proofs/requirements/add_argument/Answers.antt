@@ -4,8 +4,8 @@ use Rattle.swreq_param.specs.declared.ids.Step.TheVariants.{Name}
 use Rattle.swreq_param.specs.Terms.Term.{Member}
 use Rattle.swreq_param.specs.Tables.{term_at}
 use Rattle.swreq_param.proofs.Growing.{onward}
-use Rattle.swreq_derive.specs.declared.requirements.Requirement.TheVariants.{Same}
-use Rattle.swreq_derive.specs.Derivation.TermRequirement.{Equals}
+use Rattle.swreq_lexicon.specs.swreq_derive.declared.requirements.Requirement.TheVariants.{Same}
+use Rattle.swreq_lexicon.specs.swreq_derive.Derivation.TermRequirement.{Equals}
 use Rattle.swreq_lowering.specs.Requirements.{argument}
 use Rattle.swreq_lowering.specs.Words.{words_by}
 use Rattle.swreq_lowering.proofs.Growing.{extends_interned, of_stays, adds_one}

@@ -1,6 +1,6 @@
 use Rattle.std.proofs.Common.{◌∙◌, ◌∷◌, [], inl, inr, get_or, arith}
 use Rattle.std.proofs.lemmas.List.{get_or_default}
-use Rattle.swreq_decl.specs.declared.skeleton.Span.{Span}
+use Rattle.swreq_lexicon.specs.swreq_decl.declared.skeleton.Span.{Span}
 use Rattle.swreq_param.specs.Tables.{term_at}
 use Rattle.swreq_lowering.specs.Requirements.{argument, arguments}
 use Rattle.swreq_lowering.specs.Words.{words_by}

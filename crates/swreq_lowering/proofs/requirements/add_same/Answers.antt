@@ -1,7 +1,7 @@
 use Rattle.std.proofs.Common.{◌∙◌}
 use Rattle.swreq_param.proofs.Growing.{onward}
-use Rattle.swreq_derive.specs.declared.requirements.Requirement.TheVariants.{Same}
-use Rattle.swreq_derive.specs.Derivation.TermRequirement.{Equals}
+use Rattle.swreq_lexicon.specs.swreq_derive.declared.requirements.Requirement.TheVariants.{Same}
+use Rattle.swreq_lexicon.specs.swreq_derive.Derivation.TermRequirement.{Equals}
 use Rattle.swreq_lowering.specs.Requirements.{equality}
 use Rattle.swreq_lowering.specs.Types.{type_in}
 use Rattle.swreq_lowering.specs.Words.{words_by}

@@ -1,9 +1,9 @@
 use Rattle.std.proofs.Common.{refl, subst₂}
-use Rattle.swreq_derive.specs.Derivation.Source.{Written}
-use Rattle.swreq_derive.specs.Facts.{generic_params}
-use Rattle.swreq_symbols.specs.Meaning.{facts_of, symbols_of}
-use Rattle.swreq_world.specs.ByTable.{world_by}
-use Rattle.swreq_lowering.specs.ByTable.{placed}
+use Rattle.swreq_valid.specs.swreq_derive.Derivation.Source.{Written}
+use Rattle.swreq_valid.specs.swreq_derive.Facts.{generic_params}
+use Rattle.swreq_valid.specs.swreq_symbols.Meaning.{facts_of, symbols_of}
+use Rattle.swreq_valid.specs.swreq_world.ByTable.{world_by}
+use Rattle.swreq_valid.specs.swreq_lowering.ByTable.{placed}
 use Rattle.swreq_valid.specs.Sides.{HoldsOfEach, IsShownSide, sides}
 use Rattle.swreq_machine.proofs.build.judge_machine.Goals as goal
 

@@ -1,6 +1,6 @@
 use Rattle.std.proofs.Common.{subst, sym, Ok, Err}
 use Rattle.std.proofs.lemmas.Result.{err_from_is_err_and}
-use Rattle.swreq_world.specs.ByTable.{world_by}
+use Rattle.swreq_valid.specs.swreq_world.ByTable.{world_by}
 use Rattle.swreq_valid.specs.Answers.{Answers, IsOnlyOutcome}
 use Rattle.swreq_machine.specs.Machines.{IsMachineOf, MachineView, list_of}
 use Rattle.swreq_valid.specs.Plans.{listed}

@@ -1,6 +1,6 @@
 use Rattle.std.proofs.Common.{◌∙◌, ◌++◌, ◌∷◌, [], ap}
-use Rattle.swreq_param.specs.declared.ids.Step.TheVariants.{Bound}
-use Rattle.swreq_symbols.proofs.LeastWords.{one_first}
+use Rattle.swreq_valid.specs.swreq_param.declared.ids.Step.TheVariants.{Bound}
+use Rattle.swreq_valid.proofs.swreq_symbols.LeastWords.{one_first}
 use Rattle.swreq_machine.proofs.reduced.add_first.Goals as goal
 
 pub returns-in-None-clause-step : goal.returns-in-None-clause-step

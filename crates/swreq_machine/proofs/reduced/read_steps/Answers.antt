@@ -1,8 +1,8 @@
 use Rattle.std.proofs.lemmas.List.{drop_all}
 use Rattle.std.proofs.Common.{◌∙◌, arith, drop, sym, subst, take, take-append-drop}
 use Rattle.std.proofs.lemmas.Option.{get_or_from_slice_get}
-use Rattle.swreq_symbols.specs.Vanishing.{IsLeastBy}
-use Rattle.swreq_symbols.proofs.LeastWords.{prefix_least}
+use Rattle.swreq_valid.specs.swreq_symbols.Vanishing.{IsLeastBy}
+use Rattle.swreq_valid.proofs.swreq_symbols.LeastWords.{prefix_least}
 use Rattle.swreq_machine.proofs.Typed.{all_made, none_made, one_made}
 use Rattle.swreq_machine.proofs.reduced.read_steps.Goals as goal
 

@@ -1,4 +1,4 @@
-use Rattle.swreq_world.specs.ByTable.{world_by}
+use Rattle.swreq_machine.specs.swreq_world.ByTable.{world_by}
 use Rattle.swreq_machine_tests.proofs.families.are_well_formed.Goals as goal
 
 pub returns : goal.returns

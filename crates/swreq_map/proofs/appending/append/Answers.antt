@@ -1,6 +1,6 @@
 use Rattle.std.proofs.Common.{arith, subst}
-use Rattle.swreq_word.specs.Relations.{Linked}
-use Rattle.swreq_rule.specs.Steps.{Step}
+use Rattle.swreq_complete.specs.swreq_word.Relations.{Linked}
+use Rattle.swreq_complete.specs.swreq_rule.Steps.{Step}
 use Rattle.swreq_map.proofs.Ending.{none_before}
 use Rattle.swreq_map.proofs.appending.append.Goals as goal
 

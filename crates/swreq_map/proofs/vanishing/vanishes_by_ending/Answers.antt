@@ -1,8 +1,8 @@
 use Rattle.std.proofs.Common.{◌∙◌, ◌++◌, ◌∷◌, [], ap, subst, sym}
-use Rattle.swreq_word.specs.Least.{IsLeast}
-use Rattle.swreq_word.specs.Relations.{Linked}
-use Rattle.swreq_word.proofs.Cuts.{whole_rest}
-use Rattle.swreq_rule.specs.Steps.{Step}
+use Rattle.swreq_complete.specs.swreq_word.Least.{IsLeast}
+use Rattle.swreq_complete.specs.swreq_word.Relations.{Linked}
+use Rattle.swreq_complete.proofs.swreq_word.Cuts.{whole_rest}
+use Rattle.swreq_complete.specs.swreq_rule.Steps.{Step}
 use Rattle.swreq_map.proofs.Tails.{ending_least, told_staying, told_vanishing}
 use Rattle.swreq_map.proofs.vanishing.vanishes_by_ending.Goals as goal
 

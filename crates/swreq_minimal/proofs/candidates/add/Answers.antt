@@ -1,10 +1,10 @@
 use Rattle.std.proofs.Common.{subst, sym}
 use Rattle.std.proofs.lemmas.Result.{on_ok_weaker}
-use Rattle.swreq_derive.specs.Facts.{requirement_of}
-use Rattle.swreq_word.specs.Least.{IsMinimal}
-use Rattle.swreq_canonical.specs.CanonicalOrder.{IsStrictlySorted}
-use Rattle.swreq_symbols.specs.Vanishing.{IsLeastBy, Links}
-use Rattle.swreq_valid.specs.Plans.{listed}
+use Rattle.swreq_machine.specs.swreq_derive.Facts.{requirement_of}
+use Rattle.swreq_homotopy.specs.swreq_word.Least.{IsMinimal}
+use Rattle.swreq_candidates.specs.swreq_canonical.CanonicalOrder.{IsStrictlySorted}
+use Rattle.swreq_machine.specs.swreq_symbols.Vanishing.{IsLeastBy, Links}
+use Rattle.swreq_machine.specs.swreq_valid.Plans.{listed}
 use Rattle.swreq_minimal.proofs.Collecting.{nothing_more, one_more, one_more_sorted}
 use Rattle.swreq_minimal.proofs.Growing.{all_known, listed_stays}
 use Rattle.swreq_minimal.proofs.candidates.add.Goals as goal

@@ -1,12 +1,12 @@
 use Rattle.std.proofs.Common.{◌≡◌, subst, sym, length, slice_get, ℕ, List, Some}
 use Rattle.std.proofs.lemmas.Result.{IfOk-weaker}
-use Rattle.swreq_derive.specs.declared.known.Params.{Params}
-use Rattle.swreq_rule.specs.declared.rules.Rule.{Rule}
-use Rattle.swreq_complete.specs.Complete.{IsComplete}
-use Rattle.swreq_complete.specs.Reduced.{IsReduced}
-use Rattle.swreq_symbols.specs.Vanishing.{Links}
-use Rattle.swreq_valid.specs.Plans.{listed}
-use Rattle.swreq_world.specs.ByTable.{world_by}
+use Rattle.swreq_machine.specs.swreq_derive.declared.known.Params.{Params}
+use Rattle.swreq_machine.specs.swreq_rule.declared.rules.Rule.{Rule}
+use Rattle.swreq_machine.specs.swreq_complete.Complete.{IsComplete}
+use Rattle.swreq_machine.specs.swreq_complete.Reduced.{IsReduced}
+use Rattle.swreq_machine.specs.swreq_symbols.Vanishing.{Links}
+use Rattle.swreq_machine.specs.swreq_valid.Plans.{listed}
+use Rattle.swreq_machine.specs.swreq_world.ByTable.{world_by}
 use Rattle.swreq_minimal.specs.OfParams.{AreOfParams}
 use Rattle.swreq_minimal.specs.Sorted.{IsListOfFirstRules}
 use Rattle.swreq_minimal.proofs.Collecting.{are_candidates}

@@ -1,8 +1,8 @@
 use Rattle.std.proofs.Common.{◌≡◌, ap, arith, length, Contains, subst, refl}
 use Rattle.std.proofs.lemmas.Option.{slice_get_read}
-use Rattle.swreq_param.proofs.Growing.{onward, unchanged}
-use Rattle.swreq_lemmas.proofs.Members.{no_member}
-use Rattle.swreq_valid.specs.Plans.{listed}
+use Rattle.swreq_candidates.proofs.swreq_param.Growing.{onward, unchanged}
+use Rattle.swreq_machine.proofs.swreq_lemmas.Members.{no_member}
+use Rattle.swreq_machine.specs.swreq_valid.Plans.{listed}
 use Rattle.swreq_minimal.specs.Sorted.{IsListOfFirstRules}
 use Rattle.swreq_minimal.proofs.Collecting.{more_said, none_said}
 use Rattle.swreq_minimal.proofs.candidates.collect.Goals as goal

@@ -1,5 +1,5 @@
-use Rattle.swreq_param.specs.Tables.{Extends}
-use Rattle.swreq_valid.specs.Plans.{AreKnown, listed}
+use Rattle.swreq_machine.specs.swreq_param.Tables.{Extends}
+use Rattle.swreq_machine.specs.swreq_valid.Plans.{AreKnown, listed}
 use Rattle.swreq_minimal.specs.Sorted.{IsListOfFirstRules}
 use Rattle.swreq_minimal.proofs.candidates.collect.Given as goal
 

@@ -1,6 +1,6 @@
 use Rattle.std.proofs.Common.{length, get_or, refl, subst, Contains}
 use Rattle.std.proofs.lemmas.List.Elements.{Contains-get_or}
-use Rattle.swreq_valid.specs.Plans.{listed}
+use Rattle.swreq_machine.specs.swreq_valid.Plans.{listed}
 use Rattle.swreq_minimal.proofs.Inserting.{any, belongs_here, belongs_last, in_listed, none_more, nothing_yet}
 use Rattle.swreq_minimal.proofs.candidates.place_of.Goals as goal
 

@@ -1,8 +1,8 @@
 use Rattle.std.proofs.Common.{◌≡◌, ◌⊎◌, ◌↔◌, Contains, arith, sym, subst}
-use Rattle.swreq_derive.specs.Facts.{requirement_of}
-use Rattle.swreq_canonical.specs.CanonicalOrder.{IsStrictlySorted}
-use Rattle.swreq_symbols.specs.Known.{IsRequirementIn}
-use Rattle.swreq_valid.specs.Plans.{AreKnown, listed}
+use Rattle.swreq_machine.specs.swreq_derive.Facts.{requirement_of}
+use Rattle.swreq_candidates.specs.swreq_canonical.CanonicalOrder.{IsStrictlySorted}
+use Rattle.swreq_machine.specs.swreq_symbols.Known.{IsRequirementIn}
+use Rattle.swreq_machine.specs.swreq_valid.Plans.{AreKnown, listed}
 use Rattle.swreq_minimal.specs.Sorted.{BelongsAt}
 use Rattle.swreq_minimal.proofs.Inserting.{inserted_each, inserted_members, inserted_sorted, there_members, within}
 use Rattle.swreq_minimal.proofs.candidates.put_sorted.Goals as goal

@@ -1,5 +1,5 @@
 use Rattle.std.proofs.Common.{◌≡◌}
-use Rattle.swreq_valid.specs.Rounds.{last_rules}
+use Rattle.swreq_machine.specs.swreq_valid.Rounds.{last_rules}
 use Rattle.swreq_list_rules.specs.Settings.{plan_in, said_in}
 use Rattle.swreq_list_rules.proofs.ByEquation.{of_machine}
 use Rattle.swreq_minimal.proofs.Telling.{one_failure, one_part, out_of_memory, stopped}

@@ -1,8 +1,8 @@
 use Rattle.std.proofs.Common.{◌≡◌, ◌↔◌, ◌∙◌, ◌≤◌, ◌+◌, ◌-◌, ◌/◌, ◌++◌, arith, ap, sym, subst, suc, List, take, drop, length, Contains, IfSome, OnOk, []}
 use Rattle.std.specs.Prelude.{remove}
 use Rattle.std.proofs.lemmas.Result.{on_ok_weaker}
-use Rattle.swreq_derive.specs.declared.requirements.Requirement.{Requirement}
-use Rattle.swreq_derive.specs.Derivation.{TermRequirement}
+use Rattle.swreq_machine.specs.swreq_derive.declared.requirements.Requirement.{Requirement}
+use Rattle.swreq_machine.specs.swreq_derive.Derivation.{TermRequirement}
 use Rattle.swreq_list_rules.specs.ListRules.{AreOfList}
 use Rattle.swreq_list_rules.specs.Settings.{facts_in, params_in, said_in}
 use Rattle.swreq_minimal.specs.declared.dropping.Half.{Half}

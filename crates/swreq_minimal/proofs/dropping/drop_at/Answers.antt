@@ -2,14 +2,14 @@ use Rattle.std.proofs.Common.{◌≡◌, ◌∙◌, ap, rules, sym, subst, get_o
 use Rattle.std.specs.Borrow.{Bor}
 use Rattle.std.specs.Prelude.{insert, remove}
 use Rattle.std.proofs.lemmas.List.Elements.{Contains-get_or}
-use Rattle.swreq_derive.specs.Derivation.{Derivable}
-use Rattle.swreq_derive.specs.Derivation.TermStatement.{Requires}
-use Rattle.swreq_derive.specs.declared.requirements.Requirement.{Requirement}
-use Rattle.swreq_derive.specs.Facts.{requirement_of}
-use Rattle.swreq_symbols.specs.Known.{IsRequirementIn}
+use Rattle.swreq_machine.specs.swreq_derive.Derivation.{Derivable}
+use Rattle.swreq_machine.specs.swreq_derive.Derivation.TermStatement.{Requires}
+use Rattle.swreq_machine.specs.swreq_derive.declared.requirements.Requirement.{Requirement}
+use Rattle.swreq_machine.specs.swreq_derive.Facts.{requirement_of}
+use Rattle.swreq_machine.specs.swreq_symbols.Known.{IsRequirementIn}
 use Rattle.swreq_list_rules.specs.ListRules.{AreOfList, ListRulesView}
 use Rattle.swreq_list_rules.specs.Settings.{AreKnownIn, facts_in, params_in, said_in, source_in}
-use Rattle.swreq_complete.specs.declared.limit.Failed.TheVariants.{Memory}
+use Rattle.swreq_machine.specs.swreq_complete.declared.limit.Failed.TheVariants.{Memory}
 use Rattle.swreq_minimal.proofs.Passing.{LeavesNow, one_dropped, one_kept, parted, put_back, there_before, without}
 use Rattle.swreq_minimal.proofs.Telling.{out_of_memory, stopped}
 use Rattle.swreq_minimal.proofs.dropping.drop_at.Goals as goal

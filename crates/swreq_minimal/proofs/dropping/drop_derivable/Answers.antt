@@ -1,7 +1,7 @@
 use Rattle.std.proofs.Common.{◌≡◌, ◌-◌, arith, length}
 use Rattle.std.proofs.lemmas.List.{length-map}
 use Rattle.std.proofs.lemmas.Result.{on_ok_weaker}
-use Rattle.swreq_derive.specs.Facts.{requirement_of}
+use Rattle.swreq_machine.specs.swreq_derive.Facts.{requirement_of}
 use Rattle.swreq_list_rules.specs.Settings.{facts_in, params_in, plan_in, said_in}
 use Rattle.swreq_minimal.specs.Passed.{IsLeftWithout}
 use Rattle.swreq_minimal.proofs.Inserting.{any}

@@ -1,7 +1,7 @@
 use Rattle.std.proofs.Common.{subst, Option, MatchOption}
 use Rattle.std.specs.Prelude.{⊤}
-use Rattle.swreq_path.specs.declared.paths.Loop.{Loop}
-use Rattle.swreq_path.specs.Paths.{IsLoop}
+use Rattle.swreq_homotopy.specs.swreq_path.declared.paths.Loop.{Loop}
+use Rattle.swreq_homotopy.specs.swreq_path.Paths.{IsLoop}
 use Rattle.swreq_minimal.proofs.Showing.{loops_more}
 use Rattle.swreq_minimal.proofs.evidence.add_loop.Goals as goal
 

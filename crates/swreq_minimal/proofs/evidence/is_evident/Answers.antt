@@ -1,10 +1,10 @@
 use Rattle.std.proofs.Common.{subst, Option, MatchOption}
 use Rattle.std.specs.Prelude.{⊤}
 use Rattle.std.proofs.lemmas.Result.{IfOk-weaker}
-use Rattle.swreq_derive.specs.Facts.{requirement_of}
-use Rattle.swreq_rule.specs.declared.rules.Rule.{Rule}
-use Rattle.swreq_symbols.specs.Meaning.{symbols_of}
-use Rattle.swreq_valid.specs.Plans.{listed}
+use Rattle.swreq_machine.specs.swreq_derive.Facts.{requirement_of}
+use Rattle.swreq_machine.specs.swreq_rule.declared.rules.Rule.{Rule}
+use Rattle.swreq_machine.specs.swreq_symbols.Meaning.{symbols_of}
+use Rattle.swreq_machine.specs.swreq_valid.Plans.{listed}
 use Rattle.swreq_machine.proofs.Listing.{list_in_text}
 use Rattle.swreq_minimal.specs.Evident.{IsOfEquation}
 use Rattle.swreq_list_rules.specs.Settings.{params_in, text_in}

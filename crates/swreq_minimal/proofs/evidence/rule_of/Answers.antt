@@ -1,9 +1,9 @@
 use Rattle.std.proofs.Common.{[], MatchOption, subst}
 use Rattle.std.specs.Prelude.{⊤}
-use Rattle.swreq_derive.specs.Derivation.Source.{Written}
-use Rattle.swreq_derive.specs.Facts.{requirement_of}
-use Rattle.swreq_correspondence.specs.Symbols.{Word, right_side}
-use Rattle.swreq_symbols.specs.Meaning.{symbols_of}
+use Rattle.swreq_machine.specs.swreq_derive.Derivation.Source.{Written}
+use Rattle.swreq_machine.specs.swreq_derive.Facts.{requirement_of}
+use Rattle.swreq_machine.specs.swreq_correspondence.Symbols.{Word, right_side}
+use Rattle.swreq_machine.specs.swreq_symbols.Meaning.{symbols_of}
 use Rattle.swreq_minimal.specs.Evident.{HasSides}
 use Rattle.swreq_minimal.proofs.evidence.rule_of.Goals as goal
 

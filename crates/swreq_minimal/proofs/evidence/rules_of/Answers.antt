@@ -1,11 +1,11 @@
 use Rattle.std.proofs.Common.{◌∙◌, [], get_or, subst, sym}
 use Rattle.std.proofs.lemmas.List.Elements.{Contains-get_or}
 use Rattle.swreq_candidates.specs.Evidence.{AreRulesOfRest}
-use Rattle.swreq_derive.specs.Facts.{requirement_of}
-use Rattle.swreq_symbols.specs.Meaning.{facts_of, symbols_of}
-use Rattle.swreq_valid.specs.Plans.{listed}
-use Rattle.swreq_valid.specs.Rounds.{last_rules}
-use Rattle.swreq_world.specs.ByTable.{world_by}
+use Rattle.swreq_machine.specs.swreq_derive.Facts.{requirement_of}
+use Rattle.swreq_machine.specs.swreq_symbols.Meaning.{facts_of, symbols_of}
+use Rattle.swreq_machine.specs.swreq_valid.Plans.{listed}
+use Rattle.swreq_machine.specs.swreq_valid.Rounds.{last_rules}
+use Rattle.swreq_machine.specs.swreq_world.ByTable.{world_by}
 use Rattle.swreq_minimal.proofs.Inserting.{any, in_listed}
 use Rattle.swreq_minimal.proofs.Showing.{of_protocols, one_more}
 use Rattle.swreq_minimal.proofs.evidence.rules_of.Goals as goal

@@ -1,5 +1,5 @@
 use Rattle.std.proofs.Common.{MatchOption, subst, sym}
-use Rattle.swreq_param.specs.declared.ids.AssocId.{AssocId}
+use Rattle.swreq_machine.specs.swreq_param.declared.ids.AssocId.{AssocId}
 use Rattle.swreq_minimal.specs.Typed.{IsMemberBehind}
 use Rattle.swreq_minimal.proofs.Giving.{no_symbol}
 use Rattle.swreq_minimal.proofs.given.member_behind.Goals as goal

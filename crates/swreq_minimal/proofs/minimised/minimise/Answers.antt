@@ -1,16 +1,16 @@
 use Rattle.std.proofs.Common.{sym, subst, List}
 use Rattle.std.proofs.lemmas.Result.{IfOk-weaker, MatchResult-weaker, err_from_is_err_and}
-use Rattle.swreq_derive.specs.Derivation.{TermRequirement}
-use Rattle.swreq_derive.specs.Facts.{generic_params}
-use Rattle.swreq_symbols.specs.Meaning.{facts_of, symbols_of}
-use Rattle.swreq_world.specs.ByTable.{world_by}
-use Rattle.swreq_world.specs.Worlds.{TextWorld}
-use Rattle.swreq_valid.specs.Protocols.{AreRulesOf}
+use Rattle.swreq_machine.specs.swreq_derive.Derivation.{TermRequirement}
+use Rattle.swreq_machine.specs.swreq_derive.Facts.{generic_params}
+use Rattle.swreq_machine.specs.swreq_symbols.Meaning.{facts_of, symbols_of}
+use Rattle.swreq_machine.specs.swreq_world.ByTable.{world_by}
+use Rattle.swreq_machine.specs.swreq_world.Worlds.{TextWorld}
+use Rattle.swreq_machine.specs.swreq_valid.Protocols.{AreRulesOf}
 use Rattle.swreq_machine.specs.Machines.{IsMachineOf, list_of}
-use Rattle.swreq_valid.specs.Plans.{AreKnown, listed}
-use Rattle.swreq_valid.specs.Rounds.{last_rules}
+use Rattle.swreq_machine.specs.swreq_valid.Plans.{AreKnown, listed}
+use Rattle.swreq_machine.specs.swreq_valid.Rounds.{last_rules}
 use Rattle.swreq_minimal.specs.Passed.{IsPassedOf}
-use Rattle.swreq_symbols.proofs.Growing.{text_stays, world_stays}
+use Rattle.swreq_machine.proofs.swreq_symbols.Growing.{text_stays, world_stays}
 use Rattle.swreq_minimal.proofs.Telling.{wants_at_once}
 use Rattle.swreq_minimal.proofs.Whole.{IsReadOffMachine, fails, is_canonical, is_independent, is_minimised, is_same, is_sorted, tells}
 use Rattle.swreq_minimal.proofs.minimised.minimise.Goals as goal

@@ -1,6 +1,6 @@
 use Rattle.std.proofs.Common.{sym, subst}
-use Rattle.swreq_correspondence.specs.Symbols.{Word}
-use Rattle.swreq_symbols.specs.Vanishing.{Links}
+use Rattle.swreq_machine.specs.swreq_correspondence.Symbols.{Word}
+use Rattle.swreq_machine.specs.swreq_symbols.Vanishing.{Links}
 use Rattle.swreq_minimal.specs.OfParams.{BeginsWithParam}
 use Rattle.swreq_minimal.proofs.ByParams.{one_added, passed_over}
 use Rattle.swreq_minimal.proofs.of_params.add.Goals as goal

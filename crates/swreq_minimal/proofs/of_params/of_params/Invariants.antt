@@ -1,4 +1,4 @@
-use Rattle.swreq_symbols.specs.Vanishing.{Links}
+use Rattle.swreq_machine.specs.swreq_symbols.Vanishing.{Links}
 use Rattle.swreq_minimal.specs.OfParams.{AreOfParams}
 use Rattle.swreq_minimal.proofs.of_params.of_params.Given as goal
 

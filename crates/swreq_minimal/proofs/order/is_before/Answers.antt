@@ -1,8 +1,8 @@
 use Rattle.std.proofs.Common.{◌≡◌, ◌∙◌, inr, sym, subst}
-use Rattle.swreq_param.specs.Order.{TermBefore}
-use Rattle.swreq_param.specs.Tables.{term_at}
-use Rattle.swreq_derive.specs.Facts.{requirement_of}
-use Rattle.swreq_canonical.specs.Canonical as canonical
+use Rattle.swreq_machine.specs.swreq_param.Order.{TermBefore}
+use Rattle.swreq_machine.specs.swreq_param.Tables.{term_at}
+use Rattle.swreq_machine.specs.swreq_derive.Facts.{requirement_of}
+use Rattle.swreq_candidates.specs.swreq_canonical.Canonical as canonical
 use Rattle.swreq_minimal.proofs.Inserting.{by_kinds, not_after}
 use Rattle.swreq_minimal.proofs.order.is_before.Goals as goal
 

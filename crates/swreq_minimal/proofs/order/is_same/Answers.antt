@@ -1,7 +1,7 @@
 use Rattle.std.proofs.Common.{ap}
 use Rattle.std.proofs.lemmas.Bool.Decides.{Decides-at}
-use Rattle.swreq_derive.specs.contracts.requirements.RequirementPartialEq.TheImpl.{eq-value}
-use Rattle.swreq_derive.specs.Facts.{requirement_of}
+use Rattle.swreq_machine.specs.swreq_derive.contracts.requirements.RequirementPartialEq.TheImpl.{eq-value}
+use Rattle.swreq_machine.specs.swreq_derive.Facts.{requirement_of}
 use Rattle.swreq_minimal.proofs.Equal.{requirements_decide}
 use Rattle.swreq_minimal.proofs.Inserting.{one_requirement}
 use Rattle.swreq_minimal.proofs.order.is_same.Goals as goal

@@ -1,8 +1,8 @@
 use Rattle.std.proofs.Common.{get_or}
 use Rattle.std.proofs.lemmas.List.Elements.{Contains-get_or}
-use Rattle.swreq_derive.specs.Facts.{generic_params}
-use Rattle.swreq_symbols.specs.Meaning.{facts_of}
-use Rattle.swreq_world.specs.ByTable.{world_by}
+use Rattle.swreq_machine.specs.swreq_derive.Facts.{generic_params}
+use Rattle.swreq_machine.specs.swreq_symbols.Meaning.{facts_of}
+use Rattle.swreq_machine.specs.swreq_world.ByTable.{world_by}
 use Rattle.swreq_minimal.proofs.Inserting.{any}
 use Rattle.swreq_minimal.proofs.PlainTypes.{all_plain, none_plain, plain_next}
 use Rattle.swreq_minimal.proofs.plain.are_plain.Goals as goal

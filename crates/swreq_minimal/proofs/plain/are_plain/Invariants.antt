@@ -1,6 +1,6 @@
-use Rattle.swreq_derive.specs.Facts.{generic_params}
-use Rattle.swreq_symbols.specs.Meaning.{facts_of}
-use Rattle.swreq_world.specs.ByTable.{world_by}
+use Rattle.swreq_machine.specs.swreq_derive.Facts.{generic_params}
+use Rattle.swreq_machine.specs.swreq_symbols.Meaning.{facts_of}
+use Rattle.swreq_machine.specs.swreq_world.ByTable.{world_by}
 use Rattle.swreq_minimal.proofs.PlainTypes.{ArePlainTo}
 use Rattle.swreq_minimal.proofs.plain.are_plain.Given as goal
 

@@ -1,5 +1,5 @@
-use Rattle.swreq_lemmas.proofs.Elements.{get_contains}
-use Rattle.swreq_symbols.proofs.Declared.{from_rank}
+use Rattle.swreq_machine.proofs.swreq_lemmas.Elements.{get_contains}
+use Rattle.swreq_machine.proofs.swreq_symbols.Declared.{from_rank}
 use Rattle.swreq_minimal.proofs.plain.gives_assoc.Goals as goal
 
 pub holds_conformance-requires-clause-p : goal.holds_conformance-requires-clause-p

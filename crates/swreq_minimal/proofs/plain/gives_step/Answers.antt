@@ -1,11 +1,11 @@
 use Rattle.std.proofs.Common.{subst, sym}
-use Rattle.swreq_param.specs.declared.ids.Step.{Step}
-use Rattle.swreq_param.specs.Tables.{term_at}
-use Rattle.swreq_param.specs.Terms.Term.{Member}
+use Rattle.swreq_machine.specs.swreq_param.declared.ids.Step.{Step}
+use Rattle.swreq_machine.specs.swreq_param.Tables.{term_at}
+use Rattle.swreq_machine.specs.swreq_param.Terms.Term.{Member}
 use Rattle.swreq_candidates.specs.Evidence.{IsPlainIn}
-use Rattle.swreq_symbols.specs.Meaning.{facts_of}
-use Rattle.swreq_valid.specs.Plans.{listed}
-use Rattle.swreq_world.specs.ByTable.{world_by}
+use Rattle.swreq_machine.specs.swreq_symbols.Meaning.{facts_of}
+use Rattle.swreq_machine.specs.swreq_valid.Plans.{listed}
+use Rattle.swreq_machine.specs.swreq_world.ByTable.{world_by}
 use Rattle.swreq_minimal.proofs.plain.gives_step.Goals as goal
 
 pub returns-in-Bound : goal.returns-in-Bound

@@ -1,6 +1,6 @@
 use Rattle.std.proofs.Common.{Contains, get_or, subst}
 use Rattle.std.proofs.lemmas.List.Elements.{Contains-get_or}
-use Rattle.swreq_valid.specs.Plans.{listed}
+use Rattle.swreq_machine.specs.swreq_valid.Plans.{listed}
 use Rattle.swreq_minimal.proofs.Inserting.{any, in_listed}
 use Rattle.swreq_minimal.proofs.plain.holds_conformance.Goals as goal
 

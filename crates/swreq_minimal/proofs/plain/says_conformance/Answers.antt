@@ -1,9 +1,9 @@
 use Rattle.std.proofs.Common.{◌≡◌, ◌∙◌, ap}
 use Rattle.std.proofs.lemmas.Bool.Decides.{Decides-at}
-use Rattle.swreq_param.specs.Tables.{term_at}
-use Rattle.swreq_param.specs.contracts.ids.TermIdPartialEq.TheImpl.{eq-value}
-use Rattle.swreq_derive.specs.Derivation.TermRequirement.{Conforms}
-use Rattle.swreq_derive.specs.Facts.{requirement_of}
+use Rattle.swreq_machine.specs.swreq_param.Tables.{term_at}
+use Rattle.swreq_machine.specs.swreq_param.contracts.ids.TermIdPartialEq.TheImpl.{eq-value}
+use Rattle.swreq_machine.specs.swreq_derive.Derivation.TermRequirement.{Conforms}
+use Rattle.swreq_machine.specs.swreq_derive.Facts.{requirement_of}
 use Rattle.swreq_minimal.proofs.Equal.{ids_decide}
 use Rattle.swreq_minimal.proofs.plain.says_conformance.Goals as goal
 

@@ -1,5 +1,5 @@
 use Rattle.std.proofs.Common.{◌≡◌, ◌<◌, ◌-◌, ◌∙◌, ◌++◌, ◌∷◌, [], length, rules, arith, ap, get_or}
-use Rattle.swreq_word.specs.declared.symbols.Symbol.TheVariants.{Proto}
+use Rattle.swreq_homotopy.specs.swreq_word.declared.symbols.Symbol.TheVariants.{Proto}
 use Rattle.swreq_minimal.proofs.Speaking.{front_differs, nothing_behind, with_last}
 use Rattle.swreq_minimal.proofs.rule_requirement.behind.Goals as goal
 

@@ -1,7 +1,7 @@
 use Rattle.std.proofs.Common.{◌≡◌, refl}
 use Rattle.std.proofs.lemmas.Bool.Decides.{Decides-at}
 use Rattle.swreq_minimal.proofs.Equal.{ids_decide}
-use Rattle.swreq_param.specs.contracts.ids.TermIdPartialEq.TheImpl.{eq-value}
+use Rattle.swreq_machine.specs.swreq_param.contracts.ids.TermIdPartialEq.TheImpl.{eq-value}
 use Rattle.swreq_minimal.proofs.rule_requirement.same_type.Goals as goal
 
 pub returns-else-eq : goal.returns-else-eq

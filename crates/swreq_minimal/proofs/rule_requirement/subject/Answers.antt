@@ -1,7 +1,7 @@
 use Rattle.std.proofs.Common.{◌≡◌, ◌<◌, ◌-◌, length, rules, arith, sym, subst, length-take-le, IfOk}
 use Rattle.std.proofs.lemmas.Result.{IfOk-weaker}
-use Rattle.swreq_word.specs.declared.symbols.Symbol.TheVariants.{Proto}
-use Rattle.swreq_symbols.specs.Vanishing.{Links}
+use Rattle.swreq_homotopy.specs.swreq_word.declared.symbols.Symbol.TheVariants.{Proto}
+use Rattle.swreq_machine.specs.swreq_symbols.Vanishing.{Links}
 use Rattle.swreq_minimal.specs.Typed.{Identifies, IsSubjectOf}
 use Rattle.swreq_minimal.proofs.Speaking.{front_least, spoken_empty, spoken_single, with_last}
 use Rattle.swreq_minimal.proofs.rule_requirement.subject.Goals as goal

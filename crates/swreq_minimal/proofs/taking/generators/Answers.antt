@@ -1,9 +1,9 @@
 use Rattle.std.proofs.Common.{[], sym, subst, take, get_or, Contains, IfSome}
 use Rattle.std.proofs.lemmas.List.{take_all}
 use Rattle.std.proofs.lemmas.List.Elements.{Contains-get_or}
-use Rattle.swreq_lemmas.proofs.Members.{no_member}
-use Rattle.swreq_canonical.specs.Generators.{Takes}
-use Rattle.swreq_canonical.specs.Generators.Takes.{ended}
+use Rattle.swreq_machine.proofs.swreq_lemmas.Members.{no_member}
+use Rattle.swreq_candidates.specs.swreq_canonical.Generators.{Takes}
+use Rattle.swreq_candidates.specs.swreq_canonical.Generators.Takes.{ended}
 use Rattle.swreq_list_rules.specs.ListRules.{AreOfList}
 use Rattle.swreq_list_rules.specs.Settings.{facts_in, params_in, plan_in, said_in}
 use Rattle.swreq_minimal.specs.Passed.{IsTakenBefore}

@@ -1,5 +1,5 @@
 use Rattle.std.proofs.Common.{[], IfSome, take}
-use Rattle.swreq_canonical.specs.Generators.{Takes}
+use Rattle.swreq_candidates.specs.swreq_canonical.Generators.{Takes}
 use Rattle.swreq_list_rules.specs.ListRules.{AreOfList}
 use Rattle.swreq_list_rules.specs.Settings.{AreKnownIn, facts_in, params_in, plan_in, said_in}
 use Rattle.swreq_minimal.specs.Passed.{IsTakenBefore}

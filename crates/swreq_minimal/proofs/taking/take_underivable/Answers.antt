@@ -1,10 +1,10 @@
 use Rattle.std.proofs.Common.{◌≡◌, ◌∙◌, ◌++◌, ◌∷◌, [], ap, sym, subst, inl, inr, List}
 use Rattle.std.proofs.lemmas.List.{map-append}
 use Rattle.std.proofs.lemmas.List.Elements.{Contains-push_cases}
-use Rattle.swreq_derive.specs.declared.requirements.Requirement.{Requirement}
-use Rattle.swreq_derive.specs.Facts.{requirement_of}
-use Rattle.swreq_canonical.specs.Generators.{Takes}
-use Rattle.swreq_symbols.specs.Known.{IsRequirementIn}
+use Rattle.swreq_machine.specs.swreq_derive.declared.requirements.Requirement.{Requirement}
+use Rattle.swreq_machine.specs.swreq_derive.Facts.{requirement_of}
+use Rattle.swreq_candidates.specs.swreq_canonical.Generators.{Takes}
+use Rattle.swreq_machine.specs.swreq_symbols.Known.{IsRequirementIn}
 use Rattle.swreq_list_rules.specs.Settings.{AreKnownIn, facts_in, params_in, said_in}
 use Rattle.swreq_minimal.proofs.Passing.{skip_last, take_last}
 use Rattle.swreq_minimal.proofs.Telling.{out_of_memory, stopped}

@@ -1,5 +1,5 @@
 use Rattle.std.proofs.Common.{◌≡◌, ◌<◌, rules, length, sym, subst, IfOk}
-use Rattle.swreq_word.specs.declared.symbols.Symbol.TheVariants.{Proto}
+use Rattle.swreq_homotopy.specs.swreq_word.declared.symbols.Symbol.TheVariants.{Proto}
 use Rattle.swreq_minimal.specs.Typed.{Identifies, IsTypeBy}
 use Rattle.swreq_minimal.proofs.Typing.{begin_empty, one_taken}
 use Rattle.swreq_minimal.proofs.typed.begin.Goals as goal

@@ -1,5 +1,5 @@
 use Rattle.std.proofs.Common.{◌∷◌, [], sym, subst, IfOk}
-use Rattle.swreq_param.proofs.Growing.{unchanged}
+use Rattle.swreq_candidates.proofs.swreq_param.Growing.{unchanged}
 use Rattle.swreq_minimal.specs.Typed.{Identifies, IsTypeBy}
 use Rattle.swreq_minimal.proofs.Typing.{not_param}
 use Rattle.swreq_minimal.proofs.typed.symbol_type.Goals as goal

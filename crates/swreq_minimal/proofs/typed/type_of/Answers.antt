@@ -1,8 +1,8 @@
 use Rattle.std.proofs.Common.{◌≤◌, ◌+◌, arith, length, take, vec_capacity, subst, sym, rules, length-take-le}
 use Rattle.std.proofs.lemmas.List.{take_more}
 use Rattle.std.proofs.lemmas.List.{take_all}
-use Rattle.swreq_param.proofs.Growing.{onward, unchanged}
-use Rattle.swreq_word.specs.declared.symbols.Symbol.TheVariants.{Proto}
+use Rattle.swreq_candidates.proofs.swreq_param.Growing.{onward, unchanged}
+use Rattle.swreq_homotopy.specs.swreq_word.declared.symbols.Symbol.TheVariants.{Proto}
 use Rattle.swreq_minimal.specs.Typed.{Identifies, IsTypeBy}
 use Rattle.swreq_minimal.proofs.Typing.{id_there, part_least}
 use Rattle.swreq_minimal.proofs.typed.type_of.Goals as goal

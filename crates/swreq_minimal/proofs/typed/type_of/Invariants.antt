@@ -1,5 +1,5 @@
 use Rattle.std.proofs.Common.{◌≤◌, ◌+◌, length, take, vec_capacity}
-use Rattle.swreq_param.specs.Tables.{Extends}
+use Rattle.swreq_machine.specs.swreq_param.Tables.{Extends}
 use Rattle.swreq_minimal.specs.Typed.{Identifies, IsTypeBy}
 use Rattle.swreq_minimal.proofs.typed.type_of.Given as goal
 

@@ -1,5 +1,5 @@
 use Rattle.std.proofs.Common.{refl, sym, ◌∙◌, true≢false}
-use Rattle.swreq_word.specs.Overlap.{Overlap}
+use Rattle.swreq_rule.specs.swreq_word.Overlap.{Overlap}
 use Rattle.swreq_rule.proofs.Numbers.{rule_read}
 use Rattle.swreq_pair.proofs.Located.{found_overlap, none_of_one, decided}
 use Rattle.swreq_pair.proofs.sides.is_pair.Goals as goal

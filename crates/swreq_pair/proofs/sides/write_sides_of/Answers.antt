@@ -1,6 +1,6 @@
 use Rattle.std.proofs.Common.{◌+◌, ap, arith, length, subst, sym}
 use Rattle.std.proofs.lemmas.Result.{on_ok_weaker}
-use Rattle.swreq_word.specs.Overlap.{Containment, Overlap}
+use Rattle.swreq_rule.specs.swreq_word.Overlap.{Containment, Overlap}
 use Rattle.swreq_pair.specs.Pairs.{ContainmentPair, OverlapPair}
 use Rattle.swreq_pair.proofs.Located.{begins_within, contains_there, overlaps_there, by_overlap, by_containment}
 use Rattle.swreq_pair.proofs.sides.write_sides_of.Goals as goal

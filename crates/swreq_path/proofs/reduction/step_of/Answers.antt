@@ -1,5 +1,5 @@
 use Rattle.std.proofs.Common.{◌∙◌, ◌+◌, ap, length}
-use Rattle.swreq_word.proofs.Cuts.{whole_rest}
+use Rattle.swreq_rule.proofs.swreq_word.Cuts.{whole_rest}
 use Rattle.swreq_path.proofs.Reducing.{step_is}
 use Rattle.swreq_path.proofs.reduction.step_of.Goals as goal
 

@@ -1,5 +1,5 @@
 use Rattle.std.proofs.Common.{subst, sym}
-use Rattle.swreq_word.specs.Overlap.{Containment}
+use Rattle.swreq_rule.specs.swreq_word.Overlap.{Containment}
 use Rattle.swreq_rule.specs.Reduction.{IsFirstOf}
 use Rattle.swreq_path.specs.Reductions.{StepsAt}
 use Rattle.swreq_path.proofs.Reducing.{first_is_redex, redex_there, at_first}

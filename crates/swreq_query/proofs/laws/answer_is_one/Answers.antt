@@ -1,4 +1,4 @@
-use Rattle.swreq_derive.specs.Derivation.{Derives}
+use Rattle.swreq_print.specs.swreq_derive.Derivation.{Derives}
 use Rattle.swreq_query.proofs.OneAnswer.{one_answer, one_line}
 use Rattle.swreq_query.proofs.laws.answer_is_one.Goals as goal
 

@@ -1,5 +1,5 @@
-use Rattle.swreq_derive.specs.Derivation.{BookDerivable, Derivable}
-use Rattle.swreq_derive.proofs.Guard.{from_function}
+use Rattle.swreq_print.specs.swreq_derive.Derivation.{BookDerivable, Derivable}
+use Rattle.swreq_machine.proofs.swreq_derive.Guard.{from_function}
 use Rattle.swreq_query.proofs.Along.{along}
 use Rattle.swreq_query.proofs.laws.guard_changes_no_answer.Goals as goal
 

@@ -1,12 +1,12 @@
 use Rattle.std.proofs.Common.{◌≡◌, ◌⊎◌, ◌++◌, ℕ, List, inr, sym, subst}
 use Rattle.std.proofs.lemmas.Result.{IfErr-weaker, err_from_is_err_and, on_err_weaker, on_ok_weaker}
 use Rattle.swreq_text.specs.Joined.{GrewByPart}
-use Rattle.swreq_world.specs.ByTable.{world_by}
-use Rattle.swreq_world.specs.Worlds.{signature_at}
-use Rattle.swreq_valid.specs.Plans.{AreKnown}
-use Rattle.swreq_valid.specs.Rounds.{last_rules}
+use Rattle.swreq_machine.specs.swreq_world.ByTable.{world_by}
+use Rattle.swreq_machine.specs.swreq_world.Worlds.{signature_at}
+use Rattle.swreq_machine.specs.swreq_valid.Plans.{AreKnown}
+use Rattle.swreq_machine.specs.swreq_valid.Rounds.{last_rules}
 use Rattle.swreq_query.specs.Signatures.{IsMinimisedLine}
-use Rattle.swreq_world.specs.FactsAt.{written_list}
+use Rattle.swreq_machine.specs.swreq_world.FactsAt.{written_list}
 use Rattle.swreq_query.proofs.Lines.{line_read}
 use Rattle.swreq_query.proofs.Minimising.{signature_fails, signature_tells, signature_wants}
 use Rattle.swreq_query.proofs.minimised.minimised_line.Goals as goal

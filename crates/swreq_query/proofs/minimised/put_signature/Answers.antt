@@ -1,9 +1,9 @@
 use Rattle.std.proofs.Common.{◌++◌, ◌∙◌, ap, codes}
 use Rattle.std.proofs.lemmas.Result.{on_err_weaker}
 use Rattle.swreq_text.proofs.Grown.{piece_grew}
-use Rattle.swreq_derive.specs.Facts.{generic_params}
-use Rattle.swreq_lexicon.specs.Views.{LexiconView}
-use Rattle.swreq_valid.specs.Plans.{listed}
+use Rattle.swreq_print.specs.swreq_derive.Facts.{generic_params}
+use Rattle.swreq_print.specs.swreq_lexicon.Views.{LexiconView}
+use Rattle.swreq_machine.specs.swreq_valid.Plans.{listed}
 use Rattle.swreq_print.specs.Signatures.{signature_text}
 use Rattle.swreq_query.proofs.minimised.put_signature.Goals as goal
 

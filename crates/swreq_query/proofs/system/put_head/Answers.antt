@@ -1,8 +1,8 @@
 use Rattle.std.proofs.Common.{◌++◌, codes, decimal}
 use Rattle.std.proofs.lemmas.Result.{on_err_weaker}
 use Rattle.swreq_text.proofs.Grown.{grew_next, none_grew, on_err}
-use Rattle.swreq_world.specs.ByTable.{world_by}
-use Rattle.swreq_world.specs.Worlds.{signature_at}
+use Rattle.swreq_machine.specs.swreq_world.ByTable.{world_by}
+use Rattle.swreq_machine.specs.swreq_world.Worlds.{signature_at}
 use Rattle.swreq_query.specs.Signatures.{full_name}
 use Rattle.swreq_query.proofs.system.put_head.Goals as goal
 

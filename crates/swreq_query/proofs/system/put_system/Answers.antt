@@ -3,9 +3,9 @@ use Rattle.std.specs.List.{flat_map}
 use Rattle.std.proofs.lemmas.Result.{on_err_weaker}
 use Rattle.swreq_text.specs.Joined.{GrewByPart}
 use Rattle.swreq_text.proofs.Grown.{grew_first, grew_next, on_err}
-use Rattle.swreq_lexicon.specs.Views.{LexiconView}
-use Rattle.swreq_world.specs.ByTable.{world_by}
-use Rattle.swreq_world.specs.Worlds.{signature_at}
+use Rattle.swreq_print.specs.swreq_lexicon.Views.{LexiconView}
+use Rattle.swreq_machine.specs.swreq_world.ByTable.{world_by}
+use Rattle.swreq_machine.specs.swreq_world.Worlds.{signature_at}
 use Rattle.swreq_query.specs.Systems.{rule_line}
 use Rattle.swreq_query.proofs.Systems.{system_by_parts}
 use Rattle.swreq_query.proofs.system.put_system.Goals as goal

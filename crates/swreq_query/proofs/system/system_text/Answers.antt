@@ -1,8 +1,8 @@
 use Rattle.std.proofs.Common.{◌≡◌, ◌++◌, ℕ, List, inr}
 use Rattle.std.proofs.lemmas.Result.{on_err_weaker, on_ok_weaker}
 use Rattle.swreq_text.specs.Joined.{GrewByPart}
-use Rattle.swreq_world.specs.ByTable.{world_by}
-use Rattle.swreq_world.specs.Worlds.{signature_at}
+use Rattle.swreq_machine.specs.swreq_world.ByTable.{world_by}
+use Rattle.swreq_machine.specs.swreq_world.Worlds.{signature_at}
 use Rattle.swreq_query.proofs.Lines.{system_read}
 use Rattle.swreq_query.proofs.system.system_text.Goals as goal
 

@@ -1,4 +1,4 @@
-use Rattle.swreq_param.specs.Tables.{term_at}
+use Rattle.swreq_derive.specs.swreq_param.Tables.{term_at}
 use Rattle.swreq_readings.proofs.ReadingLemmas.{all_carried, carrying_on}
 use Rattle.swreq_derivation.proofs.DerivationLemmas.{continues_then}
 use Rattle.swreq_readings.proofs.along.carry_all.Goals as goal

@@ -1,6 +1,6 @@
-use Rattle.swreq_param.specs.Tables.{IsOf, term_at}
+use Rattle.swreq_derive.specs.swreq_param.Tables.{IsOf, term_at}
 use Rattle.swreq_derivation.specs.UnderWay.{ContinuesFrom}
-use Rattle.swreq_readings.specs.Alphabets.{FitsAssumptions}
+use Rattle.swreq_readings.specs.Alphabets.{Fits}
 use Rattle.swreq_readings.proofs.ReadingLemmas.{IsCarrying}
 use Rattle.swreq_readings.proofs.along.carry_all.Given as goal
 
@@ -10,5 +10,5 @@ invariant-loop-k l = record {
   second_of : IsOf l.derivation.table l.second;
   carrying : IsCarrying l.alphabet l.derivation (term_at l.fn.derivation.table l.fn.from) (term_at l.fn.derivation.table l.fn.to) l.word l.k
       (term_at l.derivation.table l.first) (term_at l.derivation.table l.second);
-  continues : ContinuesFrom (FitsAssumptions l.alphabet) l.fn.derivation l.derivation;
+  continues : ContinuesFrom (Fits l.alphabet) l.fn.derivation l.derivation;
 }

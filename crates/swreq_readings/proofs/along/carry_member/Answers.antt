@@ -1,9 +1,9 @@
 use Rattle.std.proofs.Common.{subst, sym}
-use Rattle.swreq_param.specs.Tables.{term_at}
+use Rattle.swreq_derive.specs.swreq_param.Tables.{term_at}
 use Rattle.swreq_derive.specs.Derivation.TermRequirement.{Conforms}
 use Rattle.swreq_derive.specs.Derivation.TermStatement.{Requires}
 use Rattle.swreq_derivation.specs.UnderWay.{States}
-use Rattle.swreq_readings.specs.declared.alphabet.Named.{Named}
+use Rattle.swreq_world.specs.swreq_lexicon.declared.pair.ProtocolName.{ProtocolName}
 use Rattle.swreq_readings.proofs.ReadingLemmas.{conforms_still, equals_still, equal_still}
 use Rattle.swreq_derivation.proofs.DerivationLemmas.{continues_anyway, continues_then}
 use Rattle.swreq_readings.proofs.along.carry_member.Goals as goal
@@ -11,7 +11,7 @@ use Rattle.swreq_readings.proofs.along.carry_member.Goals as goal
 pub carry_conf-requires-clause-conforms : goal.carry_conf-requires-clause-conforms
 carry_conf-requires-clause-conforms c =
     let u = c.carry_name.new.derivation in
-    subst (λ (z : Named). States u (Requires (Conforms (term_at u.table c.args.from) z.proto))) (sym c.member_at-named.ensures)
+    subst (λ (z : ProtocolName). States u (Requires (Conforms (term_at u.table c.args.from) z.proto))) (sym c.member_at-named.ensures)
     (conforms_still c.args.derivation.now u c.in_ok-carry_name.ensures.continues.grows c.args.from _ c.requires.equal.0 c.requires.symbol.1)
 
 pub carry_conf-requires-clause-equal : goal.carry_conf-requires-clause-equal

@@ -1,5 +1,5 @@
 use Rattle.std.proofs.Common.{ap, ◌∙◌}
-use Rattle.swreq_param.specs.Tables.{term_at}
+use Rattle.swreq_derive.specs.swreq_param.Tables.{term_at}
 use Rattle.swreq_readings.specs.Readable.{read_symbol}
 use Rattle.swreq_readings.proofs.ReadingLemmas.{equal_as, equal_still}
 use Rattle.swreq_readings.proofs.along.carry_symbol.Goals as goal

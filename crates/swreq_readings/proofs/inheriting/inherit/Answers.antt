@@ -1,7 +1,8 @@
-use Rattle.std.proofs.Common.{◌≡◌, ◌+◌, ◌<◌, ◌≤◌, sym, ap, subst, arith, inl, inr}
+use Rattle.std.proofs.Common.{◌≡◌, ◌+◌, ◌<◌, ◌≤◌, length, sym, subst, arith, inl, inr}
 use Rattle.swreq_derive.specs.Derivation.TermRequirement.{Conforms}
 use Rattle.swreq_derive.specs.Derivation.TermStatement.{Requires}
 use Rattle.swreq_derivation.specs.UnderWay.{States}
+use Rattle.swreq_readings.specs.Alphabets.{lexicon}
 use Rattle.swreq_readings.proofs.ReadingLemmas.{is_still, term_still}
 use Rattle.swreq_derivation.proofs.DerivationLemmas.{continues_then}
 use Rattle.swreq_readings.proofs.inheriting.inherit.Goals as goal
@@ -24,15 +25,15 @@ loop-k-preserved c =
     let i = c.loop-k.invariant in
     let s = c.args.derivation.now in
     let n = c.step_up.new.derivation in
-    let e = c.in_ok-parent.parent in record {
-      conforms = subst (λ z. States n (Requires (Conforms z e.proto)))
-          (term_still s c.loop-k.derivation i.continues.grows c.args.subject c.requires.subject) c.in_ok-parent.ensures.conforms;
-      member = c.in_ok-parent.ensures.member;
-      left = λ h. (let down : h.depth e.proto < h.depth e.heir = h.goes_down e c.in_ok-parent.ensures.parent in
-          let same : h.depth e.heir ≡ h.depth c.loop-k.at = ap h.depth c.in_ok-parent.ensures.heir in
-          let left : h.depth c.loop-k.at + c.loop-k.k ≤ c.args.alphabet.now.protocols = i.left h in
-          omega (arith, down, same, left));
-      continues = continues_then i.continues c.in_ok-parent.ensures.continues;
+    let q = c.in_ok-at.at in
+    let e = c.in_ok-at.ensures in record {
+      conforms = subst (λ z. States n (Requires (Conforms z q)))
+          (term_still s c.loop-k.derivation i.continues.grows c.args.subject c.requires.subject) e.conforms;
+      member = e.parent.1.1;
+      left = λ h. (let down : h.depth q < h.depth c.loop-k.at = h.goes_down c.loop-k.at q e.parent.0 e.parent.1.0 in
+          let left : h.depth c.loop-k.at + c.loop-k.k ≤ length (lexicon c.args.alphabet.now).protocols = i.left h in
+          omega (arith, down, left));
+      continues = continues_then i.continues e.continues;
     }
 
 pub returns-clause-name : goal.returns-clause-name
@@ -40,15 +41,15 @@ returns-clause-name c =
     let i = c.loop-k.invariant in
     let h = c.requires.inherited in elim (h.from c.loop-k.at c.args.name i.member) [
       | inl w ↦ (c.loop-k.at, w, i.conforms)
-      | inr w ↦ absurd (let down : h.depth w.0.proto < h.depth w.0.heir = h.goes_down w.0 w.1 in
-          let same : h.depth w.0.heir ≡ h.depth c.loop-k.at = ap h.depth w.2 in
-          let left : h.depth c.loop-k.at + c.loop-k.k ≤ c.args.alphabet.now.protocols = i.left h in
-          let end : c.args.alphabet.now.protocols ≤ c.loop-k.k = c.loop-k-test.false in
-          omega (arith, down, same, left, end))
+      | inr w ↦ absurd (let down : h.depth w.1 < h.depth c.loop-k.at = h.goes_down c.loop-k.at w.1 w.0 w.2.0 in
+          let left : h.depth c.loop-k.at + c.loop-k.k ≤ length (lexicon c.args.alphabet.now).protocols = i.left h in
+          let end : c.protocols-k-end.result ≤ c.loop-k.k = c.loop-k-test.false in
+          let count : c.protocols-k-end.result ≡ length (lexicon c.args.alphabet.now).protocols = c.protocols-k-end.ensures in
+          omega (arith, down, left, end, count))
     ]
 
 pub returns-clause-continues : goal.returns-clause-continues
 returns-clause-continues c = c.loop-k.invariant.continues
 
-pub returns-in_err-parent-clause-continues : goal.returns-in_err-parent-clause-continues
-returns-in_err-parent-clause-continues c = continues_then c.loop-k.invariant.continues c.in_err-parent.ensures.continues
+pub returns-in_err-at-clause-continues : goal.returns-in_err-at-clause-continues
+returns-in_err-at-clause-continues c = continues_then c.loop-k.invariant.continues c.in_err-at.ensures.continues

@@ -1,23 +1,28 @@
-use Rattle.std.proofs.Common.{◌≡◌, ◌≤◌, ◌<◌, true, false, ap, arith, length, inl, inr}
+use Rattle.std.proofs.Common.{◌≡◌, ◌≤◌, ◌<◌, ap, arith, length, inl, inr, subst}
+use Rattle.std.proofs.lemmas.Bool.{cases_lt}
 use Rattle.std.proofs.lemmas.Option.{slice_get_within}
-use borrow.Author.Count.{below_more}
-use Rattle.swreq_lemmas.proofs.Elements.{contains_get}
-use Rattle.swreq_readings.specs.Alphabets.{IsParentFor}
+use Rattle.swreq_readings.specs.Alphabets.{IsParentFor, written_at}
 use Rattle.swreq_readings.proofs.inheriting.parent_for.Goals as goal
 
+pub bare_requirements-k-end-requires : goal.bare_requirements-k-end-requires
+bare_requirements-k-end-requires c = c.requires.inherited.of_text c.args.protocol c.args.name c.requires.member.0
+
+pub parent_at-requires-clause-protocol : goal.parent_at-requires-clause-protocol
+parent_at-requires-clause-protocol c = c.requires.inherited.of_text c.args.protocol c.args.name c.requires.member.0
+
 pub loop-k-preserved : goal.loop-k-preserved
-loop-k-preserved c =
-    below_more (λ j. IsParentFor c.args.alphabet.now c.args.protocol c.args.name j → ⊥) c.loop-k.k c.loop-k.invariant
-    (λ w. (let e : c.is_parent_for.result ≡ true = c.is_parent_for.ensures.1 w in let f :
-    c.is_parent_for.result ≡ false = c.if-is_parent_for.false in absurd cc))
+loop-k-preserved c = λ j q l w. elim (cases_lt j c.loop-k.k) [
+  | inl i ↦ c.loop-k.invariant j q i w
+  | inr i ↦ (let same : j ≡ c.loop-k.k = omega (arith, i, l) in
+      c.in-None.ensures q (subst (λ n. IsParentFor c.args.alphabet.now c.args.protocol c.args.name n q) same w))
+]
 
 pub unreachable-requires : goal.unreachable-requires
 unreachable-requires c = elim (c.requires.inherited.from c.args.protocol c.args.name c.requires.member.0) [
   | inl w ↦ c.requires.member.1 w
-  | inr w ↦ (let g = c.args.alphabet.now in
-      let k = contains_get g.parents w.0 w.1 in
-      let h : k.0 < length g.parents = slice_get_within g.parents k.0 w.0 k.1 in
-      let f : length c.items-k-end.result.now ≡ length g.parents = ap length c.items-k-end.ensures in
-      let e : length c.items-k-end.result.now ≤ c.loop-k.k = c.loop-k-test.false in
-      c.loop-k.invariant k.0 (omega (arith, h, e, f)) (w.0, k.1, w.2, w.3))
+  | inr w ↦ (let list = written_at c.args.alphabet.now c.args.protocol in
+      let h : w.0 < length list = slice_get_within list w.0 _ w.2.0.2 in
+      let f : length c.bare_requirements-k-end.result.now ≡ length list = ap length c.bare_requirements-k-end.ensures in
+      let e : length c.bare_requirements-k-end.result.now ≤ c.loop-k.k = c.loop-k-test.false in
+      c.loop-k.invariant w.0 w.1 (omega (arith, h, e, f)) w.2)
 ]

@@ -1,17 +1,17 @@
 use Rattle.std.proofs.Common.{◌≡◌, sym, ap, ap₂, ◌∙◌}
-use Rattle.swreq_param.specs.declared.ids.AssocId.{AssocId}
-use Rattle.swreq_param.specs.declared.ids.Step.TheVariants.{Bound, Name}
-use Rattle.swreq_param.specs.declared.ids.TermId.{TermId}
-use Rattle.swreq_param.specs.Tables.{IsOf, term_at}
-use Rattle.swreq_param.specs.Terms.{Term}
-use Rattle.swreq_param.specs.Terms.Term.{Member}
+use Rattle.swreq_derive.specs.swreq_param.declared.ids.AssocId.{AssocId}
+use Rattle.swreq_derive.specs.swreq_param.declared.ids.Step.TheVariants.{Bound, Name}
+use Rattle.swreq_derive.specs.swreq_param.declared.ids.TermId.{TermId}
+use Rattle.swreq_derive.specs.swreq_param.Tables.{IsOf, term_at}
+use Rattle.swreq_derive.specs.swreq_param.Terms.{Term}
+use Rattle.swreq_derive.specs.swreq_param.Terms.Term.{Member}
 use Rattle.swreq_derive.specs.Derivation.{Declares}
 use Rattle.swreq_derivation.specs.declared.derivation.Derivation.{Derivation}
 use Rattle.swreq_derivation.specs.UnderWay.{AddsLines, Assumptions}
 use Rattle.swreq_readings.specs.declared.alphabet.Alphabet.{Alphabet}
-use Rattle.swreq_readings.specs.declared.alphabet.Named.{Named}
+use Rattle.swreq_world.specs.swreq_lexicon.declared.pair.ProtocolName.{ProtocolName}
 use Rattle.swreq_readings.specs.declared.members.Members.{Members}
-use Rattle.swreq_readings.specs.Alphabets.{FitsAssumptions}
+use Rattle.swreq_readings.specs.Alphabets.{Fits}
 use Rattle.swreq_readings.specs.Readable.{AreMembers, IsGiven}
 use Rattle.swreq_readings.proofs.ReadingLemmas.{equal_as, equal_ids_now, equal_ids_still, is_still, term_still}
 use Rattle.swreq_derivation.proofs.DerivationLemmas.{continues_anyway, continues_if, continues_then, grows_then}
@@ -44,8 +44,8 @@ returns-clause-equal c =
     (sym (term_still s s2 g c.args.members.last c.requires.members.equal.1)) c.in_ok-add_trans.ensures.equal
 
 -- The protocol declares the associated type, and the members are still those of T.
-bound : (g : Alphabet) (s u : Derivation) → AddsLines s u → (t : TermId) (v : Term) (a : AssocId) (n : Named) (m : Members) → IsOf s.table t
-    → IsGiven g s v (Bound a) n → AreMembers s t a n.name m → (b : Assumptions) → FitsAssumptions g b
+bound : (g : Alphabet) (s u : Derivation) → AddsLines s u → (t : TermId) (v : Term) (a : AssocId) (n : ProtocolName) (m : Members)
+    → IsOf s.table t → IsGiven g s v (Bound a) n → AreMembers s t a n.name m → (b : Assumptions) → Fits g b
     → (d : AssocId) × Declares b.facts n.proto n.name d × (term_at u.table m.bound ≡ Member (term_at u.table t) (Bound d))
     × (term_at u.table m.plain ≡ Member (term_at u.table t) (Name n.name))
 bound g s u grows t v a n m h w is b f =

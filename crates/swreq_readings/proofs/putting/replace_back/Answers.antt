@@ -1,5 +1,5 @@
 use Rattle.std.proofs.Common.{◌++◌, sym, subst}
-use Rattle.swreq_param.specs.Tables.{term_at}
+use Rattle.swreq_derive.specs.swreq_param.Tables.{term_at}
 use Rattle.swreq_readings.specs.Readable.{AreReadEqual, read_word}
 use Rattle.swreq_readings.proofs.ReadingLemmas.{both_still, term_still, word_at, word_still}
 use Rattle.swreq_derivation.proofs.DerivationLemmas.{continues_anyway, continues_then, grows_then}

@@ -1,5 +1,5 @@
 use Rattle.std.proofs.Common.{◌≡◌, drop}
-use Rattle.swreq_param.specs.Tables.{IsOf, term_at}
+use Rattle.swreq_derive.specs.swreq_param.Tables.{IsOf, term_at}
 use Rattle.swreq_derivation.specs.UnderWay.{Continues}
 use Rattle.swreq_readings.specs.Readable.{read_word}
 use Rattle.swreq_readings.proofs.reading.read_word.Given as goal

@@ -1,5 +1,5 @@
 use Rattle.std.proofs.Common.{refl}
-use Rattle.swreq_param.specs.Tables.{term_at}
+use Rattle.swreq_derive.specs.swreq_param.Tables.{term_at}
 use Rattle.swreq_readings.proofs.ReadingLemmas.{given_named, named_given}
 use Rattle.swreq_readings.proofs.telling.allows_name.Goals as goal
 

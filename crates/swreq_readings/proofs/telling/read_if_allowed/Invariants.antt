@@ -1,5 +1,5 @@
 use Rattle.std.proofs.Common.{◌≡◌, take}
-use Rattle.swreq_param.specs.Tables.{IsOf, term_at}
+use Rattle.swreq_derive.specs.swreq_param.Tables.{IsOf, term_at}
 use Rattle.swreq_derivation.specs.UnderWay.{Continues}
 use Rattle.swreq_readings.specs.Readable.{AllowsWord, read_word}
 use Rattle.swreq_readings.proofs.telling.read_if_allowed.Given as goal

@@ -1,6 +1,6 @@
 use Rattle.std.proofs.Common.{◌∙◌, inl, inr, map, refl}
 use Rattle.swreq_subst.specs.Calls.{call_by}
-use Rattle.swreq_symbols.proofs.Growing.{text_stays, world_stays}
+use Rattle.swreq_valid.proofs.swreq_symbols.Growing.{text_stays, world_stays}
 use Rattle.swreq_reply.specs.Reports.{name_refusal, refusal_of}
 use Rattle.swreq_reply.specs.Verdict.RefusesSecond.{bad_name, no_calls}
 use Rattle.swreq_reply.proofs.Verdicts.{calls_answered, calls_refused}

@@ -1,15 +1,15 @@
 use Rattle.std.proofs.Common.{Err, subst}
-use Rattle.swreq_complete.specs.declared.limit.Limits.{Limits}
-use Rattle.swreq_symbols.proofs.Growing.{text_stays, world_stays}
-use Rattle.swreq_world.specs.ByTable.{world_by}
+use Rattle.swreq_valid.specs.swreq_complete.declared.limit.Limits.{Limits}
+use Rattle.swreq_valid.proofs.swreq_symbols.Growing.{text_stays, world_stays}
+use Rattle.swreq_valid.specs.swreq_world.ByTable.{world_by}
 use Rattle.swreq_check.specs.Checks.{Checks}
 use Rattle.swreq_reply.specs.Requests.{line_of, parts_of}
-use Rattle.swreq_check.proofs.Flags.{asked_within}
+use Rattle.swreq_check.proofs.Flags.{query_in}
 use Rattle.swreq_reply.proofs.Verdicts.{replies_checked, replies_refused}
 use Rattle.swreq_reply.proofs.finishing.checked.Goals as goal
 
 pub places-requires-clause-queries : goal.places-requires-clause-queries
-places-requires-clause-queries g c q member = asked_within c.args.world.now c.args.table.now c.requires.text.closed q member
+places-requires-clause-queries g c q member = (query_in c.args.world.now c.args.table.now c.requires.text q member).0
 
 pub check-requires-clause-asked : goal.check-requires-clause-asked
 check-requires-clause-asked g c = record {

@@ -1,8 +1,8 @@
 use Rattle.std.proofs.Common.{Err, Ok, refl, subst}
 use Rattle.std.proofs.lemmas.Result.{err_from_is_err_and}
-use Rattle.swreq_complete.specs.declared.limit.Limits.{Limits}
+use Rattle.swreq_valid.specs.swreq_complete.declared.limit.Limits.{Limits}
 use Rattle.swreq_reqsig.specs.Told.{AnswersFamily}
-use Rattle.swreq_world.specs.ByTable.{world_by}
+use Rattle.swreq_valid.specs.swreq_world.ByTable.{world_by}
 use Rattle.swreq_check.proofs.OfChecks.{is_formed}
 use Rattle.swreq_reply.proofs.Verdicts.{families_failed, families_given}
 use Rattle.swreq_reply.proofs.finishing.families.Goals as goal

@@ -1,13 +1,13 @@
 use Rattle.std.proofs.Common.{◌∙◌, Err, ap, length}
 use Rattle.std.proofs.lemmas.Result.{err_from_is_err_and}
-use Rattle.swreq_symbols.proofs.Growing.{text_stays, world_stays}
+use Rattle.swreq_valid.proofs.swreq_symbols.Growing.{text_stays, world_stays}
 use Rattle.swreq_reply.specs.Requests.{line_of}
-use Rattle.swreq_check.proofs.Flags.{asked_within}
+use Rattle.swreq_check.proofs.Flags.{query_in}
 use Rattle.swreq_reply.proofs.Verdicts.{checks_for_pieces, finishes_alone, finishes_answered, finishes_failed}
 use Rattle.swreq_reply.proofs.finishing.pieces.Goals as goal
 
 pub lists_wanted-requires : goal.lists_wanted-requires
-lists_wanted-requires g c q member = asked_within c.args.world.now c.args.table.now c.requires.text.closed q member
+lists_wanted-requires g c q member = (query_in c.args.world.now c.args.table.now c.requires.text q member).0
 
 pub returns-in_err-wanted : goal.returns-in_err-wanted
 returns-in_err-wanted g c =

@@ -1,6 +1,6 @@
 use Rattle.std.proofs.Common.{List, ℕ, subst, sym, ◌≡◌}
-use Rattle.swreq_decl.specs.declared.skeleton.CallDecl.{CallDecl}
-use Rattle.swreq_decl.specs.Calls.{StandsFor}
+use Rattle.swreq_print.specs.swreq_decl.declared.skeleton.CallDecl.{CallDecl}
+use Rattle.swreq_print.specs.swreq_decl.Calls.{StandsFor}
 use Rattle.swreq_reply.proofs.OneOutput.{AreKnown, outcome_once}
 use Rattle.swreq_reply.proofs.laws.one_output.Goals as goal
 

@@ -1,6 +1,6 @@
 use Rattle.std.proofs.Common.{arith, ap, length, true}
 use Rattle.std.proofs.lemmas.List.{length-map}
-use Rattle.swreq_lowering.specs.ByTable.{query_by}
+use Rattle.swreq_print.specs.swreq_lowering.ByTable.{query_by}
 use Rattle.swreq_check.specs.Contents.{backing_of}
 use Rattle.swreq_check.specs.QueryLines.{IsLineOf}
 use Rattle.swreq_reply.specs.Pieces.{world_of}

@@ -1,8 +1,8 @@
 use Rattle.std.proofs.Common.{◌≡◌, ◌∙◌, ◌<◌, ◌++◌, List, ap, arith, length, ℕ}
 use Rattle.std.proofs.lemmas.List.{length-map}
 use Rattle.swreq_query.specs.Systems.{IsSystemText}
-use Rattle.swreq_world.specs.ByTable.{signature_by}
-use Rattle.swreq_world.specs.Worlds.{no_signature}
+use Rattle.swreq_valid.specs.swreq_world.ByTable.{signature_by}
+use Rattle.swreq_valid.specs.swreq_world.Worlds.{no_signature}
 use Rattle.swreq_reply.specs.Pieces.{world_of}
 use Rattle.swreq_check.specs.Wanted.{places_of}
 use Rattle.swreq_check.proofs.Lines.{lines_all, lines_next, lines_none}

@@ -1,20 +1,20 @@
 use Rattle.std.proofs.Common.{◌≡◌, ◌∙◌, List, Option, ap, get_or, subst, sym, true, ℕ}
-use Rattle.swreq_lowering.specs.declared.ids.FuncId.{FuncId}
-use Rattle.swreq_lowering.specs.declared.ids.Query.{Query}
-use Rattle.swreq_lowering.specs.declared.ids.Query.TheVariants.{Signature}
+use Rattle.swreq_print.specs.swreq_lowering.declared.ids.FuncId.{FuncId}
+use Rattle.swreq_print.specs.swreq_lowering.declared.ids.Query.{Query}
 use Rattle.swreq_check.specs.Contents.{backing_of}
 use Rattle.swreq_check.specs.QueryLines.{IsLineOf}
 use Rattle.swreq_reply.specs.Pieces.{query_at, world_of}
 use Rattle.swreq_check.specs.Wanted.{list_asked}
 use Rattle.swreq_reply.proofs.Printed.{by_list, by_piece, has_place}
+use Rattle.swreq_print.specs.swreq_lowering.ByTable.{no_query}
 use Rattle.swreq_reply.proofs.printing.answer_at.Goals as goal
 
 -- what the query at a place asks is asked of the text
 asks : (qs read : List Query) (k : ℕ) (found o : Option FuncId) → read ≡ qs
-    → found ≡ list_asked (get_or read k (Signature (record { place = 0 })))
-    → found ≡ o → list_asked (get_or qs k (Signature (record { place = 0 }))) ≡ o
+    → found ≡ list_asked (get_or read k no_query)
+    → found ≡ o → list_asked (get_or qs k no_query) ≡ o
 asks qs read k found o same e is =
-    sym (e ∙ ap (λ (all : List Query). list_asked (get_or all k (Signature (record { place = 0 })))) same) ∙ is
+    sym (e ∙ ap (λ (all : List Query). list_asked (get_or all k no_query)) same) ∙ is
 
 pub line_at-requires : goal.line_at-requires
 line_at-requires c = (by_list c.args.m.now c.requires.whole c.requires.answers c.args.k c.requires.k c.in-Some.f

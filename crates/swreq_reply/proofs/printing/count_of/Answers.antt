@@ -1,8 +1,8 @@
 use Rattle.std.proofs.Common.{◌+◌, ◌<◌, List, ap, arith, length, subst, sym, take, true}
 use Rattle.std.proofs.lemmas.Bool.Decides.{not_from_Decides}
 use Rattle.std.proofs.lemmas.List.{length-map, take_all}
-use Rattle.swreq_lowering.specs.ByTable.{query_by}
-use Rattle.swreq_lowering.specs.Queries.{TermQuery}
+use Rattle.swreq_print.specs.swreq_lowering.ByTable.{query_by}
+use Rattle.swreq_print.specs.swreq_lowering.Queries.{TermQuery}
 use Rattle.swreq_query.specs.Asked.{answer_of}
 use Rattle.swreq_check.specs.Lines.{Counted}
 use Rattle.swreq_check.specs.Lines.Counted.{nothing}

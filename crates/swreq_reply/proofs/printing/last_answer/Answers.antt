@@ -1,9 +1,9 @@
 use Rattle.std.proofs.Common.{◌≡◌, ◌≢◌, ◌-◌, ◌∙◌, List, [], ◌∷◌, ap, arith, get_or, length, refl, subst, suc, sym, true, zero, ℕ}
 use Rattle.std.proofs.lemmas.List.{length-map}
-use Rattle.swreq_lowering.specs.ByTable.{query_by}
-use Rattle.swreq_lowering.specs.Queries.{TermQuery}
+use Rattle.swreq_print.specs.swreq_lowering.ByTable.{query_by}
+use Rattle.swreq_print.specs.swreq_lowering.Queries.{TermQuery}
 use Rattle.swreq_print.specs.Names.{Text}
-use Rattle.swreq_world.specs.Worlds.{TextWorld}
+use Rattle.swreq_valid.specs.swreq_world.Worlds.{TextWorld}
 use Rattle.swreq_reply.specs.Outputs.{AnswersLast}
 use Rattle.swreq_check.specs.QueryLines.{IsLineOf}
 use Rattle.swreq_reply.specs.Pieces.{query_at, world_of}

@@ -1,7 +1,7 @@
 use Rattle.std.proofs.Common.{◌∙◌, ◌++◌, List, ap, append_assoc, codes, refl, ℕ}
 use Rattle.std.proofs.lemmas.Result.{on_ok_weaker}
 use Rattle.swreq_query.specs.Signatures.{full_name}
-use Rattle.swreq_world.specs.Worlds.{signature_at}
+use Rattle.swreq_valid.specs.swreq_world.Worlds.{signature_at}
 use Rattle.swreq_check.specs.Made.{line_at}
 use Rattle.swreq_reply.specs.Pieces.{world_of}
 use Rattle.swreq_reply.proofs.Printed.{list_at}

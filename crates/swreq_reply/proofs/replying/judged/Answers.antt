@@ -1,6 +1,6 @@
 use Rattle.std.proofs.Common.{Err, ap, refl}
 use Rattle.std.proofs.lemmas.List.{length-map}
-use Rattle.swreq_lowering.specs.ByTable.{query_by}
+use Rattle.swreq_print.specs.swreq_lowering.ByTable.{query_by}
 use Rattle.swreq_reply.proofs.Verdicts.{fits, misfits}
 use Rattle.swreq_reply.proofs.replying.judged.Goals as goal
 

@@ -2,7 +2,7 @@ use Rattle.std.proofs.Common.{◌∙◌, [], ap, inl, length, List, refl, slice_
 use Rattle.std.proofs.lemmas.Option.{MatchOption-at_none, MatchOption-at_some, slice_get-get_or}
 use Rattle.std.proofs.lemmas.Result.{err_from_is_err_and}
 use Rattle.swreq_reqsig.specs.declared.places.Place.{Place}
-use Rattle.swreq_watch.proofs.Told.{grew_none}
+use Rattle.swreq_valid.proofs.swreq_watch.Told.{grew_none}
 use Rattle.swreq_reqsig.specs.Settings.{text_in}
 use Rattle.swreq_reqsig.specs.Told.IsSettled.{without_rounds}
 use Rattle.swreq_reqsig.proofs.Asking.{asked_count, asks_answer, asks_settle, follows_not}

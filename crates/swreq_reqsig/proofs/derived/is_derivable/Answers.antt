@@ -1,11 +1,11 @@
 use Rattle.std.proofs.Common.{subst}
 use Rattle.std.specs.Bool.{Decides}
 use Rattle.std.proofs.lemmas.Result.{IfOk-weaker}
-use Rattle.swreq_derive.specs.Facts.{requirement_of}
-use Rattle.swreq_derive.specs.Derivation.Source.{SelfOf}
-use Rattle.swreq_correspondence.specs.Symbols.{Word, right_side}
-use Rattle.swreq_symbols.specs.Meaning.{symbols_of}
-use Rattle.swreq_symbols.specs.Vanishing.{Links}
+use Rattle.swreq_valid.specs.swreq_derive.Facts.{requirement_of}
+use Rattle.swreq_valid.specs.swreq_derive.Derivation.Source.{SelfOf}
+use Rattle.swreq_valid.specs.swreq_correspondence.Symbols.{Word, right_side}
+use Rattle.swreq_valid.specs.swreq_symbols.Meaning.{symbols_of}
+use Rattle.swreq_valid.specs.swreq_symbols.Vanishing.{Links}
 use Rattle.swreq_valid.specs.Keeping.{kept_facts}
 use Rattle.swreq_valid.specs.Rounds.{last_rules}
 use Rattle.swreq_reqsig.specs.Settings.{text_in}

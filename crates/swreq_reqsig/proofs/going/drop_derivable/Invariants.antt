@@ -1,6 +1,6 @@
 use Rattle.std.proofs.Common.{◌≤◌, List, length}
-use Rattle.swreq_watch.specs.declared.events.Event.{Event}
-use Rattle.swreq_watch.specs.Told.{GrewBy}
+use Rattle.swreq_valid.specs.swreq_watch.declared.events.Event.{Event}
+use Rattle.swreq_valid.specs.swreq_watch.Told.{GrewBy}
 use Rattle.swreq_reqsig.specs.Places.{all_places}
 use Rattle.swreq_reqsig.specs.Settings.{text_in}
 use Rattle.swreq_reqsig.specs.Told.{WasReduced}

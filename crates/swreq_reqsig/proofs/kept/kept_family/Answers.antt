@@ -1,7 +1,7 @@
 use Rattle.std.proofs.Common.{◌∙◌, ◌+◌, ap, length, List, subst, sym, ℕ, Ok, Err}
 use Rattle.std.proofs.lemmas.Result.{err_from_is_err_and}
-use Rattle.swreq_lexicon.specs.Views.{LexiconView}
-use Rattle.swreq_world.specs.ByTable.{world_by}
+use Rattle.swreq_valid.specs.swreq_lexicon.Views.{LexiconView}
+use Rattle.swreq_valid.specs.swreq_world.ByTable.{world_by}
 use Rattle.swreq_reqsig.specs.declared.outlines.Outline.{Outline}
 use Rattle.swreq_reqsig.specs.Families.{numbers, owned}
 use Rattle.swreq_reqsig.specs.Named.{AreNamed, HaveLists}

@@ -1,8 +1,8 @@
 use Rattle.std.proofs.Common.{◌∷◌, Contains, List, subst, sym}
 use Rattle.std.proofs.lemmas.List.Elements.{Contains-append_right}
-use Rattle.swreq_lemmas.proofs.Members.{first_member}
-use Rattle.swreq_derive.specs.Derivation.TermStatement.{Requires}
-use Rattle.swreq_derive.specs.Kept.{Owned}
+use Rattle.swreq_print.proofs.swreq_lemmas.Members.{first_member}
+use Rattle.swreq_valid.specs.swreq_derive.Derivation.TermStatement.{Requires}
+use Rattle.swreq_valid.specs.swreq_derive.Kept.{Owned}
 use Rattle.swreq_reqsig.proofs.laws.requirement_signatures_lack_nothing.Goals as goal
 
 pub returns : goal.returns

@@ -1,6 +1,6 @@
 use Rattle.std.proofs.Common.{◌≡◌, ◌∙◌, ap, Bool, false, List, subst, sym, true}
 use Rattle.std.proofs.lemmas.Option.{slice_get-get_or}
-use Rattle.swreq_lemmas.proofs.Elements.{there_is}
+use Rattle.swreq_print.proofs.swreq_lemmas.Elements.{there_is}
 use Rattle.swreq_reqsig.specs.Marks.{IsMarked, marked}
 use Rattle.swreq_reqsig.proofs.Asking.{are_asked, is_beyond, is_unsaid, ranks_below}
 use Rattle.swreq_reqsig.proofs.reaching.asked.Goals as goal

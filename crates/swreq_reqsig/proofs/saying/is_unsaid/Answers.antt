@@ -1,7 +1,7 @@
 use Rattle.std.proofs.Common.{◌≡◌, ◌∙◌, ap, false, sym, true}
 use Rattle.std.proofs.lemmas.Option.{same_Some, slice_get-get_or}
 use Rattle.std.proofs.lemmas.Result.{IfOk-weaker}
-use Rattle.swreq_derive.specs.Facts.{requirement_of}
+use Rattle.swreq_valid.specs.swreq_derive.Facts.{requirement_of}
 use Rattle.swreq_reqsig.specs.declared.places.Place.{Place}
 use Rattle.swreq_reqsig.specs.Selections.{lexicon_in, selected_in}
 use Rattle.swreq_reqsig.proofs.Spoken.{unsaid_conformance, unsaid_equality, unsaid_object}

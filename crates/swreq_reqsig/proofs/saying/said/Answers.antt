@@ -1,5 +1,5 @@
 use Rattle.std.proofs.Common.{◌∙◌, length, List, ℕ, subst, sym}
-use Rattle.swreq_derive.specs.Kept.{Owned}
+use Rattle.swreq_valid.specs.swreq_derive.Kept.{Owned}
 use Rattle.swreq_reqsig.specs.declared.outlines.Outline.{Outline}
 use Rattle.swreq_reqsig.specs.Families.{owned}
 use Rattle.swreq_reqsig.specs.Marks.{TellLed}

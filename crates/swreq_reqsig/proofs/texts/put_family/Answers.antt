@@ -1,6 +1,6 @@
 use Rattle.std.proofs.Common.{◌≡◌, ◌++◌, ◌<◌, ap, arith, length, List, refl, slice_get, Some, subst₂, sym, ℕ}
 use Rattle.std.proofs.lemmas.Option.{slice_get_read}
-use Rattle.swreq_world.specs.ByTable.{world_by}
+use Rattle.swreq_valid.specs.swreq_world.ByTable.{world_by}
 use Rattle.swreq_valid.proofs.OfProtocols.{proto_within}
 use Rattle.swreq_reqsig.specs.Texts.{family_text}
 use Rattle.swreq_reqsig.proofs.Printed.{lines_done, one_line}

@@ -1,5 +1,5 @@
 use Rattle.std.proofs.Common.{◌≡◌, ◌++◌, drop}
-use Rattle.swreq_world.specs.ByTable.{world_by}
+use Rattle.swreq_valid.specs.swreq_world.ByTable.{world_by}
 use Rattle.swreq_reqsig.specs.Texts.{family_text, protocol_lines}
 use Rattle.swreq_reqsig.proofs.texts.put_family.Given as goal
 

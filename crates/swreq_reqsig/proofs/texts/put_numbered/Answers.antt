@@ -1,7 +1,7 @@
 use Rattle.std.proofs.Common.{◌≡◌, ◌++◌, ◌∙◌, List, OnOk, map, subst}
-use Rattle.swreq_derive.specs.Derivation.{TermRequirement}
-use Rattle.swreq_derive.specs.Facts.{requirement_of}
-use Rattle.swreq_lexicon.specs.Views.{LexiconView}
+use Rattle.swreq_valid.specs.swreq_derive.Derivation.{TermRequirement}
+use Rattle.swreq_valid.specs.swreq_derive.Facts.{requirement_of}
+use Rattle.swreq_valid.specs.swreq_lexicon.Views.{LexiconView}
 use Rattle.swreq_reqsig.specs.Texts.{protocol_line}
 use Rattle.swreq_reqsig.proofs.Printed.{numbered_are, numbered_known}
 use Rattle.swreq_reqsig.proofs.texts.put_numbered.Goals as goal

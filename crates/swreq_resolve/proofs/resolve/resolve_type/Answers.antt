@@ -1,5 +1,5 @@
 use Rattle.std.proofs.Common.{List, Contains, Err, ap, refl, sym, subst}
-use Rattle.swreq_lemmas.proofs.Members.{no_member}
+use Rattle.swreq_names.proofs.swreq_lemmas.Members.{no_member}
 use Rattle.swreq_resolve.specs.declared.refusal.Refusal.{Refusal}
 use Rattle.swreq_resolve.specs.First.{IsFirst}
 use Rattle.swreq_resolve.specs.RefusedTypes.{of_type_on}

@@ -1,10 +1,10 @@
 use Rattle.std.proofs.Common.{ℕ, zero, suc, List, [], ◌∷◌, Contains, refl, lit<, arith}
-use Rattle.swreq_param.specs.declared.ids.ProtoId.{ProtoId}
-use Rattle.swreq_param.specs.Terms.{Term}
-use Rattle.swreq_derive.specs.Derivation.{TermRequirement}
-use Rattle.swreq_derive.specs.Derivation.TermRequirement.{Conforms, IsAnyObject, Equals}
-use Rattle.swreq_derive.specs.Worked.{by_rank}
-use Rattle.swreq_lemmas.proofs.Members.{each_member, no_member}
+use Rattle.swreq_correspondence.specs.swreq_param.declared.ids.ProtoId.{ProtoId}
+use Rattle.swreq_correspondence.specs.swreq_param.Terms.{Term}
+use Rattle.swreq_correspondence.specs.swreq_derive.Derivation.{TermRequirement}
+use Rattle.swreq_correspondence.specs.swreq_derive.Derivation.TermRequirement.{Conforms, IsAnyObject, Equals}
+use Rattle.swreq_correspondence.specs.swreq_derive.Worked.{by_rank}
+use Rattle.swreq_complete.proofs.swreq_lemmas.Members.{each_member, no_member}
 use Rattle.swreq_correspondence.specs.Symbols.{IsOfText, IsRank, proto_of}
 use Rattle.swreq_rounds.specs.Worked.{leaf_requirements, tree_requirements, trees_symbols}
 use Rattle.swreq_rounds.proofs.worked.order_of_equations.Goals as goal

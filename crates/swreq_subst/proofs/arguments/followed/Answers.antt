@@ -1,10 +1,10 @@
 use Rattle.std.proofs.Common.{◌∙◌, sym, ap, get_or}
-use Rattle.swreq_param.specs.declared.ids.Step.{Step}
-use Rattle.swreq_param.specs.declared.ids.Step.TheVariants.{Bound}
-use Rattle.swreq_param.specs.Tables.{term_at}
-use Rattle.swreq_param.specs.Terms.{Term}
-use Rattle.swreq_param.specs.Terms.Term.{Member}
-use Rattle.swreq_param.proofs.Growing.{onward}
+use Rattle.swreq_machine.specs.swreq_param.declared.ids.Step.{Step}
+use Rattle.swreq_machine.specs.swreq_param.declared.ids.Step.TheVariants.{Bound}
+use Rattle.swreq_machine.specs.swreq_param.Tables.{term_at}
+use Rattle.swreq_machine.specs.swreq_param.Terms.{Term}
+use Rattle.swreq_machine.specs.swreq_param.Terms.Term.{Member}
+use Rattle.swreq_print.proofs.swreq_param.Growing.{onward}
 use Rattle.swreq_subst.proofs.Replacing.{one_step}
 use Rattle.swreq_subst.proofs.arguments.followed.Goals as goal
 

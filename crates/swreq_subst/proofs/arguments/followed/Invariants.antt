@@ -1,6 +1,6 @@
 use Rattle.std.proofs.Common.{◌≡◌, take}
-use Rattle.swreq_param.specs.Tables.{Extends, IsOf, term_at}
-use Rattle.swreq_param.specs.Terms.{with_steps}
+use Rattle.swreq_machine.specs.swreq_param.Tables.{Extends, IsOf, term_at}
+use Rattle.swreq_machine.specs.swreq_param.Terms.{with_steps}
 use Rattle.swreq_subst.proofs.arguments.followed.Given as goal
 
 abbrev pub invariant-loop-k : goal.invariant-loop-k

@@ -1,8 +1,8 @@
 use Rattle.std.proofs.Common.{◌∙◌, map, sym, ap, ap₂, subst}
-use Rattle.swreq_param.specs.Tables.{term_at}
-use Rattle.swreq_derive.specs.Derivation.TermRequirement.{Equals}
-use Rattle.swreq_derive.specs.Facts.{requirement_of}
-use Rattle.swreq_lowering.specs.ByTable.{HasIdsOf}
+use Rattle.swreq_machine.specs.swreq_param.Tables.{term_at}
+use Rattle.swreq_machine.specs.swreq_derive.Derivation.TermRequirement.{Equals}
+use Rattle.swreq_machine.specs.swreq_derive.Facts.{requirement_of}
+use Rattle.swreq_machine.specs.swreq_lowering.ByTable.{HasIdsOf}
 use Rattle.swreq_subst.specs.Arguments.{requirement_with, with_arguments}
 use Rattle.swreq_subst.proofs.Staying.{types_stay}
 use Rattle.swreq_subst.proofs.arguments.requirement_with.Goals as goal

@@ -1,11 +1,11 @@
 use Rattle.std.proofs.Common.{◌≡◌, ◌<◌, ◌∙◌, length, get_or, map, sym, ap, subst}
 use Rattle.std.proofs.lemmas.List.{get_or-map}
 use Rattle.std.proofs.lemmas.Result.{IfOk-weaker}
-use Rattle.swreq_param.specs.declared.ids.TermId.{TermId}
-use Rattle.swreq_param.specs.OwnedLaws.{heads_same}
-use Rattle.swreq_param.specs.Tables.{term_at}
-use Rattle.swreq_param.specs.Terms.{head, self, with_steps}
-use Rattle.swreq_param.specs.Terms.Term.{Generic}
+use Rattle.swreq_machine.specs.swreq_param.declared.ids.TermId.{TermId}
+use Rattle.swreq_machine.specs.swreq_param.OwnedLaws.{heads_same}
+use Rattle.swreq_machine.specs.swreq_param.Tables.{term_at}
+use Rattle.swreq_machine.specs.swreq_param.Terms.{head, self, with_steps}
+use Rattle.swreq_machine.specs.swreq_param.Terms.Term.{Generic}
 use Rattle.swreq_subst.specs.Arguments.{argument_of, place_of, with_arguments}
 use Rattle.swreq_subst.proofs.Replacing.{substitute_steps}
 use Rattle.swreq_subst.proofs.arguments.with_arguments.Goals as goal

@@ -1,13 +1,13 @@
 use Rattle.std.proofs.Common.{◌↔◌, IsTrue, IfOk, List, sym, subst}
-use Rattle.swreq_derive.specs.Derivation.{TermRequirement}
-use Rattle.swreq_derive.specs.Derivation.TermStatement.{Requires}
-use Rattle.swreq_derive.specs.Facts.{requirement_of}
+use Rattle.swreq_machine.specs.swreq_derive.Derivation.{TermRequirement}
+use Rattle.swreq_machine.specs.swreq_derive.Derivation.TermStatement.{Requires}
+use Rattle.swreq_machine.specs.swreq_derive.Facts.{requirement_of}
 use Rattle.swreq_machine.specs.Asked.{IsDerivable}
 use Rattle.swreq_machine.specs.Machines.{IsMachineOf}
-use Rattle.swreq_world.specs.ByTable.{world_by}
-use Rattle.swreq_world.specs.Closed.{IsRequirementOf}
-use Rattle.swreq_world.specs.Worlds.{TextWorld}
-use Rattle.swreq_symbols.proofs.Growing.{text_stays, world_stays}
+use Rattle.swreq_machine.specs.swreq_world.ByTable.{world_by}
+use Rattle.swreq_machine.specs.swreq_world.Closed.{IsRequirementOf}
+use Rattle.swreq_machine.specs.swreq_world.Worlds.{TextWorld}
+use Rattle.swreq_machine.proofs.swreq_symbols.Growing.{text_stays, world_stays}
 use Rattle.swreq_subst.proofs.Replacing.{requirement_of_text}
 use Rattle.swreq_subst.proofs.failures.holds.Goals as goal
 

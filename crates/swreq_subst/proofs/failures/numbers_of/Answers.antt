@@ -1,27 +1,29 @@
 use Rattle.std.proofs.Common.{◌≡◌, ◌↔◌, ◌+◌, ◌<◌, IsTrue, suc, length, List, map, get_or, sym, subst, arith}
 use Rattle.std.proofs.lemmas.List.{length-map}
 use Rattle.std.proofs.lemmas.List.Elements.{All-weaker}
-use Rattle.swreq_param.proofs.Growing.{onward, unchanged}
-use Rattle.swreq_param.specs.Tables.{IsOf, term_at}
-use Rattle.swreq_param.specs.Terms.{Term}
-use Rattle.swreq_derive.specs.Derivation.{TermRequirement}
-use Rattle.swreq_derive.specs.Derivation.Source.{Written}
-use Rattle.swreq_derive.specs.Derivation.TermStatement.{Requires}
-use Rattle.swreq_derive.specs.Facts.{generic_params, requirement_of}
-use Rattle.swreq_lowering.specs.Heads.{IsOver}
-use Rattle.swreq_symbols.specs.Known.{IsTypeIn}
-use Rattle.swreq_symbols.proofs.Growing.{text_stays, world_stays}
+use Rattle.swreq_print.proofs.swreq_param.Growing.{onward, unchanged}
+use Rattle.swreq_machine.specs.swreq_param.Tables.{IsOf, term_at}
+use Rattle.swreq_machine.specs.swreq_param.Terms.{Term}
+use Rattle.swreq_machine.specs.swreq_derive.Derivation.{TermRequirement}
+use Rattle.swreq_machine.specs.swreq_derive.Derivation.Source.{Written}
+use Rattle.swreq_machine.specs.swreq_derive.Derivation.TermStatement.{Requires}
+use Rattle.swreq_machine.specs.swreq_derive.Facts.{generic_params, requirement_of}
+use Rattle.swreq_machine.specs.swreq_lowering.Heads.{IsOver}
+use Rattle.swreq_machine.specs.swreq_symbols.Known.{IsTypeIn}
+use Rattle.swreq_machine.proofs.swreq_symbols.Growing.{text_stays, world_stays}
 use Rattle.swreq_machine.specs.Asked.{IsDerivable}
 use Rattle.swreq_machine.specs.Machines.{IsMachineOf}
-use Rattle.swreq_valid.specs.Plans.{listed}
-use Rattle.swreq_world.specs.ByTable.{world_by}
-use Rattle.swreq_world.specs.FactsAt.{facts_of}
-use Rattle.swreq_world.specs.Worlds.{TextWorld}
+use Rattle.swreq_machine.specs.swreq_valid.Plans.{listed}
+use Rattle.swreq_machine.specs.swreq_world.ByTable.{world_by}
+use Rattle.swreq_machine.specs.swreq_world.FactsAt.{facts_of}
+use Rattle.swreq_machine.specs.swreq_world.Worlds.{TextWorld}
 use Rattle.swreq_subst.specs.Arguments.{place_of, requirement_with}
 use Rattle.swreq_subst.specs.Failing.{AreFailingUpTo}
 use Rattle.swreq_subst.proofs.Calling.{has_number, no_requirement}
 use Rattle.swreq_subst.proofs.Numbering.{none_yet, noted}
-use Rattle.swreq_subst.proofs.Staying.{requirement_in_stays, requirement_stays, types_in_stay, types_stay}
+use Rattle.swreq_subst.proofs.Staying.{types_in_stay, types_stay}
+use Rattle.swreq_machine.proofs.swreq_lowering.Growing.{requirement_stays}
+use Rattle.swreq_machine.proofs.swreq_symbols.Growing.{requirement_in_stays}
 use Rattle.swreq_subst.proofs.failures.numbers_of.Goals as goal
 
 pub loop-k-init : goal.loop-k-init
@@ -56,8 +58,8 @@ pub holds-requires-clause-over : goal.holds-requires-clause-over
 holds-requires-clause-over c =
     let known = c.requires.list c.loop-k.k no_requirement c.loop-k-test.true in
     subst (IsOver (λ g. place_of c.args.by.now.params g < length c.args.by.now.args.now))
-    (sym (requirement_stays c.args.table.now c.loop-k.table c.loop-k.invariant.extends
-    (get_or c.args.list.now c.loop-k.k no_requirement) known.0))
+    (sym (requirement_stays c.args.table.now c.loop-k.table (get_or c.args.list.now c.loop-k.k no_requirement)
+    c.loop-k.invariant.extends known.0))
     (c.requires.over c.loop-k.k no_requirement c.loop-k-test.true)
 
 pub loop-k-preserved : goal.loop-k-preserved
@@ -78,7 +80,7 @@ loop-k-preserved c =
     let same = world_stays old mid more by.world.now c.requires.text.table in
     let args =
     types_stay old mid more types (All-weaker (IsTypeIn old by.world.now.lexicon) (IsOf old) (λ t h. h.0) types c.requires.args) in
-    let required = requirement_stays old mid more r known.0 in
+    let required = requirement_stays old mid r more known.0 in
     let here = subst (λ (u : TextWorld). (given : List TermRequirement) → IsMachineOf u given m
     → IsTrue b ↔ IsDerivable u m given (Requires (requirement_with p (map (term_at mid) types) (requirement_of mid r))))
     same c.in_ok-holds.ensures.holds in

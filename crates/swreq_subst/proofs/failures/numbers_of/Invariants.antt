@@ -1,12 +1,12 @@
 use Rattle.std.proofs.Common.{List, map}
-use Rattle.swreq_param.specs.Tables.{Extends, term_at}
-use Rattle.swreq_derive.specs.Derivation.{TermRequirement}
-use Rattle.swreq_derive.specs.Derivation.Source.{Written}
-use Rattle.swreq_derive.specs.Facts.{generic_params}
+use Rattle.swreq_machine.specs.swreq_param.Tables.{Extends, term_at}
+use Rattle.swreq_machine.specs.swreq_derive.Derivation.{TermRequirement}
+use Rattle.swreq_machine.specs.swreq_derive.Derivation.Source.{Written}
+use Rattle.swreq_machine.specs.swreq_derive.Facts.{generic_params}
 use Rattle.swreq_machine.specs.Machines.{IsMachineOf}
-use Rattle.swreq_valid.specs.Plans.{listed}
-use Rattle.swreq_world.specs.ByTable.{world_by}
-use Rattle.swreq_world.specs.FactsAt.{facts_of}
+use Rattle.swreq_machine.specs.swreq_valid.Plans.{listed}
+use Rattle.swreq_machine.specs.swreq_world.ByTable.{world_by}
+use Rattle.swreq_machine.specs.swreq_world.FactsAt.{facts_of}
 use Rattle.swreq_subst.specs.Failing.{AreFailingUpTo}
 use Rattle.swreq_subst.proofs.failures.numbers_of.Given as goal
 

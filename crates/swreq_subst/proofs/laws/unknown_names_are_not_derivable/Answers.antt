@@ -1,5 +1,5 @@
-use Rattle.swreq_world.specs.FactsAt.{source_of}
-use Rattle.swreq_world.specs.Worlds.{signature_at}
+use Rattle.swreq_machine.specs.swreq_world.FactsAt.{source_of}
+use Rattle.swreq_machine.specs.swreq_world.Worlds.{signature_at}
 use Rattle.swreq_subst.proofs.Unknown.{are_known, term_of_world}
 use Rattle.swreq_subst.proofs.laws.unknown_names_are_not_derivable.Goals as goal
 

@@ -1,8 +1,8 @@
 use Rattle.std.proofs.Common.{List, Option, None, get_or, subst}
 use Rattle.std.proofs.lemmas.List.{take_all}
-use Rattle.swreq_param.specs.declared.ids.TermId.{TermId}
+use Rattle.swreq_machine.specs.swreq_param.declared.ids.TermId.{TermId}
 use Rattle.swreq_machine.specs.Asked.{IsDerivable}
-use Rattle.swreq_world.specs.ByTable.{world_by}
+use Rattle.swreq_machine.specs.swreq_world.ByTable.{world_by}
 use Rattle.swreq_subst.specs.Calls.{AreAllValid, IsValidThere}
 use Rattle.swreq_subst.proofs.Lining.{all_next, member_at}
 use Rattle.swreq_subst.proofs.line.are_valid.Goals as goal

@@ -1,8 +1,8 @@
 use Rattle.std.proofs.Common.{List, take}
-use Rattle.swreq_derive.specs.Derivation.{TermRequirement}
+use Rattle.swreq_machine.specs.swreq_derive.Derivation.{TermRequirement}
 use Rattle.swreq_machine.specs.Asked.{IsDerivable}
 use Rattle.swreq_machine.specs.Machines.{IsMachineOf}
-use Rattle.swreq_world.specs.ByTable.{world_by}
+use Rattle.swreq_machine.specs.swreq_world.ByTable.{world_by}
 use Rattle.swreq_subst.specs.Calls.{AreAllValid}
 use Rattle.swreq_subst.proofs.line.are_valid.Given as goal
 

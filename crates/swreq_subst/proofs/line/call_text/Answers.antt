@@ -1,18 +1,18 @@
 use Rattle.std.proofs.Common.{◌≡◌, ◌<◌, ◌≤◌, ◌++◌, ◌∙◌, true, false, inl, inr, List, length, refl, sym, ap, subst}
 use Rattle.std.specs.Prelude.{All, MatchBool, codes}
-use Rattle.swreq_derive.specs.declared.known.Params.{Params}
-use Rattle.swreq_derive.specs.Derivation.{Derivable, TermRequirement}
-use Rattle.swreq_derive.specs.Derivation.Source.{Written}
-use Rattle.swreq_derive.specs.Facts.{generic_params}
-use Rattle.swreq_lexicon.specs.Views.{LexiconView}
-use Rattle.swreq_lowering.specs.ByTable.{HasIdsOf}
-use Rattle.swreq_lowering.proofs.Growing.{on_ok}
-use Rattle.swreq_symbols.proofs.Growing.{text_stays, world_stays}
+use Rattle.swreq_machine.specs.swreq_derive.declared.known.Params.{Params}
+use Rattle.swreq_machine.specs.swreq_derive.Derivation.{Derivable, TermRequirement}
+use Rattle.swreq_machine.specs.swreq_derive.Derivation.Source.{Written}
+use Rattle.swreq_machine.specs.swreq_derive.Facts.{generic_params}
+use Rattle.swreq_machine.specs.swreq_lexicon.Views.{LexiconView}
+use Rattle.swreq_machine.specs.swreq_lowering.ByTable.{HasIdsOf}
+use Rattle.swreq_machine.proofs.swreq_lowering.Growing.{on_ok}
+use Rattle.swreq_machine.proofs.swreq_symbols.Growing.{text_stays, world_stays}
 use Rattle.swreq_machine.specs.Asked.{IsDerivable}
-use Rattle.swreq_valid.specs.Plans.{listed}
-use Rattle.swreq_world.specs.ByTable.{world_by}
-use Rattle.swreq_world.specs.FactsAt.{facts_of, source_of, written_list}
-use Rattle.swreq_world.specs.Worlds.{TextWorld, signature_at}
+use Rattle.swreq_machine.specs.swreq_valid.Plans.{listed}
+use Rattle.swreq_machine.specs.swreq_world.ByTable.{world_by}
+use Rattle.swreq_machine.specs.swreq_world.FactsAt.{facts_of, source_of, written_list}
+use Rattle.swreq_machine.specs.swreq_world.Worlds.{TextWorld, signature_at}
 use Rattle.swreq_subst.specs.Calls.{AreAllValid, IsOneInvalid, call_by}
 use Rattle.swreq_subst.specs.Lines.{verdict_text}
 use Rattle.swreq_subst.proofs.Calling.{list_is, list_size, of_callee}

@@ -1,9 +1,9 @@
 use Rattle.std.proofs.Common.{◌↔◌, IsTrue, IfOk, Option, List, sym, subst}
-use Rattle.swreq_param.specs.declared.ids.TermId.{TermId}
-use Rattle.swreq_derive.specs.Derivation.{TermRequirement}
+use Rattle.swreq_machine.specs.swreq_param.declared.ids.TermId.{TermId}
+use Rattle.swreq_machine.specs.swreq_derive.Derivation.{TermRequirement}
 use Rattle.swreq_machine.specs.Asked.{IsDerivable}
 use Rattle.swreq_machine.specs.Machines.{IsMachineOf}
-use Rattle.swreq_world.specs.ByTable.{world_by}
+use Rattle.swreq_machine.specs.swreq_world.ByTable.{world_by}
 use Rattle.swreq_subst.specs.Calls.{IsValidThere}
 use Rattle.swreq_subst.proofs.line.is_valid_there.Goals as goal
 

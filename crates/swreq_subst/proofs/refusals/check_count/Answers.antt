@@ -1,6 +1,6 @@
 use Rattle.std.proofs.Common.{sym, ◌∙◌}
 use Rattle.std.specs.Option.{option_map}
-use Rattle.swreq_names.specs.Spaces.{word}
+use Rattle.swreq_resolve.specs.swreq_names.Spaces.{word}
 use Rattle.swreq_subst.proofs.refusals.check_count.Goals as goal
 
 pub params-requires : goal.params-requires

@@ -1,7 +1,7 @@
 use Rattle.std.proofs.Common.{◌≡◌, List, [], map, take, ◌+◌, sym, subst}
 use Rattle.std.proofs.lemmas.List.{take_all}
-use Rattle.swreq_decl.specs.declared.skeleton.CallDecl.{CallDecl}
-use Rattle.swreq_param.proofs.Growing.{onward}
+use Rattle.swreq_resolve.specs.swreq_decl.declared.skeleton.CallDecl.{CallDecl}
+use Rattle.swreq_print.proofs.swreq_param.Growing.{onward}
 use Rattle.swreq_subst.specs.Calls.{IsCallIn, TermCall, call_by}
 use Rattle.swreq_subst.specs.Refusals.{of_call}
 use Rattle.swreq_subst.specs.Saying.{OneByOne, SayCalls, SaysCall}

@@ -1,6 +1,6 @@
 use Rattle.std.proofs.Common.{map, take}
 use Rattle.std.specs.Prelude.{All}
-use Rattle.swreq_param.specs.Tables.{Extends}
+use Rattle.swreq_machine.specs.swreq_param.Tables.{Extends}
 use Rattle.swreq_subst.specs.Calls.{IsCallIn, call_by}
 use Rattle.swreq_subst.specs.Saying.{SayCalls}
 use Rattle.swreq_subst.proofs.resolving.calls_of.Given as goal

@@ -1,5 +1,5 @@
 use Rattle.std.proofs.Common.{List, Contains, inl, Err, ap, sym, subst, ◌∙◌}
-use Rattle.swreq_lemmas.proofs.Members.{no_member}
+use Rattle.swreq_print.proofs.swreq_lemmas.Members.{no_member}
 use Rattle.swreq_resolve.specs.declared.refusal.NameErr.{NameErr}
 use Rattle.swreq_resolve.specs.declared.refusal.Refusal.{Refusal}
 use Rattle.swreq_resolve.specs.Errors.{error_of}

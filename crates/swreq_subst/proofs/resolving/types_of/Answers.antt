@@ -2,13 +2,13 @@ use Rattle.std.proofs.Common.{◌≡◌, ◌≢◌, Option, None, List, [], map,
 use Rattle.std.specs.List.{flat_map}
 use Rattle.std.specs.Option.{option_map}
 use Rattle.std.proofs.lemmas.List.{take_all}
-use Rattle.swreq_decl.specs.declared.skeleton.TypeDecl.{TypeDecl}
-use Rattle.swreq_names.specs.Spaces.{word}
-use Rattle.swreq_param.specs.Tables.{term_at}
-use Rattle.swreq_param.specs.Terms.{Term}
-use Rattle.swreq_param.proofs.Growing.{onward}
+use Rattle.swreq_resolve.specs.swreq_decl.declared.skeleton.TypeDecl.{TypeDecl}
+use Rattle.swreq_resolve.specs.swreq_names.Spaces.{word}
+use Rattle.swreq_machine.specs.swreq_param.Tables.{term_at}
+use Rattle.swreq_machine.specs.swreq_param.Terms.{Term}
+use Rattle.swreq_print.proofs.swreq_param.Growing.{onward}
 use Rattle.swreq_resolve.specs.Refusals.{of_step}
-use Rattle.swreq_world.specs.Lookups.{param_of_signature}
+use Rattle.swreq_machine.specs.swreq_world.Lookups.{param_of_signature}
 use Rattle.swreq_subst.specs.Calls.{IsArgumentIn}
 use Rattle.swreq_subst.specs.Refusals.{declared}
 use Rattle.swreq_subst.specs.Saying.{OneByOne, SaysArgument}

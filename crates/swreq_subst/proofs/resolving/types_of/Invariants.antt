@@ -1,7 +1,7 @@
 use Rattle.std.proofs.Common.{map, take}
 use Rattle.std.specs.Prelude.{All}
 use Rattle.std.specs.Option.{option_map}
-use Rattle.swreq_param.specs.Tables.{Extends, term_at}
+use Rattle.swreq_machine.specs.swreq_param.Tables.{Extends, term_at}
 use Rattle.swreq_subst.specs.Calls.{IsArgumentIn}
 use Rattle.swreq_subst.specs.Saying.{OneByOne, SaysArgument}
 use Rattle.swreq_subst.proofs.resolving.types_of.Given as goal

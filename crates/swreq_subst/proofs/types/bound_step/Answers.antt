@@ -1,8 +1,8 @@
 use Rattle.std.proofs.Common.{◌∙◌, sym, subst}
-use Rattle.swreq_names.specs.Spaces.{word, protocol_of}
-use Rattle.swreq_param.specs.declared.ids.AssocId.{AssocId}
-use Rattle.swreq_lexicon.specs.Lexicons.{assoc_by, name_by, pair, proto_by}
-use Rattle.swreq_world.specs.ReadBack.{SaysAssociated}
+use Rattle.swreq_resolve.specs.swreq_names.Spaces.{word, protocol_of}
+use Rattle.swreq_machine.specs.swreq_param.declared.ids.AssocId.{AssocId}
+use Rattle.swreq_machine.specs.swreq_lexicon.Lexicons.{assoc_by, name_by, pair, proto_by}
+use Rattle.swreq_machine.specs.swreq_world.ReadBack.{SaysAssociated}
 use Rattle.swreq_subst.specs.Refusals.{declared}
 use Rattle.swreq_subst.proofs.Steps.{declared_there}
 use Rattle.swreq_subst.proofs.types.bound_step.Goals as goal

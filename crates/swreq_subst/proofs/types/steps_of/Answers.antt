@@ -1,7 +1,7 @@
 use Rattle.std.proofs.Common.{get_or}
 use Rattle.std.proofs.lemmas.List.{get_or_default}
-use Rattle.swreq_decl.specs.declared.skeleton.StepDecl.{StepDecl}
-use Rattle.swreq_decl.specs.declared.skeleton.StepDecl.TheVariants.{Plain}
+use Rattle.swreq_resolve.specs.swreq_decl.declared.skeleton.StepDecl.{StepDecl}
+use Rattle.swreq_resolve.specs.swreq_decl.declared.skeleton.StepDecl.TheVariants.{Plain}
 use Rattle.swreq_resolve.specs.Refusals.{of_step}
 use Rattle.swreq_subst.specs.Refusals.{declared}
 use Rattle.swreq_subst.proofs.Steps.{nothing_of_each, says_next}

@@ -1,5 +1,5 @@
 use Rattle.std.proofs.Common.{take}
-use Rattle.swreq_world.specs.ReadBack.{SaySteps}
+use Rattle.swreq_machine.specs.swreq_world.ReadBack.{SaySteps}
 use Rattle.swreq_subst.proofs.types.steps_of.Given as goal
 
 abbrev pub invariant-loop-k : goal.invariant-loop-k

@@ -1,10 +1,10 @@
 use Rattle.std.proofs.Common.{◌∙◌, List, ap₂, sym, subst}
 use Rattle.std.specs.Prelude.{MatchOption}
-use Rattle.swreq_decl.specs.declared.skeleton.StepDecl.{StepDecl}
-use Rattle.swreq_param.specs.Terms.{with_steps}
-use Rattle.swreq_param.specs.Terms.Term.{Generic}
-use Rattle.swreq_world.specs.Closed.{IsTermOf}
-use Rattle.swreq_world.specs.ReadBack.{SaySteps}
+use Rattle.swreq_resolve.specs.swreq_decl.declared.skeleton.StepDecl.{StepDecl}
+use Rattle.swreq_machine.specs.swreq_param.Terms.{with_steps}
+use Rattle.swreq_machine.specs.swreq_param.Terms.Term.{Generic}
+use Rattle.swreq_machine.specs.swreq_world.Closed.{IsTermOf}
+use Rattle.swreq_machine.specs.swreq_world.ReadBack.{SaySteps}
 use Rattle.swreq_subst.specs.Saying.{HasUnknown}
 use Rattle.swreq_subst.proofs.Steps.{term_of_text}
 use Rattle.swreq_subst.proofs.types.type_of.Goals as goal

@@ -1,6 +1,6 @@
 use Rattle.std.proofs.Common.{◌≡◌, ◌-◌, ◌/◌, ◌∙◌, ap, subst, sym, arith}
-use Rattle.swreq_param.specs.Tables.{term_at}
-use Rattle.swreq_param.specs.Terms.{member_count}
+use Rattle.swreq_correspondence.specs.swreq_param.Tables.{term_at}
+use Rattle.swreq_correspondence.specs.swreq_param.Terms.{member_count}
 use Rattle.swreq_correspondence.specs.Shown.{ShowsValid}
 use Rattle.swreq_correspondence.specs.Symbols.{word_of}
 use Rattle.swreq_world.specs.ByTable.{world_by}

@@ -1,5 +1,5 @@
 use Rattle.std.proofs.Common.{refl, subst, sym, ◌∷◌, ◌++◌, []}
-use Rattle.swreq_param.specs.Tables.{term_at}
+use Rattle.swreq_correspondence.specs.swreq_param.Tables.{term_at}
 use Rattle.swreq_world.specs.ByTable.{world_by}
 use Rattle.swreq_symbols.specs.Overs.{source_over}
 use Rattle.swreq_symbols.specs.Vanishing.{HasStep, Links}

@@ -1,6 +1,6 @@
 use Rattle.std.proofs.Common.{refl, subst, sym}
-use Rattle.swreq_param.specs.Tables.{term_at}
-use Rattle.swreq_derive.specs.Derivation.{HasParam}
+use Rattle.swreq_correspondence.specs.swreq_param.Tables.{term_at}
+use Rattle.swreq_correspondence.specs.swreq_derive.Derivation.{HasParam}
 use Rattle.swreq_correspondence.specs.Shown.{ShowsValid}
 use Rattle.swreq_correspondence.specs.Symbols.{word_of}
 use Rattle.swreq_world.specs.ByTable.{world_by}

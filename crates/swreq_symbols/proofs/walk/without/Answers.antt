@@ -1,5 +1,5 @@
 use Rattle.std.proofs.Common.{arith}
-use Rattle.swreq_param.specs.Tables.{term_at}
+use Rattle.swreq_correspondence.specs.swreq_param.Tables.{term_at}
 use Rattle.swreq_symbols.proofs.Fronts.{base_without, not_generic}
 use Rattle.swreq_symbols.proofs.walk.without.Goals as goal
 

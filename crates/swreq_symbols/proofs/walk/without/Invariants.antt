@@ -1,5 +1,5 @@
 use Rattle.std.proofs.Common.{◌≡◌}
-use Rattle.swreq_param.specs.Tables.{IsOf, term_at}
+use Rattle.swreq_correspondence.specs.swreq_param.Tables.{IsOf, term_at}
 use Rattle.swreq_symbols.specs.Fronts.{without}
 use Rattle.swreq_symbols.proofs.walk.without.Given as goal
 

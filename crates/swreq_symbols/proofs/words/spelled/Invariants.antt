@@ -1,6 +1,6 @@
 use Rattle.std.proofs.Common.{◌≡◌, reverse}
-use Rattle.swreq_param.specs.Tables.{term_at}
-use Rattle.swreq_param.specs.Terms.{member_count}
+use Rattle.swreq_correspondence.specs.swreq_param.Tables.{term_at}
+use Rattle.swreq_correspondence.specs.swreq_param.Terms.{member_count}
 use Rattle.swreq_correspondence.specs.Symbols.{steps}
 use Rattle.swreq_symbols.specs.Known.{IsTypeIn}
 use Rattle.swreq_symbols.specs.Meaning.{symbols_of}

@@ -1,8 +1,8 @@
 use Rattle.std.proofs.Common.{ap}
-use Rattle.swreq_word.specs.declared.symbols.Symbol.TheVariants.{Member}
-use Rattle.swreq_lexicon.specs.Lexicons.{pair}
+use Rattle.swreq_correspondence.specs.swreq_word.declared.symbols.Symbol.TheVariants.{Member}
+use Rattle.swreq_world.specs.swreq_lexicon.Lexicons.{pair}
 use Rattle.swreq_symbols.specs.Meaning.{symbols_of}
-use Rattle.swreq_lemmas.proofs.Elements.{get_contains}
+use Rattle.swreq_complete.proofs.swreq_lemmas.Elements.{get_contains}
 use Rattle.swreq_symbols.proofs.Declared.{from_rank, one_rank, symbol_at}
 use Rattle.swreq_symbols.proofs.words.symbol_of_assoc.Goals as goal
 

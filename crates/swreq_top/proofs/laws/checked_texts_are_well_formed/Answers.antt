@@ -1,5 +1,5 @@
-use Rattle.swreq_check.proofs.OfChecks.{is_formed}
-use Rattle.swreq_query.proofs.PrintingAlike.{closed_world}
+use Rattle.swreq_reply.proofs.swreq_check.OfChecks.{is_formed}
+use Rattle.swreq_reply.proofs.swreq_query.PrintingAlike.{closed_world}
 use Rattle.swreq_top.proofs.WellFormed.{never_refused}
 use Rattle.swreq_top.proofs.laws.checked_texts_are_well_formed.Goals as goal
 

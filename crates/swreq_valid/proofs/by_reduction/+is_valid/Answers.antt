@@ -1,4 +1,4 @@
-use Rattle.swreq_param.specs.Tables.{term_at}
+use Rattle.swreq_rounds.specs.swreq_param.Tables.{term_at}
 use Rattle.swreq_world.specs.ByTable.{world_by}
 use Rattle.swreq_valid.proofs.ByReduction.{member_result}
 use Rattle.swreq_valid.proofs.by_reduction.+is_valid.Goals as goal

@@ -1,5 +1,5 @@
-use Rattle.swreq_param.specs.Tables.{term_at}
-use Rattle.swreq_param.specs.Terms.{member_count}
+use Rattle.swreq_rounds.specs.swreq_param.Tables.{term_at}
+use Rattle.swreq_rounds.specs.swreq_param.Terms.{member_count}
 use Rattle.swreq_valid.proofs.by_reduction.+is_valid.Given as goal
 
 abbrev pub decreases-is_valid : goal.decreases-is_valid

@@ -1,4 +1,4 @@
-use Rattle.swreq_param.specs.Tables.{term_at}
+use Rattle.swreq_rounds.specs.swreq_param.Tables.{term_at}
 use Rattle.swreq_valid.proofs.ByReduction.{assoc_result, in_text}
 use Rattle.swreq_valid.proofs.by_reduction.has_assoc.Goals as goal
 

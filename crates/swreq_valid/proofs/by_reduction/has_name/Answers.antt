@@ -1,5 +1,5 @@
 use Rattle.std.proofs.Common.{arith}
-use Rattle.swreq_param.specs.Tables.{term_at}
+use Rattle.swreq_rounds.specs.swreq_param.Tables.{term_at}
 use Rattle.swreq_symbols.proofs.Giving.{none_at_all}
 use Rattle.swreq_valid.specs.ByReduction.{ReducesConformance}
 use Rattle.swreq_valid.proofs.by_reduction.has_name.Goals as goal

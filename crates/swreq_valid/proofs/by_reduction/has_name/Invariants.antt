@@ -1,4 +1,4 @@
-use Rattle.swreq_param.specs.Tables.{term_at}
+use Rattle.swreq_rounds.specs.swreq_param.Tables.{term_at}
 use Rattle.swreq_symbols.proofs.Giving.{NoneGiven}
 use Rattle.swreq_valid.specs.ByReduction.{ReducesConformance}
 use Rattle.swreq_valid.proofs.by_reduction.has_name.Given as goal

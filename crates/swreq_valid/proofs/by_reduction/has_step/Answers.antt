@@ -1,6 +1,6 @@
 use Rattle.std.proofs.Common.{◌↔◌, subst, sym, IfOk, IsTrue}
-use Rattle.swreq_param.specs.declared.ids.Step.{Step}
-use Rattle.swreq_param.specs.Tables.{term_at}
+use Rattle.swreq_rounds.specs.swreq_param.declared.ids.Step.{Step}
+use Rattle.swreq_rounds.specs.swreq_param.Tables.{term_at}
 use Rattle.swreq_valid.specs.ByReduction.{HasStepOf}
 use Rattle.swreq_valid.proofs.by_reduction.has_step.Goals as goal
 

@@ -1,5 +1,5 @@
 use Rattle.std.proofs.Common.{take}
-use Rattle.swreq_derive.specs.Facts.{requirement_of}
+use Rattle.swreq_rounds.specs.swreq_derive.Facts.{requirement_of}
 use Rattle.swreq_world.specs.ByTable.{world_by}
 use Rattle.swreq_valid.specs.Flags.{Tells}
 use Rattle.swreq_valid.specs.Keeping.{IsUsableBy}

@@ -1,5 +1,5 @@
 use Rattle.std.proofs.Common.{refl, ◌∷◌, []}
-use Rattle.swreq_derive.specs.Derivation.TermRequirement.{Equals}
+use Rattle.swreq_rounds.specs.swreq_derive.Derivation.TermRequirement.{Equals}
 use Rattle.swreq_valid.specs.Sides.{IsValidSide, sides_at}
 use Rattle.swreq_valid.proofs.FirstSide.{head_fails, one_first}
 use Rattle.swreq_valid.proofs.laws.left_side_is_first.Goals as goal

@@ -1,6 +1,6 @@
 use Rattle.std.proofs.Common.{inl, refl, subst, [], Bool, List}
 use Rattle.std.proofs.lemmas.Result.{err_from_is_err_and}
-use Rattle.swreq_watch.proofs.Told.{grew_none}
+use Rattle.swreq_complete.proofs.swreq_watch.Told.{grew_none}
 use Rattle.swreq_rounds.specs.Rounds.{IsClosed}
 use Rattle.swreq_valid.specs.Flags.{chosen}
 use Rattle.swreq_valid.specs.Plans.{plan_of}

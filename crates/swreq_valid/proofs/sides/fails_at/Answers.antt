@@ -1,5 +1,5 @@
 use Rattle.std.proofs.Common.{refl}
-use Rattle.swreq_param.specs.Tables.{term_at}
+use Rattle.swreq_rounds.specs.swreq_param.Tables.{term_at}
 use Rattle.swreq_symbols.specs.Meaning.{facts_of, symbols_of}
 use Rattle.swreq_symbols.specs.Vanishing.{Links}
 use Rattle.swreq_world.specs.ByTable.{world_by}

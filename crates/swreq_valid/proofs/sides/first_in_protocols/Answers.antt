@@ -1,5 +1,5 @@
 use Rattle.std.proofs.Common.{arith, refl, []}
-use Rattle.swreq_derive.specs.Derivation.Source.{SelfOf}
+use Rattle.swreq_rounds.specs.swreq_derive.Derivation.Source.{SelfOf}
 use Rattle.swreq_symbols.specs.Meaning.{facts_of, symbols_of}
 use Rattle.swreq_world.specs.ByTable.{world_by}
 use Rattle.swreq_world.specs.Worlds.{requirements_of}

@@ -2,7 +2,7 @@ use Rattle.std.proofs.Common.{refl}
 use Rattle.std.proofs.lemmas.List.Elements.{Contains-get_or}
 use Rattle.swreq_symbols.specs.Meaning.{facts_of, symbols_of}
 use Rattle.swreq_world.specs.ByTable.{world_by}
-use Rattle.swreq_lowering.specs.ByTable.{placed, placed_by}
+use Rattle.swreq_world.specs.swreq_lowering.ByTable.{placed, placed_by}
 use Rattle.swreq_valid.specs.Plans.{within}
 use Rattle.swreq_valid.specs.Sides.{IsShownSide, sides, sides_of}
 use Rattle.swreq_valid.proofs.FirstSide.{fails_here, hold_all, holds_here, none_yet}

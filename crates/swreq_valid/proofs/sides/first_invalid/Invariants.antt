@@ -1,8 +1,8 @@
 use Rattle.std.proofs.Common.{List, drop}
-use Rattle.swreq_derive.specs.Derivation.{TermRequirement}
+use Rattle.swreq_rounds.specs.swreq_derive.Derivation.{TermRequirement}
 use Rattle.swreq_symbols.specs.Meaning.{facts_of, symbols_of}
 use Rattle.swreq_world.specs.ByTable.{world_by}
-use Rattle.swreq_lowering.specs.ByTable.{placed}
+use Rattle.swreq_world.specs.swreq_lowering.ByTable.{placed}
 use Rattle.swreq_valid.specs.Plans.{within}
 use Rattle.swreq_valid.specs.Sides.{IsShownSide, sides}
 use Rattle.swreq_valid.proofs.FirstSide.{SoFar}

@@ -1,8 +1,8 @@
 use Rattle.std.proofs.Common.{◌≡◌, ◌∙◌, ◌++◌, ◌∷◌, ◌+◌, [], ap, ap₂, arith, length, refl, suc, sym, take}
 use Rattle.std.proofs.lemmas.List.{take_all}
 use Rattle.std.proofs.lemmas.Option.{slice_get_read}
-use Rattle.swreq_rule.specs.declared.rules.Rule.{Rule}
-use Rattle.swreq_lemmas.proofs.Elements.{take_one}
+use Rattle.swreq_complete.specs.swreq_rule.declared.rules.Rule.{Rule}
+use Rattle.swreq_complete.proofs.swreq_lemmas.Elements.{take_one}
 use Rattle.swreq_valid.proofs.turns.copied.Goals as goal
 
 pub loop-rule-init : goal.loop-rule-init

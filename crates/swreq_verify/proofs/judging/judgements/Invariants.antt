@@ -8,6 +8,7 @@ use Rattle.swreq_verify.proofs.judging.judgements.Given as goal
 
 abbrev pub invariant-loop-n : goal.invariant-loop-n
 invariant-loop-n l = record {
-  before : AreJudgedBefore (world_by l.table l.world) (map (section_of l.table) l.sections) l.turns.items l.found.items l.n;
-  kept : IfSome l.kept (IsListOf l.world);
+  before : AreJudgedBefore (world_by l.text.table.now l.text.world.now) (map (section_of l.text.table.now) l.sections) l.turns.items
+      l.found.items l.n;
+  kept : IfSome l.kept (IsListOf l.text.world.now);
 }

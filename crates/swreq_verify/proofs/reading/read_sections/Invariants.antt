@@ -1,5 +1,5 @@
 use Rattle.std.proofs.Common.{◌-◌, vec_len}
-use Rattle.swreq_param.specs.Tables.{Extends}
+use Rattle.swreq_world.specs.swreq_param.Tables.{Extends}
 use Rattle.swreq_verify.proofs.Laid.{IsLaid}
 use Rattle.swreq_verify.proofs.reading.read_sections.Given as goal
 

@@ -1,5 +1,5 @@
 use Rattle.std.proofs.Common.{◌≡◌, subst, arith, inr, map}
-use Rattle.swreq_derive.specs.Lines.{line_of}
+use Rattle.swreq_world.specs.swreq_derive.Lines.{line_of}
 use Rattle.swreq_lines.specs.declared.lines.LinesErr.TheVariants.{Syntax}
 use Rattle.swreq_lines.specs.GoodLines.{IsRefused}
 use Rattle.swreq_text.specs.Lines.{lines}

@@ -6,7 +6,7 @@ use Rattle.swreq_verify.proofs.turns.turns_of.Goals as goal
 pub loop-k-preserved : goal.loop-k-preserved
 loop-k-preserved c =
     one_turn_more c.loop-k.turns.items c.push.new.self.items
-    (record { signature = c.signature_of-signature.result; query = c.loop-k.k }) c.loop-k.k
+    _ c.loop-k.k
     c.loop-k.invariant refl c.in_ok-push.ensures.items
 
 pub returns : goal.returns

@@ -1,6 +1,6 @@
 use Rattle.std.proofs.Common.{◌≡◌, ◌∙◌, refl, sym, ap, subst, ℕ, List, length, map}
 use Rattle.std.proofs.lemmas.List.{length-map}
-use Rattle.swreq_lowering.specs.ByTable.{query_by}
+use Rattle.swreq_world.specs.swreq_lowering.ByTable.{query_by}
 use Rattle.swreq_text.specs.Lines.{lines}
 use Rattle.swreq_symbols.proofs.Growing.{text_stays, world_stays}
 use Rattle.swreq_world.specs.ByTable.{world_by}

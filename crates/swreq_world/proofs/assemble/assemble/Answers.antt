@@ -2,7 +2,7 @@ use Rattle.std.proofs.Common.{◌≡◌, ◌∙◌, sym, subst}
 use Rattle.std.specs.Str.{chars}
 use Rattle.swreq_lex.specs.Tokens.{first_offset}
 use Rattle.swreq_lexicon.specs.Views.{LexiconView}
-use Rattle.swreq_names.specs.Names.{HasDeclared}
+use Rattle.swreq_lexicon.specs.swreq_names.Names.{HasDeclared}
 use Rattle.swreq_lowering.specs.Short.{HasShortLists}
 use Rattle.swreq_lowering.specs.Words.{WordsView, words_by}
 use Rattle.swreq_world.specs.ByTable.{world_by, IsOverTable}

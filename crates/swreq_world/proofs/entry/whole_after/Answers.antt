@@ -1,6 +1,6 @@
 use Rattle.std.proofs.Common.{◌∙◌, sym, ap, arith, ◌++◌, length, map}
 use Rattle.std.proofs.lemmas.Result.{IfOk-weaker}
-use Rattle.swreq_derive.specs.declared.requirements.Requirement.{Requirement}
+use Rattle.swreq_lexicon.specs.swreq_derive.declared.requirements.Requirement.{Requirement}
 use Rattle.swreq_lowering.specs.declared.ids.Written.{Written}
 use Rattle.swreq_world.specs.Entries.{around}
 use Rattle.swreq_world.proofs.KeptFronts.{end_changed, own_within}

@@ -1,6 +1,6 @@
 use Rattle.std.specs.Str.{chars}
-use Rattle.swreq_decl.specs.declared.skeleton.Skeleton.{Skeleton}
-use Rattle.swreq_decl.specs.Skeletons.{StandsFor}
+use Rattle.swreq_lexicon.specs.swreq_decl.declared.skeleton.Skeleton.{Skeleton}
+use Rattle.swreq_lexicon.specs.swreq_decl.Skeletons.{StandsFor}
 use Rattle.swreq_lex.specs.Tokens.{first_offset}
 use Rattle.swreq_world.proofs.Apart.{functions_in_order, structs_apart}
 use Rattle.swreq_world.proofs.AsDeclared.{all_declared}

@@ -1,7 +1,7 @@
 use Rattle.std.proofs.Common.{List, map, subst, ◌∙◌}
 use Rattle.swreq_lowering.specs.Queries.{query_of}
 use Rattle.swreq_lowering.specs.Words.{words_by}
-use Rattle.swreq_names.specs.declared.signature.Signature.{Signature}
+use Rattle.swreq_lexicon.specs.swreq_names.declared.signature.Signature.{Signature}
 use Rattle.swreq_world.specs.Entries.{FillsEntries}
 use Rattle.swreq_world.specs.Filling.{FillsQueries}
 use Rattle.swreq_world.specs.Own.{own_signature}

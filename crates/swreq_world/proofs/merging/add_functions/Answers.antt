@@ -1,6 +1,6 @@
 use Rattle.std.proofs.Common.{◌≡◌, ◌+◌, ◌-◌, ◌++◌, suc, ◌∷◌, [], List, sym, ap, ◌∙◌, arith, append_assoc}
-use Rattle.swreq_names.specs.declared.signature.Signature.{Signature}
-use Rattle.swreq_names.specs.declared.signature.Signature.TheVariants.{Function}
+use Rattle.swreq_lexicon.specs.swreq_names.declared.signature.Signature.{Signature}
+use Rattle.swreq_lexicon.specs.swreq_names.declared.signature.Signature.TheVariants.{Function}
 use Rattle.swreq_lowering.specs.Signatures.{functions_from}
 use Rattle.swreq_world.proofs.WrittenOrder.{functions_push}
 use Rattle.swreq_world.proofs.merging.add_functions.Goals as goal

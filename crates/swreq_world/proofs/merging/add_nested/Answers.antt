@@ -1,6 +1,6 @@
 use Rattle.std.proofs.Common.{◌≡◌, ◌+◌, ◌++◌, suc, ◌∷◌, [], List, sym, ap, ◌∙◌, arith, append_assoc}
-use Rattle.swreq_names.specs.declared.signature.Signature.{Signature}
-use Rattle.swreq_names.specs.declared.signature.Signature.TheVariants.{Nested}
+use Rattle.swreq_lexicon.specs.swreq_names.declared.signature.Signature.{Signature}
+use Rattle.swreq_lexicon.specs.swreq_names.declared.signature.Signature.TheVariants.{Nested}
 use Rattle.swreq_lowering.specs.Signatures.{nested_from}
 use Rattle.swreq_world.proofs.WrittenOrder.{nested_push}
 use Rattle.swreq_world.proofs.merging.add_nested.Goals as goal

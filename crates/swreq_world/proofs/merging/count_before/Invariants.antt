@@ -1,6 +1,6 @@
 use Rattle.std.proofs.Common.{◌≡◌, ◌+◌, ◌-◌, ◌≤◌, length, drop}
 use Rattle.std.specs.List.{prefix_len}
-use Rattle.swreq_decl.specs.Signatures.{stands_before}
+use Rattle.swreq_lexicon.specs.swreq_decl.Signatures.{stands_before}
 use Rattle.swreq_world.proofs.merging.count_before.Given as goal
 
 abbrev pub invariant-loop-at : goal.invariant-loop-at

@@ -1,6 +1,6 @@
 use Rattle.std.proofs.Common.{◌≡◌, ℕ, ◌≤◌, None, get_or, length, drop}
 use Rattle.std.specs.List.{position_from}
-use Rattle.swreq_names.specs.declared.signature.Signature.TheVariants.{Struct, Function}
+use Rattle.swreq_lexicon.specs.swreq_names.declared.signature.Signature.TheVariants.{Struct, Function}
 use Rattle.swreq_lowering.specs.Signatures.{is_signature}
 use Rattle.swreq_world.proofs.places.places_of.Given as goal
 

@@ -8,8 +8,7 @@ use Rattle.swreq_world.proofs.queries.queries.Goals as goal
 pub loop-q-preserved : goal.loop-q-preserved
 loop-q-preserved c =
     let meaning = query_of (words_by c.args.words.now) c.args.order.now in
-    let asks = c.in_ok-query.ensures.asks in
     fills_more HasQueryIdsOf query_by query_of_stay query_stays meaning c.items-q-items.result.now c.loop-q.q-index c.q-item.result
     c.args.table.now c.loop-q.table c.query_of.new.table c.loop-q.made.items c.push.new.self.items c.in_ok-query.query
     c.loop-q-test.true c.loop-q.invariant
-    asks.extends asks.are_of (asks.means ∙ ap meaning c.q-item.is) c.in_ok-push.ensures.items
+    c.query_of.ensures.extends c.in_ok-query.ensures.of (c.in_ok-query.ensures.asks ∙ ap meaning c.q-item.is) c.in_ok-push.ensures.items

@@ -1,5 +1,5 @@
 use Rattle.std.proofs.Common.{◌≤◌, [], length, get_or, sym, subst}
-use Rattle.swreq_names.specs.Spaces.{Spaces}
+use Rattle.swreq_lexicon.specs.swreq_names.Spaces.{Spaces}
 use Rattle.swreq_lowering.specs.Words.{words_by}
 use Rattle.swreq_world.specs.Places.{IsSmall}
 use Rattle.swreq_world.proofs.Within.{asked_small}

@@ -1,5 +1,5 @@
 use Rattle.std.proofs.Common.{◌∙◌, ◌++◌, ◌∷◌, [], take, sym, ap, add-one}
-use Rattle.swreq_lemmas.proofs.Elements.{take_one}
+use Rattle.swreq_rule.proofs.swreq_lemmas.Elements.{take_one}
 use Rattle.swreq_complete.proofs.indexed.Indexed.written_out.Goals as goal
 
 pub loop-k-preserved : goal.loop-k-preserved

@@ -1,5 +1,5 @@
 use Rattle.std.proofs.Common.{◌∙◌, ◌||◌, nat_eq, map, ap}
-use Rattle.swreq_param.specs.declared.ids.ProtoId.{ProtoId}
+use Rattle.swreq_derive.specs.swreq_param.declared.ids.ProtoId.{ProtoId}
 use Rattle.swreq_lexicon.specs.Keys.{pair_of}
 use Rattle.swreq_lexicon.specs.Symbols.{has_member}
 use Rattle.swreq_lexicon.specs.Views.{inherits_by}

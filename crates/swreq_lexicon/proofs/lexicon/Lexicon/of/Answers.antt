@@ -4,7 +4,7 @@ use Rattle.std.specs.Str.{bytes_eq}
 use Rattle.swreq_decl.specs.declared.skeleton.ProtocolDecl.{ProtocolDecl}
 use Rattle.swreq_names.specs.Names.{HasDeclared}
 use Rattle.swreq_names.specs.Spaces.{word}
-use Rattle.swreq_param.specs.declared.ids.ProtoId.{ProtoId}
+use Rattle.swreq_derive.specs.swreq_param.declared.ids.ProtoId.{ProtoId}
 use Rattle.swreq_lexicon.specs.Lexicons.{proto_by}
 use Rattle.swreq_rank.specs.Ranks.{Bytes, IsRanking, bytes_cmp}
 use Rattle.swreq_lexicon.specs.Symbols.{has_member, AreStarts}

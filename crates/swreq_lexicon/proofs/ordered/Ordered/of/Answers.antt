@@ -1,5 +1,5 @@
 use Rattle.std.proofs.Common.{◌<◌, List, Contains, sym, subst}
-use Rattle.swreq_param.specs.declared.ids.ProtoId.{ProtoId}
+use Rattle.swreq_derive.specs.swreq_param.declared.ids.ProtoId.{ProtoId}
 use Rattle.swreq_lexicon.proofs.ordered.Ordered.of.Goals as goal
 
 pub places_of-requires-clause-within : goal.places_of-requires-clause-within

@@ -1,5 +1,5 @@
 use Rattle.std.proofs.Common.{◌∙◌, ℕ, List, Option, MatchOption, slice_get, Contains, sym, ap, subst}
-use Rattle.swreq_param.specs.declared.ids.ProtoId.{ProtoId}
+use Rattle.swreq_derive.specs.swreq_param.declared.ids.ProtoId.{ProtoId}
 use Rattle.swreq_lexicon.specs.Symbols.{StandsAt}
 use Rattle.swreq_lexicon.proofs.Rows.{nowhere}
 use Rattle.swreq_lexicon.proofs.ordered.Ordered.place_of.Goals as goal

@@ -2,8 +2,8 @@ use Rattle.std.proofs.Common.{◌≡◌, ◌∙◌, ◌+◌, ◌^◌, ◌<◌, �
 use Rattle.std.proofs.lemmas.Option.{slice_get_within}
 use Rattle.swreq_closure.specs.Bits as sets
 use Rattle.swreq_closure.specs.Bits.{count_below}
-use Rattle.swreq_param.specs.declared.ids.NameId.{NameId}
-use Rattle.swreq_param.specs.declared.ids.ProtoId.{ProtoId}
+use Rattle.swreq_derive.specs.swreq_param.declared.ids.NameId.{NameId}
+use Rattle.swreq_derive.specs.swreq_param.declared.ids.ProtoId.{ProtoId}
 use Rattle.swreq_lexicon.specs.Lexicons.{pair}
 use Rattle.swreq_lexicon.specs.Symbols.{has_member, having, row_of, symbols_below, AreRows, AreStarts, SymbolsView}
 use Rattle.swreq_lexicon.specs.Views.{inherits_by}

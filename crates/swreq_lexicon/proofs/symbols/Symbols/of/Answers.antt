@@ -1,5 +1,5 @@
 use Rattle.std.proofs.Common.{◌≡◌, ◌<◌, ◌+◌, ◌≤◌, ℕ, List, length, get_or, take, sum, ap, sym, subst}
-use Rattle.swreq_param.specs.declared.ids.ProtoId.{ProtoId}
+use Rattle.swreq_derive.specs.swreq_param.declared.ids.ProtoId.{ProtoId}
 use Rattle.swreq_rank.specs.Ranks.{IsRanking}
 use Rattle.swreq_lexicon.specs.Associated.{order_cmp}
 use Rattle.swreq_lexicon.specs.Symbols.{has_member}

@@ -1,5 +1,5 @@
 use Rattle.std.proofs.Common.{◌≡◌, ◌∙◌, ◌+◌, ◌-◌, ◌<◌, ◌≤◌, ℕ, List, length, get_or, slice_get, ap, sym, subst, arith, add-one}
-use Rattle.swreq_param.specs.declared.ids.ProtoId.{ProtoId}
+use Rattle.swreq_derive.specs.swreq_param.declared.ids.ProtoId.{ProtoId}
 use Rattle.swreq_lexicon.specs.Associated.{name}
 use Rattle.swreq_lexicon.specs.Symbols.{has_member, having, symbols_below, AreRows, SymbolsView}
 use Rattle.swreq_lexicon.specs.Views.{inherits_by}

@@ -1,6 +1,6 @@
 use Rattle.std.proofs.Common.{◌∙◌, sym, subst₂, List, []}
-use Rattle.swreq_derive.specs.declared.requirements.Requirement.{Requirement}
-use Rattle.swreq_rule.specs.declared.rules.Rule.{Rule}
+use Rattle.swreq_machine.specs.swreq_derive.declared.requirements.Requirement.{Requirement}
+use Rattle.swreq_machine.specs.swreq_rule.declared.rules.Rule.{Rule}
 use Rattle.swreq_list_rules.specs.ListRules.{AreOfList}
 use Rattle.swreq_list_rules.proofs.Growing.{empty_list}
 use Rattle.swreq_list_rules.proofs.list_rules.ListRules.empty.Goals as goal

@@ -1,7 +1,7 @@
 use Rattle.std.proofs.Common.{◌≡◌, ◌∙◌, ◌++◌, ap, sym, subst, subst₂, inl, inr, Contains, List}
 use Rattle.std.proofs.lemmas.List.Elements.{Contains-append_cases}
-use Rattle.swreq_derive.specs.declared.requirements.Requirement.{Requirement}
-use Rattle.swreq_rule.specs.declared.rules.Rule.{Rule}
+use Rattle.swreq_machine.specs.swreq_derive.declared.requirements.Requirement.{Requirement}
+use Rattle.swreq_machine.specs.swreq_rule.declared.rules.Rule.{Rule}
 use Rattle.swreq_list_rules.specs.ListRules.{AreUnderway, ListRulesView}
 use Rattle.swreq_list_rules.specs.Settings.{said_in}
 use Rattle.swreq_list_rules.proofs.Growing.{begun, usable_members}

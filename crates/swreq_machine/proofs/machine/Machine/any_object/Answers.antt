@@ -1,5 +1,5 @@
-use Rattle.swreq_param.specs.Tables.{term_at}
-use Rattle.swreq_world.specs.ByTable.{world_by}
+use Rattle.swreq_valid.specs.swreq_param.Tables.{term_at}
+use Rattle.swreq_valid.specs.swreq_world.ByTable.{world_by}
 use Rattle.swreq_machine.proofs.Answering.{layout_answer}
 use Rattle.swreq_machine.proofs.machine.Machine.any_object.Goals as goal
 

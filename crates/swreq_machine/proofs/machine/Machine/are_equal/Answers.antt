@@ -1,8 +1,8 @@
 use Rattle.std.proofs.Common.{inl, inr, refl}
 use Rattle.std.proofs.lemmas.Slice.Eq.{slice_eq-Decides}
-use Rattle.swreq_word.proofs.Comparing.{symbol_decides}
-use Rattle.swreq_param.specs.Tables.{term_at}
-use Rattle.swreq_symbols.specs.Texts.{world_of}
+use Rattle.swreq_map.proofs.swreq_word.Comparing.{symbol_decides}
+use Rattle.swreq_valid.specs.swreq_param.Tables.{term_at}
+use Rattle.swreq_valid.specs.swreq_symbols.Texts.{world_of}
 use Rattle.swreq_machine.proofs.Answering.{derivable_shown, equal_answer, valid_answer}
 use Rattle.swreq_machine.proofs.machine.Machine.are_equal.Goals as goal
 

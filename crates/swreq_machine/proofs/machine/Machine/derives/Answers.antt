@@ -1,9 +1,9 @@
 use Rattle.std.proofs.Common.{◌↔◌, IsTrue, sym, subst}
-use Rattle.swreq_derive.specs.declared.requirements.Requirement.{Requirement}
-use Rattle.swreq_derive.specs.Derivation.TermStatement.{Requires}
-use Rattle.swreq_derive.specs.Facts.{requirement_of}
+use Rattle.swreq_valid.specs.swreq_derive.declared.requirements.Requirement.{Requirement}
+use Rattle.swreq_valid.specs.swreq_derive.Derivation.TermStatement.{Requires}
+use Rattle.swreq_valid.specs.swreq_derive.Facts.{requirement_of}
 use Rattle.swreq_machine.specs.Asked.{IsDerivable}
-use Rattle.swreq_symbols.specs.Texts.{world_of}
+use Rattle.swreq_valid.specs.swreq_symbols.Texts.{world_of}
 use Rattle.swreq_machine.proofs.machine.Machine.derives.Goals as goal
 
 pub returns-in_ok-s-in-Conf : goal.returns-in_ok-s-in-Conf

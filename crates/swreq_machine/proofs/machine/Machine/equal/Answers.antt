@@ -1,6 +1,6 @@
 use Rattle.std.proofs.Common.{subst}
-use Rattle.swreq_param.specs.Tables.{term_at}
-use Rattle.swreq_world.specs.ByTable.{world_by}
+use Rattle.swreq_valid.specs.swreq_param.Tables.{term_at}
+use Rattle.swreq_valid.specs.swreq_world.ByTable.{world_by}
 use Rattle.swreq_machine.specs.Asked.{IsDerivable}
 use Rattle.swreq_machine.specs.Having.{TellsIfEqual}
 use Rattle.swreq_machine.proofs.Telling.{none_equal}

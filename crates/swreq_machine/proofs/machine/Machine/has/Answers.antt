@@ -1,7 +1,7 @@
 use Rattle.std.proofs.Common.{sym, subst}
-use Rattle.swreq_param.specs.Tables.{term_at}
+use Rattle.swreq_valid.specs.swreq_param.Tables.{term_at}
 use Rattle.swreq_map.specs.Properties.{IsProperty}
-use Rattle.swreq_world.specs.ByTable.{world_by}
+use Rattle.swreq_valid.specs.swreq_world.ByTable.{world_by}
 use Rattle.swreq_machine.proofs.Telling.{is_property, tells_if_has}
 use Rattle.swreq_machine.proofs.machine.Machine.has.Goals as goal
 

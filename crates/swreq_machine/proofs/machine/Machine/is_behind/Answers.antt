@@ -1,8 +1,8 @@
 use Rattle.std.proofs.Common.{subst, refl}
 use Rattle.std.specs.Bool.{Decides}
-use Rattle.swreq_param.specs.Tables.{term_at}
+use Rattle.swreq_valid.specs.swreq_param.Tables.{term_at}
 use Rattle.swreq_map.specs.Properties.{Vanishes}
-use Rattle.swreq_world.specs.ByTable.{world_by}
+use Rattle.swreq_valid.specs.swreq_world.ByTable.{world_by}
 use Rattle.swreq_machine.proofs.Answering.{behind_answer}
 use Rattle.swreq_machine.proofs.machine.Machine.is_behind.Goals as goal
 

@@ -1,10 +1,10 @@
 use Rattle.std.proofs.Common.{◌≡◌, ◌∙◌, IfOk}
 use Rattle.std.proofs.lemmas.Result.{err_from_is_err_and}
-use Rattle.swreq_derive.specs.Derivation.Source.{Written as WrittenList}
-use Rattle.swreq_derive.specs.Facts.{generic_params}
-use Rattle.swreq_symbols.specs.Meaning.{facts_of}
-use Rattle.swreq_symbols.specs.Texts.{world_of}
-use Rattle.swreq_world.specs.Worlds.{signature_at}
+use Rattle.swreq_valid.specs.swreq_derive.Derivation.Source.{Written as WrittenList}
+use Rattle.swreq_valid.specs.swreq_derive.Facts.{generic_params}
+use Rattle.swreq_valid.specs.swreq_symbols.Meaning.{facts_of}
+use Rattle.swreq_valid.specs.swreq_symbols.Texts.{world_of}
+use Rattle.swreq_valid.specs.swreq_world.Worlds.{signature_at}
 use Rattle.swreq_valid.specs.Built.{IsOnlyBuilt}
 use Rattle.swreq_machine.specs.Machines.{IsMachineOf, built_rules, list_of}
 use Rattle.swreq_machine.specs.OfSignatures.{signature_plan}

@@ -1,9 +1,9 @@
 use Rattle.std.proofs.Common.{◌≡◌, ◌∙◌, ap, sym, subst, subst₂, [], IsTrue}
-use Rattle.swreq_param.specs.Tables.{term_at}
-use Rattle.swreq_param.specs.Terms.{head, with_steps}
-use Rattle.swreq_param.specs.Terms.Term.{Generic}
-use Rattle.swreq_complete.specs.Complete.{IsComplete}
-use Rattle.swreq_symbols.specs.Texts.{world_of}
+use Rattle.swreq_valid.specs.swreq_param.Tables.{term_at}
+use Rattle.swreq_valid.specs.swreq_param.Terms.{head, with_steps}
+use Rattle.swreq_valid.specs.swreq_param.Terms.Term.{Generic}
+use Rattle.swreq_map.specs.swreq_complete.Complete.{IsComplete}
+use Rattle.swreq_valid.specs.swreq_symbols.Texts.{world_of}
 use Rattle.swreq_machine.specs.LeastTypes.{BeginsBy}
 use Rattle.swreq_valid.specs.Rounds.{last_rules}
 use Rattle.swreq_machine.proofs.Answering.{derivable_shown, valid_answer}

@@ -1,13 +1,13 @@
 use Rattle.std.proofs.Common.{subst₂, ◌↔◌, IsTrue}
 use Rattle.std.specs.Bool.{OnTrue}
-use Rattle.swreq_param.specs.Tables.{term_at}
-use Rattle.swreq_correspondence.specs.Shown.{ShowsValid}
-use Rattle.swreq_correspondence.specs.Symbols.{word_of}
-use Rattle.swreq_symbols.specs.Meaning.{facts_of, symbols_of}
-use Rattle.swreq_symbols.specs.Overs.{source_over}
-use Rattle.swreq_symbols.specs.declared.over.Over.TheVariants.{Signature}
-use Rattle.swreq_symbols.specs.Vanishing.{IsLeastBy, Links}
-use Rattle.swreq_world.specs.ByTable.{world_by}
+use Rattle.swreq_valid.specs.swreq_param.Tables.{term_at}
+use Rattle.swreq_valid.specs.swreq_correspondence.Shown.{ShowsValid}
+use Rattle.swreq_valid.specs.swreq_correspondence.Symbols.{word_of}
+use Rattle.swreq_valid.specs.swreq_symbols.Meaning.{facts_of, symbols_of}
+use Rattle.swreq_valid.specs.swreq_symbols.Overs.{source_over}
+use Rattle.swreq_valid.specs.swreq_symbols.declared.over.Over.TheVariants.{Signature}
+use Rattle.swreq_valid.specs.swreq_symbols.Vanishing.{IsLeastBy, Links}
+use Rattle.swreq_valid.specs.swreq_world.ByTable.{world_by}
 use Rattle.swreq_machine.proofs.Answering.{on_true}
 use Rattle.swreq_machine.proofs.machine.Machine.walk.Goals as goal
 

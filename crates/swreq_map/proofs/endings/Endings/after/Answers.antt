@@ -2,7 +2,7 @@ use Rattle.std.proofs.Common.{◌≡◌, ◌∙◌, ◌+◌, inl, inr, ap, sym, 
 use Rattle.std.proofs.lemmas.Bool.{cases_eq}
 use Rattle.std.proofs.lemmas.List.{get_or-drop}
 use Rattle.std.proofs.lemmas.Option.{slice_get-get_or}
-use Rattle.swreq_rule.specs.declared.rules.Rule.{Rule}
+use Rattle.swreq_complete.specs.swreq_rule.declared.rules.Rule.{Rule}
 use Rattle.swreq_map.proofs.endings.Endings.after.Goals as goal
 
 pub loop-k-preserved : goal.loop-k-preserved

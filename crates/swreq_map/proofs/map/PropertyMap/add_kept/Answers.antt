@@ -1,6 +1,6 @@
 use Rattle.std.proofs.Common.{◌≡◌, ◌++◌, inl, inr, Contains, List, sym, subst}
 use Rattle.std.proofs.lemmas.List.Elements.{Contains-append_left, Contains-append_right}
-use Rattle.swreq_word.specs.declared.symbols.Symbol.{Symbol}
+use Rattle.swreq_complete.specs.swreq_word.declared.symbols.Symbol.{Symbol}
 use Rattle.swreq_map.specs.Follows.{Follows, MapView}
 use Rattle.swreq_map.proofs.map.PropertyMap.add_kept.Goals as goal
 

@@ -1,6 +1,6 @@
 use Rattle.std.proofs.Common.{inl, inr, drop, sym, subst, arith}
 use Rattle.std.proofs.lemmas.Bool.{cases_eq}
-use Rattle.swreq_word.proofs.Cuts.{whole_rest}
+use Rattle.swreq_complete.proofs.swreq_word.Cuts.{whole_rest}
 use Rattle.swreq_map.specs.Follows.{IsKept}
 use Rattle.swreq_map.proofs.map.PropertyMap.candidates.Goals as goal
 

@@ -1,5 +1,5 @@
 use Rattle.std.proofs.Common.{ℕ, ◌<◌, ◌≤◌, Contains, drop}
-use Rattle.swreq_word.specs.declared.symbols.Symbol.{Symbol}
+use Rattle.swreq_complete.specs.swreq_word.declared.symbols.Symbol.{Symbol}
 use Rattle.swreq_map.specs.Follows.{IsKept}
 use Rattle.swreq_map.proofs.map.PropertyMap.candidates.Given as goal
 

@@ -2,7 +2,7 @@ use Rattle.std.proofs.Common.{◌-◌, ◌≤◌, ◌==◌, ℕ, length, drop, o
 use Rattle.std.proofs.lemmas.List.Filters.{dedup_is}
 use Rattle.std.proofs.lemmas.Map.Keys.{IsStrictlyIncreasing-dedup}
 use Rattle.std.specs.List.{dedup}
-use Rattle.swreq_word.specs.declared.symbols.Symbol.{Symbol}
+use Rattle.swreq_complete.specs.swreq_word.declared.symbols.Symbol.{Symbol}
 use Rattle.swreq_map.specs.Follows.{AreConforming, IsKept, IsMapOf, MapView}
 use Rattle.swreq_map.specs.Properties.{ArePropertiesOf}
 use Rattle.swreq_map.proofs.Finding.{all_conforming, sorted_conforming}

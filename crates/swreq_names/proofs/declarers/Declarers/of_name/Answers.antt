@@ -1,5 +1,5 @@
 use Rattle.std.proofs.Common.{◌↔◌, ℕ, List, [], get_or, Contains, subst, sym}
-use Rattle.swreq_lemmas.proofs.Members.{no_member}
+use Rattle.swreq_rank.proofs.swreq_lemmas.Members.{no_member}
 use Rattle.swreq_names.specs.Directories.{names_of}
 use Rattle.swreq_names.proofs.declarers.Declarers.of_name.Goals as goal
 

@@ -1,6 +1,6 @@
 use Rattle.std.proofs.Common.{ℕ, ◌-◌, take, drop, length, subst}
 use Rattle.std.proofs.lemmas.Result.{on_ok_weaker}
-use Rattle.swreq_word.proofs.Cuts.{whole_rest}
+use Rattle.swreq_rule.proofs.swreq_word.Cuts.{whole_rest}
 use Rattle.swreq_trie.specs.declared.spots.Spot.{Spot}
 use Rattle.swreq_trie.specs.declared.walk.Met.{Met}
 use Rattle.swreq_trie.specs.Marks.{Holds, IsListed}

@@ -1,6 +1,6 @@
 use Rattle.std.proofs.Common.{◌-◌, take, drop, length, sym, ◌∙◌, ap, subst}
 use Rattle.std.proofs.lemmas.List.{drop-take}
-use Rattle.swreq_word.proofs.Cuts.{whole_rest}
+use Rattle.swreq_rule.proofs.swreq_word.Cuts.{whole_rest}
 use Rattle.swreq_trie.specs.Stored.{NoneBegins, Shortest}
 use Rattle.swreq_trie.specs.Walk.{FirstEnd, TellsNoEnd}
 use Rattle.swreq_trie.proofs.Index.{none_begins, shortest}

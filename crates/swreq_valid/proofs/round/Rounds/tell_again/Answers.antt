@@ -1,9 +1,9 @@
 use Rattle.std.proofs.Common.{◌≡◌, ◌∙◌, ap, get_or, length, subst, sym, take, List, ℕ, OnOk, OnErr}
 use Rattle.std.proofs.lemmas.List.{take_all}
 use Rattle.std.proofs.lemmas.Result.{err_from_is_err_and}
-use Rattle.swreq_rule.specs.declared.rules.Rule.{Rule}
-use Rattle.swreq_watch.specs.Told.{GrewBy}
-use Rattle.swreq_watch.proofs.Told.{grew_none}
+use Rattle.swreq_complete.specs.swreq_rule.declared.rules.Rule.{Rule}
+use Rattle.swreq_complete.specs.swreq_watch.Told.{GrewBy}
+use Rattle.swreq_complete.proofs.swreq_watch.Told.{grew_none}
 use Rattle.swreq_complete.specs.Events.{events}
 use Rattle.swreq_valid.specs.Again.{TellsFront, TellsRound, events_of}
 use Rattle.swreq_valid.specs.Rounds.{RoundView}

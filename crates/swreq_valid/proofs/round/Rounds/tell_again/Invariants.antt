@@ -1,5 +1,5 @@
 use Rattle.std.proofs.Common.{take}
-use Rattle.swreq_watch.specs.Told.{GrewBy}
+use Rattle.swreq_complete.specs.swreq_watch.Told.{GrewBy}
 use Rattle.swreq_valid.specs.Again.{events_of}
 use Rattle.swreq_valid.proofs.round.Rounds.tell_again.Given as goal
 

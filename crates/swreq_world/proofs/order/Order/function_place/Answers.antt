@@ -1,5 +1,5 @@
 use Rattle.std.proofs.Common.{ℕ, ◌≡◌, None, Option, get_or, unwrap_or, ap, ◌∙◌, arith}
-use Rattle.swreq_names.specs.declared.signature.Signature.TheVariants.{Function}
+use Rattle.swreq_lexicon.specs.swreq_names.declared.signature.Signature.TheVariants.{Function}
 use Rattle.swreq_lowering.specs.Signatures.{place_in}
 use Rattle.swreq_world.proofs.Within.{place_within}
 use Rattle.swreq_world.proofs.order.Order.function_place.Goals as goal

@@ -1,8 +1,8 @@
 use Rattle.std.proofs.Common.{◌≤◌, List, ℕ, Some, refl, sym, subst, ap, ◌∙◌, [], length, get_or}
 use Rattle.swreq_lexicon.specs.Views.{LexiconView}
 use Rattle.swreq_lowering.specs.Signatures.{func_id}
-use Rattle.swreq_names.specs.Names.{NamesView}
-use Rattle.swreq_names.specs.declared.signature.Signature.{Signature}
+use Rattle.swreq_lexicon.specs.swreq_names.Names.{NamesView}
+use Rattle.swreq_lexicon.specs.swreq_names.declared.signature.Signature.{Signature}
 use Rattle.swreq_world.specs.Inside.{view_of}
 use Rattle.swreq_world.proofs.Looking.{found}
 use Rattle.swreq_world.proofs.Within.{found_small}

@@ -1,7 +1,7 @@
 use Rattle.std.proofs.Common.{Some, sym, ap, ◌∙◌, arith}
 use Rattle.swreq_lexicon.specs.Views.{LexiconView}
-use Rattle.swreq_names.specs.Spaces.{param_of}
-use Rattle.swreq_names.specs.Names.{NamesView}
+use Rattle.swreq_lexicon.specs.swreq_names.Spaces.{param_of}
+use Rattle.swreq_lexicon.specs.swreq_names.Names.{NamesView}
 use Rattle.swreq_lowering.proofs.Referring.{outer_below, own_below}
 use Rattle.swreq_world.proofs.world.World.find_param.Goals as goal
 

@@ -1,7 +1,7 @@
 use Rattle.std.proofs.Common.{List, None, refl, sym, ap, ◌∙◌}
 use Rattle.swreq_lexicon.specs.Views.{LexiconView}
 use Rattle.swreq_lowering.specs.Signatures.{func_id}
-use Rattle.swreq_names.specs.declared.signature.Signature.{Signature}
+use Rattle.swreq_lexicon.specs.swreq_names.declared.signature.Signature.{Signature}
 use Rattle.swreq_world.specs.Inside.{view_of}
 use Rattle.swreq_world.proofs.Looking.{found}
 use Rattle.swreq_world.proofs.world.World.find_top.Goals as goal
