@@ -8,7 +8,7 @@ use Rattle.swreq_param.specs.declared.ids.Step.{Step}
 use Rattle.swreq_param.specs.declared.ids.Step.TheVariants.{Bound, Name}
 use Rattle.swreq_param.specs.Terms.{Term}
 use Rattle.swreq_param.specs.Terms.Term.{Member}
-use Rattle.swreq_param.specs.Tables.{IsOf, term_at, AreDistinct}
+use Rattle.swreq_param.specs.Tables.{term_at, AreDistinct}
 use Rattle.swreq_derive.specs.declared.requirements.Requirement.{Requirement}
 use Rattle.swreq_derive.specs.declared.requirements.Requirement.TheVariants.{Conf, Layout, Same}
 use Rattle.swreq_derive.specs.declared.requirements.Statement.{Statement}
@@ -146,7 +146,7 @@ same_protocol terms p q t f u e g =
 -- From [U : P] and [T == U] the members T.X and U.X are equal, where X is what P makes of a declared name.
 same_member_given : (terms : List Term) (m : IdFacts) (member : AssocId → Step) (p : ProtoId) (a : NameId) (x : AssocId)
     (f s c : Statement) (t u l r : TermId)
-    → AreDistinct terms → IsStatementOver terms m f → IsOf terms u → s ≡ Holds (Same t u) → c ≡ Holds (Same l r)
+    → AreDistinct terms → IsStatementOver terms m f → IsStatementOver terms m s → s ≡ Holds (Same t u) → c ≡ Holds (Same l r)
     → IsDeclared m p a x → ((d : AssocId) → IsDeclared m p a d → member x ≡ member d)
     → ((f ≡ Holds (Conf u p)) × (term_at terms l ≡ Member (term_at terms t) (member x))
     × (term_at terms r ≡ Member (term_at terms u) (member x)))
@@ -169,12 +169,13 @@ same_member_given terms m member p a x f s c t u l r d h o e g k one =
           let v : member x ≡ member w.2 = one w.2 w.5 in
           let y = conf_shape terms f w.1 p (cc) in
           let oy : IsStatementOver terms m (Holds (Conf y.0 p)) = subst (λ z. IsStatementOver terms m z) y.1 h in
-          (y.1 ∙ ap (λ z. Holds (Conf z p)) (d y.0 u oy.0 o (let z = y.2 in cc)), (cc), cc)),
+          let ou : IsStatementOver terms m (Holds (Same t u)) = subst (λ z. IsStatementOver terms m z) e o in
+          (y.1 ∙ ap (λ z. Holds (Conf z p)) (d y.0 u oy.0 ou.1 (let z = y.2 in cc)), (cc), cc)),
     )
 
 pub same_name_given : (terms : List Term) (m : IdFacts) (p : ProtoId) (a : NameId) (x : AssocId) (f s c : Statement) (t u l r : TermId)
     → AreDistinct terms
-    → IsStatementOver terms m f → IsOf terms u
+    → IsStatementOver terms m f → IsStatementOver terms m s
     → s ≡ Holds (Same t u) → c ≡ Holds (Same l r) → IsDeclared m p a x
     → ((f ≡ Holds (Conf u p)) × (term_at terms l ≡ Member (term_at terms t) (Name a))
     × (term_at terms r ≡ Member (term_at terms u) (Name a))) ↔ IsGiven terms m (Rule.SameName p a) (f ∷ s ∷ []) c
@@ -183,7 +184,7 @@ same_name_given terms m p a x f s c t u l r d h o e g k =
 
 pub same_decl_given : (terms : List Term) (m : IdFacts) (p : ProtoId) (a : NameId) (x : AssocId) (f s c : Statement) (t u l r : TermId)
     → AreDistinct terms → AreOneToOne m.associated_types
-    → IsStatementOver terms m f → IsOf terms u
+    → IsStatementOver terms m f → IsStatementOver terms m s
     → s ≡ Holds (Same t u) → c ≡ Holds (Same l r) → IsDeclared m p a x
     → ((f ≡ Holds (Conf u p)) × (term_at terms l ≡ Member (term_at terms t) (Bound x))
     × (term_at terms r ≡ Member (term_at terms u) (Bound x))) ↔ IsGiven terms m (Rule.SameDecl p a) (f ∷ s ∷ []) c

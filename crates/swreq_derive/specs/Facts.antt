@@ -1,5 +1,6 @@
 -- What is known of a list of requirements and of the protocols of its text, over the ids of a table of type parameters.
 use Rattle.std.specs.Prelude.{◌≡◌, ℕ, zero, suc, ◌<◌, List, [], ◌∷◌, ◌++◌, Contains, map}
+use Rattle.std.specs.Coded.{le_prop}
 use Rattle.swreq_param.specs.declared.ids.AssocId.{AssocId}
 use Rattle.swreq_param.specs.declared.ids.NameId.{NameId}
 use Rattle.swreq_param.specs.declared.ids.ParamId.{ParamId}
@@ -80,3 +81,16 @@ IsStatementOver terms m (Holds r) = IsRequirementOver terms m r
 pub record AreFactsOf (terms : List Term) (m : IdFacts) : Type 0 where
   pub list : (r : Requirement) → Contains m.written r → IsRequirementOver terms m r
   pub protocols : (p : ProtoId) (r : Requirement) → p.rank < m.protocols → Contains (m.of_protocol p) r → IsRequirementOver terms m r
+
+-- ---- each of these facts has one proof at most
+
+pub IsRequirementOver-prop : (terms : List Term) (m : IdFacts) (r : Requirement) → IsProp (IsRequirementOver terms m r)
+IsRequirementOver-prop terms m (Conf t p) = Prim.hlevel le_prop
+IsRequirementOver-prop terms m (Layout t) = Prim.hlevel le_prop
+IsRequirementOver-prop terms m (Same t u) = Prim.hlevel le_prop
+
+pub IsStatementOver-prop : (terms : List Term) (m : IdFacts) (st : Statement) → IsProp (IsStatementOver terms m st)
+IsStatementOver-prop terms m (Valid t) = Prim.hlevel le_prop
+IsStatementOver-prop terms m (Holds r) = IsRequirementOver-prop terms m r
+
+pub ruleset over = (IsRequirementOver-prop, IsStatementOver-prop, le_prop)

@@ -10,7 +10,7 @@ pub mod Worked
 pub mod Plain
 pub mod Facts
 pub mod Instances
-pub mod Inferences
+pub mod Sides
 pub mod Lines
 pub mod Paths
 pub mod Kept

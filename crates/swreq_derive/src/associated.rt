@@ -1,99 +1,67 @@
 //! Whether the rules on what a protocol declares give a statement: ASSOCNAME, ASSOCDECL, ASSOCBIND,
 //! SAMENAME and SAMEDECL.
 ghost use Rattle.std.specs.Prelude.{◌↔◌, ◌<◌, [], ◌∷◌, IsTrue};
-ghost use Rattle.swreq_param.specs.Tables.{AreDistinct};
 ghost use Rattle.swreq_derive.specs.declared.lines.DerivRule.TheVariants as Rule;
-ghost use Rattle.swreq_derive.specs.{Facts.{IsStatementOver}, Inferences.{IsInferenceOver}, Lines.{IsGiven}};
+ghost use Rattle.swreq_derive.specs.Lines.{IsGiven};
 
 use crate::comparing::{Sides, are_members, is_member};
-use crate::instances::Inference;
+use crate::inference::{BinaryInference, UnaryInference};
 use crate::known::Facts;
-use crate::requirements::Statement;
 use crate::shapes::is_conformance;
-use swreq_param::{NameId, ParamTable, ProtoId, Step};
+use swreq_param::{NameId, ProtoId, Step};
 
-pub(crate) fn assoc_name<F: Facts>(
-    facts: &F,
-    table: &ParamTable,
-    p: ProtoId,
-    a: NameId,
-    first: Statement,
-    conclusion: Statement,
-) -> bool
-    requires distinct { AreDistinct table.now }
-    requires proto { p.rank < (F.meaning facts.now).protocols }
-    requires name { a.rank < (F.meaning facts.now).names }
-    requires first { IsStatementOver table.now (F.meaning facts.now) first }
-    requires conclusion { IsStatementOver table.now (F.meaning facts.now) conclusion }
-    ensures { IsTrue result
-        ↔ IsGiven table.now (F.meaning facts.now) (Rule.AssocName p a) (first ∷ []) conclusion }
+pub(crate) fn assoc_name<F: Facts>(i: &UnaryInference<F>, p: ProtoId, a: NameId) -> bool
+    requires proto { p.rank < (F.meaning i.now.facts.now).protocols }
+    requires name { a.rank < (F.meaning i.now.facts.now).names }
+    ensures { IsTrue result ↔ IsGiven i.now.table.now (F.meaning i.now.facts.now)
+        (Rule.AssocName p a) (i.now.premise ∷ []) i.now.conclusion }
 {
-    match first.as_conf() {
+    match i.premise.as_conf() {
         None => false,
-        Some((t, q)) => match conclusion.as_valid() {
+        Some((t, q)) => match i.conclusion.as_valid() {
             None => false,
-            Some(v) => match facts.declared(p, a) {
+            Some(v) => match i.facts.declared(p, a) {
                 None => false,
-                Some(_) => q == p && is_member(table, v, t, Step::Name(a)),
+                Some(_) => q == p && is_member(i.table, v, t, Step::Name(a)),
             },
         },
     }
 }
 
-pub(crate) fn assoc_decl<F: Facts>(
-    facts: &F,
-    table: &ParamTable,
-    p: ProtoId,
-    a: NameId,
-    first: Statement,
-    conclusion: Statement,
-) -> bool
-    requires distinct { AreDistinct table.now }
-    requires proto { p.rank < (F.meaning facts.now).protocols }
-    requires name { a.rank < (F.meaning facts.now).names }
-    requires first { IsStatementOver table.now (F.meaning facts.now) first }
-    requires conclusion { IsStatementOver table.now (F.meaning facts.now) conclusion }
-    ensures { IsTrue result
-        ↔ IsGiven table.now (F.meaning facts.now) (Rule.AssocDecl p a) (first ∷ []) conclusion }
+pub(crate) fn assoc_decl<F: Facts>(i: &UnaryInference<F>, p: ProtoId, a: NameId) -> bool
+    requires proto { p.rank < (F.meaning i.now.facts.now).protocols }
+    requires name { a.rank < (F.meaning i.now.facts.now).names }
+    ensures { IsTrue result ↔ IsGiven i.now.table.now (F.meaning i.now.facts.now)
+        (Rule.AssocDecl p a) (i.now.premise ∷ []) i.now.conclusion }
 {
-    match first.as_conf() {
+    match i.premise.as_conf() {
         None => false,
-        Some((t, q)) => match conclusion.as_valid() {
+        Some((t, q)) => match i.conclusion.as_valid() {
             None => false,
-            Some(v) => match facts.declared(p, a) {
+            Some(v) => match i.facts.declared(p, a) {
                 None => false,
-                Some(d) => q == p && is_member(table, v, t, Step::Bound(d)),
+                Some(d) => q == p && is_member(i.table, v, t, Step::Bound(d)),
             },
         },
     }
 }
 
-pub(crate) fn assoc_bind<F: Facts>(
-    facts: &F,
-    table: &ParamTable,
-    p: ProtoId,
-    a: NameId,
-    first: Statement,
-    conclusion: Statement,
-) -> bool
-    requires distinct { AreDistinct table.now }
-    requires proto { p.rank < (F.meaning facts.now).protocols }
-    requires name { a.rank < (F.meaning facts.now).names }
-    requires first { IsStatementOver table.now (F.meaning facts.now) first }
-    requires conclusion { IsStatementOver table.now (F.meaning facts.now) conclusion }
-    ensures { IsTrue result
-        ↔ IsGiven table.now (F.meaning facts.now) (Rule.AssocBind p a) (first ∷ []) conclusion }
+pub(crate) fn assoc_bind<F: Facts>(i: &UnaryInference<F>, p: ProtoId, a: NameId) -> bool
+    requires proto { p.rank < (F.meaning i.now.facts.now).protocols }
+    requires name { a.rank < (F.meaning i.now.facts.now).names }
+    ensures { IsTrue result ↔ IsGiven i.now.table.now (F.meaning i.now.facts.now)
+        (Rule.AssocBind p a) (i.now.premise ∷ []) i.now.conclusion }
 {
-    match first.as_conf() {
+    match i.premise.as_conf() {
         None => false,
-        Some((t, q)) => match conclusion.as_same() {
+        Some((t, q)) => match i.conclusion.as_same() {
             None => false,
-            Some((left, right)) => match facts.declared(p, a) {
+            Some((left, right)) => match i.facts.declared(p, a) {
                 None => false,
                 Some(d) => {
                     q == p
                         && are_members(
-                            table,
+                            i.table,
                             Sides { left, right },
                             Sides { left: t, right: t },
                             Step::Bound(d),
@@ -105,30 +73,22 @@ pub(crate) fn assoc_bind<F: Facts>(
     }
 }
 
-pub(crate) fn same_name<F: Facts>(
-    facts: &F,
-    table: &ParamTable,
-    p: ProtoId,
-    a: NameId,
-    i: Inference,
-) -> bool
-    requires distinct { AreDistinct table.now }
-    requires proto { p.rank < (F.meaning facts.now).protocols }
-    requires name { a.rank < (F.meaning facts.now).names }
-    requires inference { IsInferenceOver table.now (F.meaning facts.now) i }
-    ensures { IsTrue result ↔ IsGiven table.now (F.meaning facts.now) (Rule.SameName p a)
-        (i.first ∷ i.second ∷ []) i.conclusion }
+pub(crate) fn same_name<F: Facts>(i: &BinaryInference<F>, p: ProtoId, a: NameId) -> bool
+    requires proto { p.rank < (F.meaning i.now.facts.now).protocols }
+    requires name { a.rank < (F.meaning i.now.facts.now).names }
+    ensures { IsTrue result ↔ IsGiven i.now.table.now (F.meaning i.now.facts.now)
+        (Rule.SameName p a) (i.now.first ∷ i.now.second ∷ []) i.now.conclusion }
 {
     match i.second.as_same() {
         None => false,
         Some((t, u)) => match i.conclusion.as_same() {
             None => false,
-            Some((left, right)) => match facts.declared(p, a) {
+            Some((left, right)) => match i.facts.declared(p, a) {
                 None => false,
                 Some(_) => {
                     is_conformance(i.first, u, p)
                         && are_members(
-                            table,
+                            i.table,
                             Sides { left, right },
                             Sides { left: t, right: u },
                             Step::Name(a),
@@ -140,30 +100,22 @@ pub(crate) fn same_name<F: Facts>(
     }
 }
 
-pub(crate) fn same_decl<F: Facts>(
-    facts: &F,
-    table: &ParamTable,
-    p: ProtoId,
-    a: NameId,
-    i: Inference,
-) -> bool
-    requires distinct { AreDistinct table.now }
-    requires proto { p.rank < (F.meaning facts.now).protocols }
-    requires name { a.rank < (F.meaning facts.now).names }
-    requires inference { IsInferenceOver table.now (F.meaning facts.now) i }
-    ensures { IsTrue result ↔ IsGiven table.now (F.meaning facts.now) (Rule.SameDecl p a)
-        (i.first ∷ i.second ∷ []) i.conclusion }
+pub(crate) fn same_decl<F: Facts>(i: &BinaryInference<F>, p: ProtoId, a: NameId) -> bool
+    requires proto { p.rank < (F.meaning i.now.facts.now).protocols }
+    requires name { a.rank < (F.meaning i.now.facts.now).names }
+    ensures { IsTrue result ↔ IsGiven i.now.table.now (F.meaning i.now.facts.now)
+        (Rule.SameDecl p a) (i.now.first ∷ i.now.second ∷ []) i.now.conclusion }
 {
     match i.second.as_same() {
         None => false,
         Some((v, w)) => match i.conclusion.as_same() {
             None => false,
-            Some((left, right)) => match facts.declared(p, a) {
+            Some((left, right)) => match i.facts.declared(p, a) {
                 None => false,
                 Some(d) => {
                     is_conformance(i.first, w, p)
                         && are_members(
-                            table,
+                            i.table,
                             Sides { left, right },
                             Sides { left: v, right: w },
                             Step::Bound(d),

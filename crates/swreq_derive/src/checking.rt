@@ -3,7 +3,8 @@ ghost use Rattle.std.specs.Prelude.{◌≡◌, ◌↔◌, ℕ, Some, IsOk, IfErr
 ghost use Rattle.swreq_param.specs.Tables.{AreDistinct};
 ghost use Rattle.swreq_derive.specs.{declared.lines.Line.{Line}, Derivation.{BookDerivable}, Facts.{statement_of, term_facts, term_source, AreFactsOf}, Lines.{AreDerived, IsFirstNotDerived, IsNext, stated_by, AreLinesOf, IsLineOf}};
 
-use crate::instances::{Inference, gives_from_none, gives_from_one, gives_from_two};
+use crate::inference::{BinaryInference, NullaryInference, UnaryInference};
+use crate::instances::{gives_from_none, gives_from_one, gives_from_two};
 use crate::known::Facts;
 use crate::lines::{BadLine, Line};
 use crate::premises::{Premises, read_premises};
@@ -43,16 +44,34 @@ fn follows<F: Facts>(facts: &F, table: &ParamTable, earlier: &[Line], line: &Lin
     ensures { IsTrue result
         ↔ IsNext table.now (F.meaning facts.now) (stated_by earlier.now) line.now }
 {
+    let conclusion = line.statement;
     match read_premises(earlier, line.premises.items()) {
-        Premises::Zero => gives_from_none(facts, table, line.rule, line.statement),
-        Premises::One(first) => gives_from_one(facts, table, line.rule, first, line.statement),
+        Premises::Zero => {
+            let i = NullaryInference {
+                facts,
+                table,
+                conclusion,
+            };
+            gives_from_none(&i, line.rule)
+        }
+        Premises::One(premise) => {
+            let i = UnaryInference {
+                facts,
+                table,
+                premise,
+                conclusion,
+            };
+            gives_from_one(&i, line.rule)
+        }
         Premises::Two(first, second) => {
-            let i = Inference {
+            let i = BinaryInference {
+                facts,
+                table,
                 first,
                 second,
-                conclusion: line.statement,
+                conclusion,
             };
-            gives_from_two(facts, table, line.rule, i)
+            gives_from_two(&i, line.rule)
         }
         Premises::Other => false,
     }

@@ -1,7 +1,7 @@
 //! Members of type parameters, and type parameters with another for `Self`, by their ids.
 ghost use Rattle.std.specs.Prelude.{◌≡◌, ◌↔◌, IsTrue};
 ghost use Rattle.swreq_param.specs.{Terms.Term.{Member}, Tables.{IsOf, term_at, AreDistinct}};
-ghost use Rattle.swreq_derive.specs.{Derivation.{for_self}, Inferences.{AreSidesOf}};
+ghost use Rattle.swreq_derive.specs.{Derivation.{for_self}, Sides.{AreSidesOf}};
 
 use swreq_param::{ParamTable, Step, TermId};
 
@@ -53,7 +53,8 @@ pub(crate) fn is_for_self(table: &ParamTable, t: TermId, u: TermId, v: TermId) -
     }
 }
 
-/// Whether the sides are the members of these bases, the left with the first step and the right with the second.
+/// Whether the sides are the members of these bases, the left with the first step and the right
+/// with the second.
 pub(crate) fn are_members(
     table: &ParamTable,
     sides: Sides,

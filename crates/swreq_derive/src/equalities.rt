@@ -1,123 +1,62 @@
 //! Whether the rules of equality give a statement: REFLEX, SYMM, TRANS, SAMECONF and SAMELAYOUT.
-ghost use Rattle.std.specs.Prelude.{◌↔◌, List, [], ◌∷◌, IsTrue};
-ghost use Rattle.swreq_param.specs.{Terms.{Term}, Tables.{AreDistinct}};
+ghost use Rattle.std.specs.Prelude.{◌↔◌, [], ◌∷◌, IsTrue};
 ghost use Rattle.swreq_derive.specs.declared.lines.DerivRule.TheVariants as Rule;
-ghost use Rattle.swreq_derive.specs.{Facts.{IsStatementOver, IdFacts}, Lines.{IsGiven}};
+ghost use Rattle.swreq_derive.specs.Lines.{IsGiven};
 
-use crate::requirements::{Requirement, Statement};
-use crate::shapes::is_same;
+use crate::inference::{BinaryInference, UnaryInference};
+use crate::known::Facts;
+use crate::shapes::{is_conformance, is_equality, is_layout};
 use swreq_param::ProtoId;
 
-pub(crate) fn reflex(first: Statement, conclusion: Statement) -> bool
-    ensures { (terms : List Term) (m : IdFacts) → AreDistinct terms
-        → IsStatementOver terms m first → IsStatementOver terms m conclusion
-        → IsTrue result ↔ IsGiven terms m Rule.Reflex (first ∷ []) conclusion }
+pub(crate) fn reflex<F: Facts>(i: &UnaryInference<F>) -> bool
+    ensures { IsTrue result ↔ IsGiven i.now.table.now (F.meaning i.now.facts.now)
+        Rule.Reflex (i.now.premise ∷ []) i.now.conclusion }
 {
-    match first.as_valid() {
+    match i.premise.as_valid() {
         None => false,
-        Some(t) => is_same(
-            conclusion,
-            Statement::Holds {
-                r: Requirement::Same { left: t, right: t },
-            },
-        ),
+        Some(t) => is_equality(i.conclusion, t, t),
     }
 }
 
-pub(crate) fn symm(first: Statement, conclusion: Statement) -> bool
-    ensures { (terms : List Term) (m : IdFacts) → AreDistinct terms
-        → IsStatementOver terms m first → IsStatementOver terms m conclusion
-        → IsTrue result ↔ IsGiven terms m Rule.Symm (first ∷ []) conclusion }
+pub(crate) fn symm<F: Facts>(i: &UnaryInference<F>) -> bool
+    ensures { IsTrue result ↔ IsGiven i.now.table.now (F.meaning i.now.facts.now)
+        Rule.Symm (i.now.premise ∷ []) i.now.conclusion }
 {
-    match first.as_same() {
+    match i.premise.as_same() {
         None => false,
-        Some((t, u)) => is_same(
-            conclusion,
-            Statement::Holds {
-                r: Requirement::Same { left: u, right: t },
-            },
-        ),
+        Some((t, u)) => is_equality(i.conclusion, u, t),
     }
 }
 
-pub(crate) fn trans(first: Statement, second: Statement, conclusion: Statement) -> bool
-    ensures { (terms : List Term) (m : IdFacts) → AreDistinct terms
-        → IsStatementOver terms m first → IsStatementOver terms m second
-        → IsStatementOver terms m conclusion
-        → IsTrue result ↔ IsGiven terms m Rule.Trans (first ∷ second ∷ []) conclusion }
+pub(crate) fn trans<F: Facts>(i: &BinaryInference<F>) -> bool
+    ensures { IsTrue result ↔ IsGiven i.now.table.now (F.meaning i.now.facts.now)
+        Rule.Trans (i.now.first ∷ i.now.second ∷ []) i.now.conclusion }
 {
-    match first.as_same() {
+    match i.first.as_same() {
         None => false,
-        Some((t, u)) => match second.as_same() {
+        Some((t, u)) => match i.second.as_same() {
             None => false,
-            Some((w, v)) => {
-                u == w
-                    && is_same(
-                        conclusion,
-                        Statement::Holds {
-                            r: Requirement::Same { left: t, right: v },
-                        },
-                    )
-            }
+            Some((w, v)) => u == w && is_equality(i.conclusion, t, v),
         },
     }
 }
 
-pub(crate) fn same_conf(
-    p: ProtoId,
-    first: Statement,
-    second: Statement,
-    conclusion: Statement,
-) -> bool
-    ensures { (terms : List Term) (m : IdFacts) → AreDistinct terms
-        → IsStatementOver terms m first → IsStatementOver terms m second
-        → IsStatementOver terms m conclusion
-        → IsTrue result ↔ IsGiven terms m (Rule.SameConf p) (first ∷ second ∷ []) conclusion }
+pub(crate) fn same_conf<F: Facts>(i: &BinaryInference<F>, p: ProtoId) -> bool
+    ensures { IsTrue result ↔ IsGiven i.now.table.now (F.meaning i.now.facts.now)
+        (Rule.SameConf p) (i.now.first ∷ i.now.second ∷ []) i.now.conclusion }
 {
-    match second.as_same() {
+    match i.second.as_same() {
         None => false,
-        Some((t, u)) => {
-            is_same(
-                first,
-                Statement::Holds {
-                    r: Requirement::Conf {
-                        subject: u,
-                        proto: p,
-                    },
-                },
-            ) && is_same(
-                conclusion,
-                Statement::Holds {
-                    r: Requirement::Conf {
-                        subject: t,
-                        proto: p,
-                    },
-                },
-            )
-        }
+        Some((t, u)) => is_conformance(i.first, u, p) && is_conformance(i.conclusion, t, p),
     }
 }
 
-pub(crate) fn same_layout(first: Statement, second: Statement, conclusion: Statement) -> bool
-    ensures { (terms : List Term) (m : IdFacts) → AreDistinct terms
-        → IsStatementOver terms m first → IsStatementOver terms m second
-        → IsStatementOver terms m conclusion
-        → IsTrue result ↔ IsGiven terms m Rule.SameLayout (first ∷ second ∷ []) conclusion }
+pub(crate) fn same_layout<F: Facts>(i: &BinaryInference<F>) -> bool
+    ensures { IsTrue result ↔ IsGiven i.now.table.now (F.meaning i.now.facts.now)
+        Rule.SameLayout (i.now.first ∷ i.now.second ∷ []) i.now.conclusion }
 {
-    match second.as_same() {
+    match i.second.as_same() {
         None => false,
-        Some((t, u)) => {
-            is_same(
-                first,
-                Statement::Holds {
-                    r: Requirement::Layout { subject: u },
-                },
-            ) && is_same(
-                conclusion,
-                Statement::Holds {
-                    r: Requirement::Layout { subject: t },
-                },
-            )
-        }
+        Some((t, u)) => is_layout(i.first, u) && is_layout(i.conclusion, t),
     }
 }

@@ -6,6 +6,7 @@ mod associated;
 mod checking;
 mod comparing;
 mod equalities;
+mod inference;
 mod instances;
 mod known;
 pub mod laws;

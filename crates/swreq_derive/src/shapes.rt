@@ -101,6 +101,28 @@ pub(crate) fn is_conformance(st: Statement, t: TermId, p: ProtoId) -> bool
     )
 }
 
+pub(crate) fn is_layout(st: Statement, t: TermId) -> bool
+    ensures { IsTrue result ↔ (st ≡ Holds (Layout t)) }
+{
+    is_same(
+        st,
+        Statement::Holds {
+            r: Requirement::Layout { subject: t },
+        },
+    )
+}
+
+pub(crate) fn is_equality(st: Statement, t: TermId, u: TermId) -> bool
+    ensures { IsTrue result ↔ (st ≡ Holds (Same t u)) }
+{
+    is_same(
+        st,
+        Statement::Holds {
+            r: Requirement::Same { left: t, right: u },
+        },
+    )
+}
+
 pub(crate) fn are_same_protocols(p: ProtoId, q: ProtoId, r: ProtoId, s: ProtoId) -> bool
     ensures { IsTrue result ↔ ((p ≡ q) × (r ≡ s)) }
 {

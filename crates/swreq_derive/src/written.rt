@@ -1,14 +1,13 @@
 //! Whether the rules that take nothing give a statement: GENERIC, CONF, SAME and LAYOUT.
 ghost use Rattle.std.specs.Prelude.{◌≡◌, ◌↔◌, [], IsTrue};
-ghost use Rattle.swreq_param.specs.Tables.{AreDistinct};
 ghost use Rattle.swreq_derive.specs.{declared.requirements.Requirement.{Requirement}, declared.requirements.Statement.TheVariants.{Holds}};
 ghost use Rattle.swreq_derive.specs.declared.lines.DerivRule.TheVariants as Rule;
-ghost use Rattle.swreq_derive.specs.{Facts.{IsStatementOver, AreFactsOf}, Instances.{HasNumber}, Lines.{IsGiven}};
+ghost use Rattle.swreq_derive.specs.{Instances.{HasNumber}, Lines.{IsGiven}};
 
+use crate::inference::NullaryInference;
 use crate::known::Facts;
 use crate::requirements::{Requirement, Statement};
 use crate::shapes::{is_same, requirement_at};
-use swreq_param::ParamTable;
 
 /// Whether the statement is the requirement of the list with this number.
 pub(crate) fn is_listed(list: &[Requirement], number: u32, conclusion: Statement) -> bool
@@ -21,52 +20,45 @@ pub(crate) fn is_listed(list: &[Requirement], number: u32, conclusion: Statement
     }
 }
 
-pub(crate) fn generic<F: Facts>(facts: &F, table: &ParamTable, conclusion: Statement) -> bool
-    requires conclusion { IsStatementOver table.now (F.meaning facts.now) conclusion }
-    ensures { IsTrue result ↔ IsGiven table.now (F.meaning facts.now) Rule.Generic [] conclusion }
+pub(crate) fn generic<F: Facts>(i: &NullaryInference<F>) -> bool
+    ensures { IsTrue result
+        ↔ IsGiven i.now.table.now (F.meaning i.now.facts.now) Rule.Generic [] i.now.conclusion }
 {
-    match conclusion.as_valid() {
+    match i.conclusion.as_valid() {
         None => false,
-        Some(t) => match table.split(t) {
+        Some(t) => match i.table.split(t) {
             Some(_) => false,
-            None => facts.params().has(table.head(t)),
+            None => i.facts.params().has(i.table.head(t)),
         },
     }
 }
 
-pub(crate) fn conf<F: Facts>(facts: &F, table: &ParamTable, n: u32, conclusion: Statement) -> bool
-    requires distinct { AreDistinct table.now }
-    requires facts { AreFactsOf table.now (F.meaning facts.now) }
-    requires conclusion { IsStatementOver table.now (F.meaning facts.now) conclusion }
-    ensures { IsTrue result ↔ IsGiven table.now (F.meaning facts.now) (Rule.Conf n) [] conclusion }
-{
-    match conclusion.as_conf() {
-        None => false,
-        Some(_) => is_listed(facts.written(), n, conclusion),
-    }
-}
-
-pub(crate) fn same<F: Facts>(facts: &F, table: &ParamTable, n: u32, conclusion: Statement) -> bool
-    requires distinct { AreDistinct table.now }
-    requires facts { AreFactsOf table.now (F.meaning facts.now) }
-    requires conclusion { IsStatementOver table.now (F.meaning facts.now) conclusion }
-    ensures { IsTrue result ↔ IsGiven table.now (F.meaning facts.now) (Rule.Same n) [] conclusion }
-{
-    match conclusion.as_same() {
-        None => false,
-        Some(_) => is_listed(facts.written(), n, conclusion),
-    }
-}
-
-pub(crate) fn layout<F: Facts>(facts: &F, table: &ParamTable, n: u32, conclusion: Statement) -> bool
-    requires distinct { AreDistinct table.now }
-    requires facts { AreFactsOf table.now (F.meaning facts.now) }
-    requires conclusion { IsStatementOver table.now (F.meaning facts.now) conclusion }
+pub(crate) fn conf<F: Facts>(i: &NullaryInference<F>, n: u32) -> bool
     ensures { IsTrue result
-        ↔ IsGiven table.now (F.meaning facts.now) (Rule.Layout n) [] conclusion }
+        ↔ IsGiven i.now.table.now (F.meaning i.now.facts.now) (Rule.Conf n) [] i.now.conclusion }
 {
-    match conclusion.as_layout() {
+    match i.conclusion.as_conf() {
         None => false,
-        Some(_) => is_listed(facts.written(), n, conclusion),
+        Some(_) => is_listed(i.facts.written(), n, i.conclusion),
+    }
+}
+
+pub(crate) fn same<F: Facts>(i: &NullaryInference<F>, n: u32) -> bool
+    ensures { IsTrue result
+        ↔ IsGiven i.now.table.now (F.meaning i.now.facts.now) (Rule.Same n) [] i.now.conclusion }
+{
+    match i.conclusion.as_same() {
+        None => false,
+        Some(_) => is_listed(i.facts.written(), n, i.conclusion),
+    }
+}
+
+pub(crate) fn layout<F: Facts>(i: &NullaryInference<F>, n: u32) -> bool
+    ensures { IsTrue result
+        ↔ IsGiven i.now.table.now (F.meaning i.now.facts.now) (Rule.Layout n) [] i.now.conclusion }
+{
+    match i.conclusion.as_layout() {
+        None => false,
+        Some(_) => is_listed(i.facts.written(), n, i.conclusion),
     }
 }

@@ -12,7 +12,7 @@ use Rattle.swreq_print.specs.Reading.{IsAssociated, TellsApart, in_name}
 use Rattle.swreq_lines.specs.Pieces.{IsWithout}
 use Rattle.swreq_lines.proofs.Digits.{apart}
 
-module _ (x : LexiconView) (names : TellsApart x) where
+module _ {x : LexiconView} (names : TellsApart x) where
   -- ---- bytes
 
   pub name_without : (byte : ℕ) → in_name byte ≡ false → (a : NameId) → IsName x a → IsWithout byte (name_text x a)

@@ -23,7 +23,7 @@ pub record Words (text name behind_name first behind_first second behind_second 
   pub two : ReadsTo 32 behind_name first behind_first
   pub three : ReadsTo 32 behind_first second behind_second
 
-module _ (x : LexiconView) (names : TellsApart x) (text name behind_name first behind_first second behind_second : Text)
+module _ {x : LexiconView} (names : TellsApart x) (text name behind_name first behind_first second behind_second : Text)
     (words : Words text name behind_name first behind_first second behind_second) (p : ProtoId) (a : NameId) (n m : ℕ)
     (as_protocol : (q : ProtoId) → IsProtocol x q → first ≡ protocol_name x q → p ≡ q)
     (as_name : (b : NameId) → IsName x b → second ≡ name_text x b → a ≡ b)
@@ -71,7 +71,7 @@ module _ (x : LexiconView) (names : TellsApart x) (text name behind_name first b
     with_protocol : (q : ProtoId) → IsProtocol x q → text ≡ w ++ (32 ∷ ((protocol_name x q ++ []) ++ tail))
         → (name ≡ w) × (p ≡ q) × (behind_first ≡ behind tail)
     with_protocol q h e =
-        let z = one_word w (protocol_name x q) iw (protocol_without x names 32 refl q h)
+        let z = one_word w (protocol_name x q) iw (protocol_without names 32 refl q h)
         (e ∙ ap (λ t. w ++ (32 ∷ (t ++ tail))) (append-nil (protocol_name x q))) in
         (z.0, as_protocol q h z.1, z.2)
 
@@ -81,7 +81,7 @@ module _ (x : LexiconView) (names : TellsApart x) (text name behind_name first b
     with_member q b h i e =
         let t = append_assoc (protocol_name x q) (32 ∷ (name_text x b ++ [])) tail
         ∙ ap (λ t. protocol_name x q ++ (32 ∷ (t ++ tail))) (append-nil (name_text x b)) in
-        let z = two_words w (protocol_name x q) (name_text x b) iw (protocol_without x names 32 refl q h) (name_without x names 32 refl b i)
+        let z = two_words w (protocol_name x q) (name_text x b) iw (protocol_without names 32 refl q h) (name_without names 32 refl b i)
         (e ∙ ap (λ t. w ++ (32 ∷ t)) t) in
         (z.0, as_protocol q h z.1, as_name b i z.2, z.3)
 
@@ -89,7 +89,7 @@ module _ (x : LexiconView) (names : TellsApart x) (text name behind_name first b
         → text ≡ w ++ (32 ∷ ((protocol_name x q ++ (32 ∷ decimal k)) ++ tail))
         → (name ≡ w) × (p ≡ q) × (m ≡ k) × (behind_second ≡ behind tail)
     with_requirement q k h short e =
-        let z = two_words w (protocol_name x q) (decimal k) iw (protocol_without x names 32 refl q h) (number_without 32 refl k short)
+        let z = two_words w (protocol_name x q) (decimal k) iw (protocol_without names 32 refl q h) (number_without 32 refl k short)
         (e ∙ ap (λ t. w ++ (32 ∷ t)) (append_assoc (protocol_name x q) (32 ∷ decimal k) tail)) in
         (z.0, as_protocol q h z.1, as_second k short z.2, z.3)
 

@@ -32,10 +32,10 @@ before_by word text piece behind_piece by rest tail w first second e =
     let j = second (codes "by") (32 ∷ tail) refl refl k.1 in
     (k.0, j.1)
 
-module _ (x : LexiconView) (names : TellsApart x) where
+module _ {x : LexiconView} (names : TellsApart x) where
   pub property_without : (p : Option ProtoId) → IfSome p (IsProtocol x) → IsWithout 32 (property_text x p)
   property_without None h = refl
-  property_without (Some p) h = protocol_without x names 32 refl p h
+  property_without (Some p) h = protocol_without names 32 refl p h
 
   -- ---- the mark
 
@@ -64,7 +64,7 @@ module _ (x : LexiconView) (names : TellsApart x) where
     parts : (t : Term) (m after : Text) → IsReadableType x t → IsWithout 32 m → text ≡ type_text x t ++ (32 ∷ (m ++ (32 ∷ after)))
         → (piece ≡ type_text x t) × (mark ≡ m) × (rest ≡ after)
     parts t m after h w e =
-        let k = first (type_text x t) (32 ∷ (m ++ (32 ∷ after))) (type_without x names t h) refl e in
+        let k = first (type_text x t) (32 ∷ (m ++ (32 ∷ after))) (type_without names t h) refl e in
         let j = second m (32 ∷ after) w refl k.1 in
         (k.0, j.0, j.1)
 

@@ -83,7 +83,7 @@ module _ (x : LexiconView) where
   pub by_steps_readable : (t : TypeParam) → IsReadableType x (as_term t) → AllByRecursion (IsStepOf x) t.steps
   by_steps_readable t h = (steps_of_text x (Generic t.head) t.steps h.1).1
 
-module _ (x : LexiconView) (names : TellsApart x) where
+module _ {x : LexiconView} (names : TellsApart x) where
   -- ---- one step
 
   bound_without : (byte : ℕ) → in_name byte ≡ false → not (91 == byte) ≡ true → not (93 == byte) ≡ true
@@ -92,14 +92,14 @@ module _ (x : LexiconView) (names : TellsApart x) where
   bound_without byte n l r d h =
       let p = names.pairs d h in
       let name : IsWithout byte (93 ∷ name_text x (pair_at x d).name) =
-      ap₂ (λ a b. a && b) r (name_without x names byte n (pair_at x d).name p.1) in
+      ap₂ (λ a b. a && b) r (name_without names byte n (pair_at x d).name p.1) in
       ap₂ (λ a b. a && b) l
       (without_append byte (protocol_name x (pair_at x d).proto) (93 ∷ name_text x (pair_at x d).name)
-      (protocol_without x names byte n (pair_at x d).proto p.0) name)
+      (protocol_without names byte n (pair_at x d).proto p.0) name)
 
   step_without : (byte : ℕ) → in_name byte ≡ false → not (91 == byte) ≡ true → not (93 == byte) ≡ true → (s : Step) → IsStepOf x s
       → IsWithout byte (behind (step_text x s))
-  step_without byte n l r (Name a) h = name_without x names byte n a h
+  step_without byte n l r (Name a) h = name_without names byte n a h
   step_without byte n l r (Bound d) h = bound_without byte n l r d h
 
   -- A name is not empty, nor is a step.
@@ -122,12 +122,12 @@ module _ (x : LexiconView) (names : TellsApart x) where
       where
         by : (s : Step) → IsStepOf x s → text ≡ behind (step_text x s) → Bound d ≡ s
         by (Name b) h e = absurd (empty_name b h
-            (sym (bracket (name_text x b) [] (name_without x names 91 refl b h) tt (e ∙ sym (append-nil (name_text x b)))).0 ∙ none))
+            (sym (bracket (name_text x b) [] (name_without names 91 refl b h) tt (e ∙ sym (append-nil (name_text x b)))).0 ∙ none))
         by (Bound q) h e =
             let k = bracket [] (91 ∷ (protocol_name x (pair_at x q).proto ++ (93 ∷ name_text x (pair_at x q).name))) refl refl e in
             let o = names.pairs q h in
             let j = close (protocol_name x (pair_at x q).proto) (93 ∷ name_text x (pair_at x q).name)
-            (protocol_without x names 93 refl (pair_at x q).proto o.0) refl k.1 in
+            (protocol_without names 93 refl (pair_at x q).proto o.0) refl k.1 in
             let proto_is = as_protocol (pair_at x q).proto o.0 j.0 in
             let name_is = as_name (pair_at x q).name o.1 j.1 in
             ap Bound (as_associated q h (λ i. record { proto = proto_is i; name = name_is i }))

@@ -4,3 +4,4 @@ pub mod LineTexts
 pub mod GoodLines
 pub mod Written
 pub mod Writing
+pub mod Reader

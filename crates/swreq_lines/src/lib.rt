@@ -13,6 +13,7 @@ mod of_text;
 mod pieces;
 mod premises;
 mod printing;
+mod reader;
 mod reading;
 mod rules;
 mod statements;

@@ -6,6 +6,7 @@ ghost use Rattle.swreq_print.specs.swreq_param.Tables.{Extends};
 ghost use Rattle.swreq_print.specs.Reading.{TellsApart};
 ghost use Rattle.swreq_lines.specs.{GoodLines.{AreLinesOf, IsRefused, IsTextOf}, LineTexts.{HasLineIds}, Written.{IsRefusedAt}, declared.lines.LinesErr.TheVariants.{Memory}};
 
+use crate::reader::Reader;
 use crate::reading::read_line;
 use std::alloc::{AllocError, AllocFailed, Global};
 use swreq_print::derive::Line;
@@ -39,20 +40,14 @@ impl<T: Drop> From<AllocFailed<T>> for LinesErr {
 }
 
 /// The line with this number, or why it is refused.
-fn good_line(
-    alloc: Global,
-    names: &Lexicon,
-    table: &mut ParamTable,
-    n: u32,
-    text: &[u8],
-) -> Result<Line, LinesErr>
-    requires { TellsApart names.now }
+fn good_line(reader: &Reader, table: &mut ParamTable, n: u32, text: &[u8]) -> Result<Line, LinesErr>
     ensures extends { Extends table.old table.new }
-    ensures ids { IfOk result (HasLineIds names.now table.new) }
-    ensures line { IfOk result (λ l. IsTextOf names.now n text.now (line_of table.new l)) }
-    ensures refused { IfErr result (IsRefusedAt names.now n text.now) }
+    ensures ids { IfOk result (HasLineIds reader.now.names.now table.new) }
+    ensures line { IfOk result
+        (λ l. IsTextOf reader.now.names.now n text.now (line_of table.new l)) }
+    ensures refused { IfErr result (IsRefusedAt reader.now.names.now n text.now) }
 {
-    read_line(alloc, names, table, n, text)?.ok_or(LinesErr::Syntax { line: n })
+    read_line(reader, table, n, text)?.ok_or(LinesErr::Syntax { line: n })
 }
 
 /// The lines of a derivation, numbered from 1, whose texts are all lines of the text up to its end, in order. The last line may lack
@@ -73,11 +68,12 @@ pub fn read_lines(
     ensures lines { IfOk result (λ lines. AreLinesOf names.now table.new text.now lines.items) }
     ensures refused { IfErr result (IsRefused names.now text.now) }
 {
+    let reader = Reader { alloc, names };
     let mut lines: Vec<Line> = Vec::new(alloc);
     let mut rest = text;
     while let Some(found) = first_line(rest) {
         let n = lines.len() as u32 + 1;
-        let line = good_line(alloc, names, table, n, found.line)?;
+        let line = good_line(&reader, table, n, found.line)?;
         lines.push(line)?;
         rest = found.rest;
     }

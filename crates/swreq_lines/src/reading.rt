@@ -3,7 +3,6 @@
 ghost use Rattle.std.specs.Prelude.{◌≡◌, ◌↔◌, ℕ, IfOk, IfSome, IsTrue, MatchOption};
 ghost use Rattle.swreq_print.specs.swreq_derive.{Instances.{TermLine}, Lines.{line_of}};
 ghost use Rattle.swreq_print.specs.swreq_param.Tables.{Extends};
-ghost use Rattle.swreq_print.specs.Reading.{TellsApart};
 ghost use Rattle.swreq_lines.specs.{GoodLines.{IsGood, IsReadableLine, IsShort, IsTextOf}, LineTexts.{HasLineIds, HasStatementIds, line_text}, Written.{line_meant}};
 
 use crate::interning::intern_statement;
@@ -11,6 +10,7 @@ use crate::of_text::has_line;
 use crate::pieces::next_word;
 use crate::premises::read_premises;
 use crate::printing::put_line;
+use crate::reader::Reader;
 use crate::rules::read_rule;
 use crate::statements::{WrittenStatement, read_statement};
 use std::alloc::{AllocError, Global};
@@ -28,19 +28,18 @@ pub(crate) struct WrittenLine {
 }
 
 /// What a line says if it is good. Of another it is any line.
-fn written_line(alloc: Global, names: &Lexicon, text: &[u8]) -> Result<WrittenLine, AllocError>
-    requires { TellsApart names.now }
-    ensures { (n : ℕ) (l : TermLine) → IsShort n → IsReadableLine names.now l
-        → text.now ≡ line_text names.now n l
+fn written_line(reader: &Reader, text: &[u8]) -> Result<WrittenLine, AllocError>
+    ensures { (n : ℕ) (l : TermLine) → IsShort n → IsReadableLine reader.now.names.now l
+        → text.now ≡ line_text reader.now.names.now n l
         → IfOk result (λ w. line_meant w ≡ l) }
 {
     // Two spaces, and the number.
     let first = next_word(text);
     let second = next_word(first.rest);
     let number = next_word(second.rest);
-    let stated = read_statement(alloc, names, number.rest)?;
-    let read = read_rule(names, stated.rest);
-    let premises = read_premises(alloc, read.rest)?;
+    let stated = read_statement(reader, number.rest)?;
+    let read = read_rule(reader, stated.rest);
+    let premises = read_premises(reader.alloc, read.rest)?;
     Ok(WrittenLine {
         rule: read.rule,
         premises,
@@ -82,25 +81,23 @@ fn is_text_of(
 
 /// The line with this number whose text it is, or None if and only if the text is not good.
 pub(crate) fn read_line(
-    alloc: Global,
-    names: &Lexicon,
+    reader: &Reader,
     table: &mut ParamTable,
     n: u32,
     text: &[u8],
 ) -> Result<Option<Line>, AllocError>
-    requires { TellsApart names.now }
     ensures extends { Extends table.old table.new }
-    ensures ids { IfOk result (λ o. IfSome o (HasLineIds names.now table.new)) }
+    ensures ids { IfOk result (λ o. IfSome o (HasLineIds reader.now.names.now table.new)) }
     ensures line { IfOk result (λ o. MatchOption o
-        (IsGood names.now n text.now → ⊥)
-        (λ l. IsTextOf names.now n text.now (line_of table.new l))) }
+        (IsGood reader.now.names.now n text.now → ⊥)
+        (λ l. IsTextOf reader.now.names.now n text.now (line_of table.new l))) }
 {
-    let written = written_line(alloc, names, text)?;
-    if !has_line(names, &written) {
+    let written = written_line(reader, text)?;
+    if !has_line(reader.names, &written) {
         return Ok(None);
     }
     let line = intern_line(table, written)?;
-    if is_text_of(alloc, names, table, n as usize, &line, text)? {
+    if is_text_of(reader.alloc, reader.names, table, n as usize, &line, text)? {
         Ok(Some(line))
     } else {
         Ok(None)

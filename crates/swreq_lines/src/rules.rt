@@ -2,14 +2,14 @@
 
 ghost use Rattle.std.specs.Prelude.{◌≡◌, ◌++◌};
 ghost use Rattle.swreq_print.specs.swreq_derive.declared.lines.DerivRule.{DerivRule};
-ghost use Rattle.swreq_print.specs.{Names.{Text}, Reading.{TellsApart}};
+ghost use Rattle.swreq_print.specs.Names.{Text};
 ghost use Rattle.swreq_lines.specs.{GoodLines.{HasReadableFields}, LineTexts.{fields_of, rule_name, rule_text}, Pieces.{Ends, behind}, Written.{behind_fields, rule_named, rules_with}};
 
 use crate::named::{name_named, protocol_named};
 use crate::numbers::read_number;
 use crate::pieces::next_word;
+use crate::reader::Reader;
 use swreq_print::derive::DerivRule;
-use swreq_print::lexicon::Lexicon;
 use swreq_print::param::{NameId, ProtoId};
 
 /// The protocol, the name and the number of a rule, where it has them.
@@ -137,18 +137,17 @@ fn behind_fields<'a>(fields: Fields, none: &'a [u8], one: &'a [u8], two: &'a [u8
 }
 
 /// The rule with which a text begins, and the text after the space that ends it.
-pub(crate) fn read_rule<'a>(names: &Lexicon, text: &'a [u8]) -> ReadRule<'a>
-    requires { TellsApart names.now }
-    ensures { (r : DerivRule) (tail : Text) → HasReadableFields names.now (fields_of r)
-        → Ends 32 tail → text.now ≡ rule_text names.now r ++ tail
+pub(crate) fn read_rule<'a>(reader: &Reader, text: &'a [u8]) -> ReadRule<'a>
+    ensures { (r : DerivRule) (tail : Text) → HasReadableFields reader.now.names.now (fields_of r)
+        → Ends 32 tail → text.now ≡ rule_text reader.now.names.now r ++ tail
         → (result.rule ≡ r) × (result.rest.now ≡ behind tail) }
 {
     let name = next_word(text);
     let first = next_word(name.rest);
     let second = next_word(first.rest);
     let rules = rules_with(
-        protocol_named(names, first.piece),
-        name_named(names, second.piece),
+        protocol_named(reader, first.piece),
+        name_named(reader, second.piece),
         read_number(first.piece),
         read_number(second.piece),
     );

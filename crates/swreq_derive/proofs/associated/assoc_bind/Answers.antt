@@ -8,18 +8,20 @@ returns-in-None-declared g c = ((λ e. absurd (true≢false (sym e))), λ w. abs
 
 pub returns-then-eq : goal.returns-then-eq
 returns-then-eq g c =
-    let w = assoc_bind_given c.args.table.now (g.F.Facts.meaning c.args.facts.now) c.args.p c.in-Some.q c.args.a
-    c.in-Some-declared.d c.args.first c.args.conclusion c.in-Some.t c.in-Some-as_same.left c.in-Some-as_same.right
-    (g.met.F.Facts.one_to_one c.args.facts.now) c.in-Some.ensures c.in-Some-as_same.ensures c.in-Some-declared.ensures in (
+    let i = c.args.i.now in
+    let w = assoc_bind_given i.table.now (g.F.Facts.meaning i.facts.now) c.args.p c.in-Some.q c.args.a
+    c.in-Some-declared.d i.premise i.conclusion c.in-Some.t c.in-Some-as_same.left c.in-Some-as_same.right
+    (g.met.F.Facts.one_to_one i.facts.now) c.in-Some.ensures c.in-Some-as_same.ensures c.in-Some-declared.ensures in (
       (λ e. w.0 (same_proto _ _ (sym c.eq.ensures ∙ c.if-eq.true), (c.are_members.ensures.0 e).0, (c.are_members.ensures.0 e).1)),
-      λ i. c.are_members.ensures.1 ((w.1 i).1, (w.1 i).2),
+      λ q. c.are_members.ensures.1 ((w.1 q).1, (w.1 q).2),
     )
 
 pub returns-else-eq : goal.returns-else-eq
 returns-else-eq g c =
-    let w = assoc_bind_given c.args.table.now (g.F.Facts.meaning c.args.facts.now) c.args.p c.in-Some.q c.args.a
-    c.in-Some-declared.d c.args.first c.args.conclusion c.in-Some.t c.in-Some-as_same.left c.in-Some-as_same.right
-    (g.met.F.Facts.one_to_one c.args.facts.now) c.in-Some.ensures c.in-Some-as_same.ensures c.in-Some-declared.ensures in (
+    let i = c.args.i.now in
+    let w = assoc_bind_given i.table.now (g.F.Facts.meaning i.facts.now) c.args.p c.in-Some.q c.args.a
+    c.in-Some-declared.d i.premise i.conclusion c.in-Some.t c.in-Some-as_same.left c.in-Some-as_same.right
+    (g.met.F.Facts.one_to_one i.facts.now) c.in-Some.ensures c.in-Some-as_same.ensures c.in-Some-declared.ensures in (
       (λ e. absurd (true≢false (sym e ∙ c.if-eq.false))),
-      λ i. absurd (true≢false (sym (proto_same _ _ (w.1 i).0) ∙ sym c.eq.ensures ∙ c.if-eq.false)),
+      λ q. absurd (true≢false (sym (proto_same _ _ (w.1 q).0) ∙ sym c.eq.ensures ∙ c.if-eq.false)),
     )

@@ -8,16 +8,18 @@ returns-in-None-declared g c = ((λ e. absurd (true≢false (sym e))), λ w. abs
 
 pub returns-then-eq : goal.returns-then-eq
 returns-then-eq g c =
-    let w = assoc_decl_given c.args.table.now (g.F.Facts.meaning c.args.facts.now) c.args.p c.in-Some.q
-    c.args.a c.in-Some-declared.d c.args.first c.args.conclusion c.in-Some.t c.in-Some-as_valid.v
-    (g.met.F.Facts.one_to_one c.args.facts.now) c.in-Some.ensures c.in-Some-as_valid.ensures c.in-Some-declared.ensures in
-    ((λ e. w.0 (same_proto _ _ (sym c.eq.ensures ∙ c.if-eq.true), c.is_member.ensures.0 e)), λ i. c.is_member.ensures.1 (w.1 i).1)
+    let i = c.args.i.now in
+    let w = assoc_decl_given i.table.now (g.F.Facts.meaning i.facts.now) c.args.p c.in-Some.q
+    c.args.a c.in-Some-declared.d i.premise i.conclusion c.in-Some.t c.in-Some-as_valid.v
+    (g.met.F.Facts.one_to_one i.facts.now) c.in-Some.ensures c.in-Some-as_valid.ensures c.in-Some-declared.ensures in
+    ((λ e. w.0 (same_proto _ _ (sym c.eq.ensures ∙ c.if-eq.true), c.is_member.ensures.0 e)), λ q. c.is_member.ensures.1 (w.1 q).1)
 
 pub returns-else-eq : goal.returns-else-eq
 returns-else-eq g c =
-    let w = assoc_decl_given c.args.table.now (g.F.Facts.meaning c.args.facts.now) c.args.p c.in-Some.q
-    c.args.a c.in-Some-declared.d c.args.first c.args.conclusion c.in-Some.t c.in-Some-as_valid.v
-    (g.met.F.Facts.one_to_one c.args.facts.now) c.in-Some.ensures c.in-Some-as_valid.ensures c.in-Some-declared.ensures in (
+    let i = c.args.i.now in
+    let w = assoc_decl_given i.table.now (g.F.Facts.meaning i.facts.now) c.args.p c.in-Some.q
+    c.args.a c.in-Some-declared.d i.premise i.conclusion c.in-Some.t c.in-Some-as_valid.v
+    (g.met.F.Facts.one_to_one i.facts.now) c.in-Some.ensures c.in-Some-as_valid.ensures c.in-Some-declared.ensures in (
       (λ e. absurd (true≢false (sym e ∙ c.if-eq.false))),
-      λ i. absurd (true≢false (sym (proto_same _ _ (w.1 i).0) ∙ sym c.eq.ensures ∙ c.if-eq.false)),
+      λ q. absurd (true≢false (sym (proto_same _ _ (w.1 q).0) ∙ sym c.eq.ensures ∙ c.if-eq.false)),
     )

@@ -1,5 +1,4 @@
-use Rattle.std.proofs.Common.{◌∙◌, sym, subst, true≢false}
-use Rattle.swreq_derive.specs.Facts.{IsStatementOver}
+use Rattle.std.proofs.Common.{◌∙◌, sym, true≢false}
 use Rattle.swreq_derive.proofs.ProtocolLemmas.{same_decl_given}
 use Rattle.swreq_derive.proofs.associated.same_decl.Goals as goal
 
@@ -8,22 +7,20 @@ returns-in-None-declared g c = ((λ e. absurd (true≢false (sym e))), λ w. abs
 
 pub returns-then-is_conformance : goal.returns-then-is_conformance
 returns-then-is_conformance g c =
-    let w = same_decl_given c.args.table.now (g.F.Facts.meaning c.args.facts.now) c.args.p c.args.a c.in-Some-declared.d c.args.i.first
-    c.args.i.second c.args.i.conclusion c.in-Some.v c.in-Some.w c.in-Some-as_same.left c.in-Some-as_same.right c.requires.distinct
-    (g.met.F.Facts.one_to_one c.args.facts.now) c.requires.inference.first
-    (subst (λ z. IsStatementOver c.args.table.now (g.F.Facts.meaning c.args.facts.now) z) c.in-Some.ensures c.requires.inference.second).1
-    c.in-Some.ensures c.in-Some-as_same.ensures c.in-Some-declared.ensures in (
+    let i = c.args.i.now in
+    let w = same_decl_given i.table.now (g.F.Facts.meaning i.facts.now) c.args.p c.args.a c.in-Some-declared.d i.first i.second i.conclusion
+    c.in-Some.v c.in-Some.w c.in-Some-as_same.left c.in-Some-as_same.right i.distinct (g.met.F.Facts.one_to_one i.facts.now)
+    i.first_over i.second_over c.in-Some.ensures c.in-Some-as_same.ensures c.in-Some-declared.ensures in (
       (λ e. w.0 (c.is_conformance.ensures.0 c.if-is_conformance.true, (c.are_members.ensures.0 e).0, (c.are_members.ensures.0 e).1)),
-      λ i. c.are_members.ensures.1 ((w.1 i).1, (w.1 i).2),
+      λ q. c.are_members.ensures.1 ((w.1 q).1, (w.1 q).2),
     )
 
 pub returns-else-is_conformance : goal.returns-else-is_conformance
 returns-else-is_conformance g c =
-    let w = same_decl_given c.args.table.now (g.F.Facts.meaning c.args.facts.now) c.args.p c.args.a c.in-Some-declared.d c.args.i.first
-    c.args.i.second c.args.i.conclusion c.in-Some.v c.in-Some.w c.in-Some-as_same.left c.in-Some-as_same.right c.requires.distinct
-    (g.met.F.Facts.one_to_one c.args.facts.now) c.requires.inference.first
-    (subst (λ z. IsStatementOver c.args.table.now (g.F.Facts.meaning c.args.facts.now) z) c.in-Some.ensures c.requires.inference.second).1
-    c.in-Some.ensures c.in-Some-as_same.ensures c.in-Some-declared.ensures in (
+    let i = c.args.i.now in
+    let w = same_decl_given i.table.now (g.F.Facts.meaning i.facts.now) c.args.p c.args.a c.in-Some-declared.d i.first i.second i.conclusion
+    c.in-Some.v c.in-Some.w c.in-Some-as_same.left c.in-Some-as_same.right i.distinct (g.met.F.Facts.one_to_one i.facts.now)
+    i.first_over i.second_over c.in-Some.ensures c.in-Some-as_same.ensures c.in-Some-declared.ensures in (
       (λ e. absurd (true≢false (sym e ∙ c.if-is_conformance.false))),
-      λ i. absurd (true≢false (sym (c.is_conformance.ensures.1 (w.1 i).0) ∙ c.if-is_conformance.false)),
+      λ q. absurd (true≢false (sym (c.is_conformance.ensures.1 (w.1 q).0) ∙ c.if-is_conformance.false)),
     )

@@ -4,16 +4,16 @@ use Rattle.swreq_derive.specs.Lines.{stated_by}
 use Rattle.swreq_derive.proofs.LineLemmas.{follows_from, follows_never, stated_of}
 use Rattle.swreq_derive.proofs.checking.follows.Goals as goal
 
-pub gives_from_one-requires-clause-first : goal.gives_from_one-requires-clause-first
-gives_from_one-requires-clause-first g c =
+pub invariant_of-i-in-One-clause-premise_over : goal.invariant_of-i-in-One-clause-premise_over
+invariant_of-i-in-One-clause-premise_over g c =
     (stated_of c.args.table.now (g.F.Facts.meaning c.args.facts.now) c.args.earlier.now c.items.result.now
-    (c.in-One.first ∷ []) c.requires.earlier c.in-One.ensures).0
+    (c.in-One.premise ∷ []) c.requires.earlier c.in-One.ensures).0
 
-pub gives_from_two-requires-clause-inference : goal.gives_from_two-requires-clause-inference
-gives_from_two-requires-clause-inference g c =
+pub invariant_of-i-in-Two : goal.invariant_of-i-in-Two
+invariant_of-i-in-Two g c =
     let stated = stated_of c.args.table.now (g.F.Facts.meaning c.args.facts.now) c.args.earlier.now c.items.result.now
     (c.in-Two.first ∷ c.in-Two.second ∷ []) c.requires.earlier c.in-Two.ensures in
-    record { first = stated.0; second = stated.1.0; conclusion = c.requires.line.1 }
+    record { distinct = c.requires.distinct; first_over = stated.0; second_over = stated.1.0; conclusion_over = c.requires.line.1 }
 
 pub returns-in-Zero : goal.returns-in-Zero
 returns-in-Zero g c =
@@ -23,8 +23,8 @@ returns-in-Zero g c =
 pub returns-in-One : goal.returns-in-One
 returns-in-One g c =
     follows_from c.args.table.now (g.F.Facts.meaning c.args.facts.now)
-    (stated_by c.args.earlier.now) c.args.line.now (c.in-One.first ∷ []) _
-    (subst (λ ns. AreStated (stated_by c.args.earlier.now) ns (c.in-One.first ∷ [])) c.items.ensures c.in-One.ensures)
+    (stated_by c.args.earlier.now) c.args.line.now (c.in-One.premise ∷ []) _
+    (subst (λ ns. AreStated (stated_by c.args.earlier.now) ns (c.in-One.premise ∷ [])) c.items.ensures c.in-One.ensures)
     c.gives_from_one.ensures
 
 pub returns-in-Two : goal.returns-in-Two

@@ -2,6 +2,8 @@ use Rattle.swreq_derive.proofs.InstanceLemmas.{symm_given}
 use Rattle.swreq_derive.proofs.equalities.symm.Goals as goal
 
 pub returns-in-Some : goal.returns-in-Some
-returns-in-Some c terms m d h k =
-    let w = symm_given terms m c.args.first c.args.conclusion c.in-Some.t c.in-Some.u d h k c.in-Some.ensures in
-    ((λ e. w.0 (c.is_same.ensures.0 e)), λ g. c.is_same.ensures.1 (w.1 g))
+returns-in-Some g c =
+    let i = c.args.i.now in
+    let w = symm_given i.table.now (g.F.Facts.meaning i.facts.now) i.premise i.conclusion c.in-Some.t c.in-Some.u i.distinct
+    i.premise_over i.conclusion_over c.in-Some.ensures in
+    ((λ e. w.0 (c.is_equality.ensures.0 e)), λ q. c.is_equality.ensures.1 (w.1 q))

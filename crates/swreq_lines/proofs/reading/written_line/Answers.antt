@@ -5,7 +5,7 @@ use Rattle.swreq_lines.proofs.reading.written_line.Goals as goal
 
 pub returns : goal.returns
 returns c n l short readable e =
-    let x = c.args.names.now in
+    let x = c.args.reader.now.names.now in
     let tail = rule_text x l.rule ++ premises_text l.premises in
     let after =
     behind_number n c.args.text.now c.next_word-first.result.piece.now c.next_word-first.result.rest.now c.next_word-second.result.piece.now

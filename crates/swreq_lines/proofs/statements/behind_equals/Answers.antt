@@ -9,8 +9,8 @@ use Rattle.swreq_lines.proofs.statements.behind_equals.Goals as goal
 
 pub returns : goal.returns
 returns c u rest h e =
-    let x = c.args.names.now in
+    let x = c.args.reader.now.names.now in
     let k = before_by (type_text x u) c.args.text.now c.next_word-word.result.piece.now c.next_word-word.result.rest.now
-    c.next_word-by.result.piece.now
-    c.next_word-by.result.rest.now rest (type_without x c.requires u h) c.next_word-word.ensures.piece c.next_word-by.ensures.piece e in
+    c.next_word-by.result.piece.now c.next_word-by.result.rest.now rest (type_without c.args.reader.now.tells_apart u h)
+    c.next_word-word.ensures.piece c.next_word-by.ensures.piece e in
     (ap (λ t. Requires (Equals (as_term c.args.t) t)) (c.in_ok-u.ensures u h k.0), k.1)

@@ -9,11 +9,10 @@ loop-rest-init c all h e = (all, ap (λ z. z ++ all) c.new-steps.ensures.items, 
 
 pub loop-rest-preserved : goal.loop-rest-preserved
 loop-rest-preserved c all h e =
-    let x = c.args.names.now in
     let i = c.loop-rest.invariant all h e in
-    let n : IsNext x c.requires i.0 c.next_piece-next.result.piece.now c.next_piece-next.result.rest.now =
-    next_step x c.requires i.0 c.loop-rest.rest.now c.next_piece-next.result.piece.now c.next_piece-next.result.rest.now i.2
-    (some_left c.loop-rest.rest.now c.loop-rest-test.ensures) i.3 c.next_piece-next.ensures.piece in
+    let n : IsNext c.args.reader.now.tells_apart i.0 c.next_piece-next.result.piece.now c.next_piece-next.result.rest.now =
+    next_step c.args.reader.now.tells_apart i.0 c.loop-rest.rest.now c.next_piece-next.result.piece.now c.next_piece-next.result.rest.now
+    i.2 (some_left c.loop-rest.rest.now c.loop-rest-test.ensures) i.3 c.next_piece-next.ensures.piece in
     let step : c.read_step.result ≡ n.first = c.read_step.ensures n.first n.of_text n.piece_is in (
       n.others,
       ap (λ z. z ++ n.others) c.in_ok-push.ensures.items
@@ -29,5 +28,5 @@ returns c all h e =
     let i = c.loop-rest.invariant all h e in
     sym (append-nil c.loop-rest.steps.items)
     ∙ ap (λ z. c.loop-rest.steps.items ++ z)
-    (sym (no_step c.args.names.now c.requires i.0 c.loop-rest.rest.now i.2 (none_left c.loop-rest.rest.now c.loop-rest-test.ensures) i.3))
+    (sym (no_step c.args.reader.now.tells_apart i.0 c.loop-rest.rest.now i.2 (none_left c.loop-rest.rest.now c.loop-rest-test.ensures) i.3))
     ∙ i.1

@@ -8,9 +8,9 @@ use Rattle.swreq_lines.proofs.types.read_steps.Given as goal
 
 abbrev pub invariant-loop-rest : goal.invariant-loop-rest
 invariant-loop-rest l =
-    (all : List Step) → AllByRecursion (IsStepOf l.names) all → l.text ≡ behind (steps_text l.names all)
-    → (left : List Step) × (l.steps.items ++ left ≡ all) × AllByRecursion (IsStepOf l.names) left
-    × (l.rest ≡ behind (steps_text l.names left))
+    (all : List Step) → AllByRecursion (IsStepOf l.reader.names.now) all → l.text ≡ behind (steps_text l.reader.names.now all)
+    → (left : List Step) × (l.steps.items ++ left ≡ all) × AllByRecursion (IsStepOf l.reader.names.now) left
+    × (l.rest ≡ behind (steps_text l.reader.names.now left))
 
 abbrev pub decreases-loop-rest : goal.decreases-loop-rest
 decreases-loop-rest l = length l.rest
