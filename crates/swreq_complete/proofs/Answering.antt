@@ -21,7 +21,7 @@ use Rattle.swreq_complete.specs.Complete.{IsComplete, IsFresh}
 use Rattle.swreq_rule.specs.swreq_word.Least.{EachFactor, IsLeast}
 use Rattle.swreq_complete.specs.Reduced.{IsReducedOf, IsReducedSystem}
 use Rattle.swreq_complete.specs.Search.{Found, IsReducedAt}
-use Rattle.swreq_complete.specs.Limits.{AreInRange, IsWithin, Passes, EndsWithin}
+use Rattle.swreq_complete.specs.Limits.{IsWithin, Passes, EndsWithin}
 use Rattle.swreq_complete.specs.Reached.{BeginsWith}
 use Rattle.swreq_complete.specs.Answers.{IsAnswer}
 use Rattle.swreq_complete.specs.Events.{events, TellsEvents}
@@ -48,12 +48,12 @@ module _ (limits : Limits) (given : List (List Symbol × List Symbol)) (base : L
       → TellsEvents limits base given told told'' (Err Memory)
   memory_told t w g = inr (t, over_grown base t told' told'' g, w, events_grown base t told told' told'' start g)
 
-ended_complete : (base : List Rule) (given : List (List Symbol × List Symbol)) (limits : Limits) (new : List Rule) → AreInRange limits
+ended_complete : (base : List Rule) (given : List (List Symbol × List Symbol)) (limits : Limits) (new : List Rule)
     → IsComplete base → BeginsWith base new → EndsWithin limits (length base) given new → IsComplete new
-ended_complete base given limits new range c o e = record {
+ended_complete base given limits new c o e = record {
   meet = pairs_meet (length base) given new (subst PairsMeet (sym o) c.meet) e.ended;
   fresh = fresh_of_reached (length base) given new e.ended.reached (subst IsFresh (sym o) c.fresh);
-  few = (let k = kept_length limits (length base) new e.kept in let f = c.few in let m = range.1 in omega (arith, k, f, m));
+  few = (let k = kept_length limits (length base) new e.kept in let f = c.few in let m = limits.in_range.1 in omega (arith, k, f, m));
 }
 
 -- the same along the names that the code has for the base and its length
@@ -68,14 +68,14 @@ module _ (limits : Limits) (given : List (List Symbol × List Symbol)) (base lis
 
   pub ok_answer : EndsWithin limits count given new × Grown list new told' told''
       → IsAnswer limits base given (Ok new) × TellsEvents limits base given told told'' (Ok new)
-      × (AreInRange limits → IsComplete list → IsComplete new)
+      × (IsComplete list → IsComplete new)
   ok_answer d =
       let e : EndsWithin limits (length base) given new = subst (λ n. EndsWithin limits n given new) counted d.0 in
       let g = grown new d.1 in
       let o = over_grown base new told' told'' g in (
         (o, e),
         events_grown base new told told' told'' begun g,
-        λ range c. ended_complete base given limits new range (subst IsComplete same c) o e,
+        λ c. ended_complete base given limits new (subst IsComplete same c) o e,
       )
 
   pub limit_answer : (which : Which) → Passes limits count given new which × Grown list new told' told''

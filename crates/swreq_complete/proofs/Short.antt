@@ -13,7 +13,7 @@ use Rattle.swreq_complete.specs.declared.limit.Failed.TheVariants.{Limit, Memory
 use Rattle.swreq_complete.specs.Moments.{HasSides}
 use Rattle.swreq_complete.specs.Settled.{Settled}
 use Rattle.swreq_complete.specs.Reached.{IsReached}
-use Rattle.swreq_complete.specs.Limits.{AreInRange, KeepsAll}
+use Rattle.swreq_complete.specs.Limits.{KeepsAll}
 use Rattle.swreq_complete.specs.Progress.{GivenBelow}
 use Rattle.swreq_complete.specs.Short.{IsOfEquation, AreOfEquations, BearsWithin, PassesAmong, IsBorneBy}
 use Rattle.swreq_complete.specs.Settling.{Grown, HasCome}
@@ -73,9 +73,10 @@ borne_is_prefix limits base given part whole o p =
 -- ---- from what settling did to the answer
 
 -- rules that keep the limits over a base with numbers of 32 bits have such numbers
-pub few_kept : (limits : Limits) (base new : List Rule) → AreInRange limits → length base < 2 ^ 32 - 1 → KeepsAll limits (length base) new
+pub few_kept : (limits : Limits) (base new : List Rule) → length base < 2 ^ 32 - 1 → KeepsAll limits (length base) new
     → length new < 2 ^ 32 - 1
-few_kept limits base new range few kept = let k = kept_length limits (length base) new kept in let m = range.1 in omega (arith, k, few, m)
+few_kept limits base new few kept =
+    let k = kept_length limits (length base) new kept in let m = limits.in_range.1 in omega (arith, k, few, m)
 
 -- a completion that came as far as the last equation
 come_bears : (limits : Limits) (base : ℕ) (given : List (List Symbol × List Symbol)) (old new : List Rule)

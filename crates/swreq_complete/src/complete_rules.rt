@@ -3,7 +3,7 @@
 ghost use Rattle.std.specs.Prelude.{◌≡◌, ◌⊎◌, ◌<◌, ◌≤◌, [], length, slice_get, Some, IfOk, vec_len, vec_capacity};
 ghost use Rattle.swreq_rule.specs.swreq_word.{Relations.{Linked}, Least.{IsLeast}};
 ghost use Rattle.swreq_rule.specs.{Reduction.{NoneEarlier}, Search.{NoneLonger}, Steps.{Step}};
-ghost use Rattle.swreq_complete.specs.{declared.limit.Failed.TheVariants.{Limit, Memory}, Answers.{IsAnswer, IsOnlyAnswer}, Complete.{IsComplete}, Events.{TellsEvents}, Limits.{AreInRange}, Reduced.{HasBirths, IsReducedOf, IsReducedSystem}, Short.{IsBorneBy, IsOnlyBorne}};
+ghost use Rattle.swreq_complete.specs.{declared.limit.Failed.TheVariants.{Limit, Memory}, Answers.{IsAnswer, IsOnlyAnswer}, Complete.{IsComplete}, Events.{TellsEvents}, Reduced.{HasBirths, IsReducedOf, IsReducedSystem}, Short.{IsBorneBy, IsOnlyBorne}};
 
 use crate::completion::complete;
 use crate::indexed::Indexed;
@@ -161,7 +161,6 @@ pub fn extend<'b, W: Watch>(
     limits: Limits,
     watch: &mut W,
 ) -> Result<CompleteRules<'b>, Failed>
-    requires { AreInRange limits }
     ensures answer { IsAnswer limits base.entry given.now result }
     ensures only { IsOnlyAnswer limits base.entry given.now result }
     ensures told { TellsEvents limits base.entry given.now (W.told watch.old)
@@ -196,7 +195,6 @@ pub fn bear<'b>(
     given: &[(Word, Word)],
     limits: Limits,
 ) -> Result<RewritingSystem<'b>, Failed>
-    requires { AreInRange limits }
     ensures answer { IsBorneBy limits base.entry given.now result }
     ensures only { IsOnlyBorne limits base.entry given.now result }
 {

@@ -2,7 +2,7 @@
 
 ghost use Rattle.std.specs.Prelude.{◌≡◌, ◌+◌, ◌-◌, ◌<◌, ◌≤◌, ◌^◌, length, slice_get, Some, MatchResult};
 ghost use Rattle.swreq_pair.specs.Pairs.{HasPair, IsNumberOf};
-ghost use Rattle.swreq_complete.specs.{Limits.{AreInRange, EndsWithin}, Progress.{AreAllPlaces, SettlesPlace, UpTo}, declared.limit.Stop.TheVariants.{Memory}, Settling.{DoneWithin, Grown, HasCome, HasStopped, IsUnderway, StoppedAt}};
+ghost use Rattle.swreq_complete.specs.{Limits.{EndsWithin}, Progress.{AreAllPlaces, SettlesPlace, UpTo}, declared.limit.Stop.TheVariants.{Memory}, Settling.{DoneWithin, Grown, HasCome, HasStopped, IsUnderway, StoppedAt}};
 
 use crate::indexed::Indexed;
 use crate::limit::{Limits, Stop};
@@ -114,7 +114,6 @@ pub(crate) fn complete<W: Watch>(
 ) -> Result<(), Stop>
     requires base_is { task.now.base ≡ length rules.old }
     requires base_fits { task.now.base < 2 ^ 32 - 1 }
-    requires limits { AreInRange task.now.limits }
     ensures { MatchResult result
         (λ _. EndsWithin task.now.limits task.now.base task.now.given.now rules.new
         × Grown rules.old rules.new (W.told watch.old) (W.told watch.new))

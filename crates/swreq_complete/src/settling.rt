@@ -3,10 +3,10 @@
 ghost use Rattle.std.specs.Prelude.{◌≡◌, ◌-◌, ◌<◌, ◌^◌, ◌++◌, ◌∷◌, [], length, IfOk, OnOk, MatchResult, MatchOption};
 ghost use Rattle.swreq_rule.specs.{declared.rules.Birth.TheVariants.{Given}, declared.rules.Rule.{Rule}, Oriented.{IsOriented}};
 ghost use Rattle.swreq_watch.specs.{declared.events.Event.TheVariants.{Born}, Told.{GrewBy}};
-ghost use Rattle.swreq_complete.specs.{declared.limit.Stop.TheVariants.{Memory}, Limits.{AreInRange}, Progress.{GivenBelow, Settles}, Settling.{DoneWithin, HasCome, HasStoppedAmong, StoppedAt}};
+ghost use Rattle.swreq_complete.specs.{declared.limit.Stop.TheVariants.{Memory}, Progress.{GivenBelow, Settles}, Settling.{DoneWithin, HasCome, HasStoppedAmong, StoppedAt}};
 
 use crate::indexed::Indexed;
-use crate::limit::{Limits, Stop, passed};
+use crate::limit::{Limits, Stop};
 use crate::reading::reduce;
 use crate::task::{Sides, Task};
 use std::alloc::AllocError;
@@ -73,7 +73,7 @@ fn bear<W: Watch>(
     let event = Event::Born { rule };
     tell(watch, &event)?;
     keep(rules, event)?;
-    match passed(rules.count(), long, limits) {
+    match limits.passed(rules.count(), long) {
         None => Ok(()),
         Some(which) => Err(Stop::Limit(which)),
     }
@@ -129,8 +129,7 @@ pub(crate) fn settle_given<W: Watch>(
     watch: &mut W,
     sides: &mut Sides,
 ) -> Result<(), Stop>
-    requires base_fits { length rules.old < 2 ^ 32 - 1 }
-    requires limits { AreInRange task.now.limits }
+    requires { length rules.old < 2 ^ 32 - 1 }
     ensures { MatchResult result
         (λ _. HasCome task.now.limits (length rules.old) task.now.given.now (GivenBelow
         (length task.now.given.now)) rules.old rules.new (W.told watch.old) (W.told watch.new))

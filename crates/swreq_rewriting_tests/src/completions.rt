@@ -1,7 +1,5 @@
 //! Worked rows of completion: what is told of it, and how it ends.
 
-ghost use Rattle.swreq_complete.specs.Limits.{AreInRange};
-
 use crate::notation::{PROTOCOL, assert_row, equations, put_rule};
 use std::alloc::{AllocError, Global};
 use std::fmt::Write;
@@ -68,9 +66,7 @@ fn ending(
     given: &[(Word, Word)],
     limits: Limits,
     recorder: &mut Recorder,
-) -> Result<(usize, Option<Which>), AllocError>
-    requires { AreInRange limits }
-{
+) -> Result<(usize, Option<Which>), AllocError> {
     let answer = extend(alloc, base, given, limits, recorder);
     ending_of(&answer)
 }
@@ -159,9 +155,7 @@ fn put_told(
     given: &[(Word, Word)],
     limits: Limits,
     out: &mut String,
-) -> Result<(), AllocError>
-    requires { AreInRange limits }
-{
+) -> Result<(), AllocError> {
     let mut recorder = Recorder::new(alloc);
     let ending = ending(alloc, base, given, limits, &mut recorder)?;
     put_events(out, recorder.events())?;
@@ -175,9 +169,7 @@ fn put_told_over(
     given: &[(Word, Word)],
     limits: Limits,
     out: &mut String,
-) -> Result<(), AllocError>
-    requires { AreInRange limits }
-{
+) -> Result<(), AllocError> {
     let over = base.over(alloc)?;
     put_told(alloc, over, given, limits, out)
 }
@@ -189,9 +181,7 @@ fn put_told_on(
     given: &[(Word, Word)],
     limits: Limits,
     out: &mut String,
-) -> Result<(), AllocError>
-    requires { AreInRange limits }
-{
+) -> Result<(), AllocError> {
     let base = completed(alloc, base, &mut Counter::new())?;
     put_told_over(alloc, &base, given, limits, out)
 }
@@ -203,17 +193,13 @@ fn put_told_of(
     text: &str,
     limits: Limits,
     out: &mut String,
-) -> Result<(), AllocError>
-    requires { AreInRange limits }
-{
+) -> Result<(), AllocError> {
     let given = equations(alloc, text)?;
     put_told_on(alloc, base, &given, limits, out)
 }
 
 /// The limits of these numbers.
-fn limits_of(rt: &impl Abort, max_rules: u32, max_length: u32) -> Limits
-    ensures { AreInRange result }
-{
+fn limits_of(rt: &impl Abort, max_rules: u32, max_length: u32) -> Limits {
     assert!(rt; 1 <= max_rules && max_rules <= 100000);
     assert!(rt; 1 <= max_length && max_length <= 255);
     Limits {

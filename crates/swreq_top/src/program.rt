@@ -1,8 +1,7 @@
 // From the words and the source to the sink and the status.
 ghost use Rattle.std.specs.Prelude.{◌≡◌, ◌≤◌, ◌⊎◌, ℕ, Err, map, string_bytes};
-ghost use Rattle.swreq_reply.specs.swreq_complete.Limits.{AreInRange};
 ghost use Rattle.swreq_text.specs.{Faults.{HasRisen}, Given.{GivesCount}, declared.whole.ReadErr.TheVariants.{Fault}};
-ghost use Rattle.swreq_reply.specs.{Verdict.{answered_text, limits_of}, Requests.{HasCount}};
+ghost use Rattle.swreq_reply.specs.{Verdict.{answered_text}, Requests.{HasCount}};
 ghost use Rattle.swreq_top.specs.{Contract.{IsRun}, Run.{AreWrong, IsEnd, ReadsNothing, ReadNothing}, Steps.{Answers, AnswersText, IsFinished}};
 
 use std::alloc::Global;
@@ -10,7 +9,7 @@ use swreq_print::{OUT_OF_MEMORY, READ_FAULT, TOO_LARGE, USAGE};
 use swreq_reply::{Outcome, reply};
 use swreq_text::{ReadErr, Sink, Source, read_all, write_all};
 use swreq_watch::Watch;
-use swreq_words::laws::numbers_are_in_range;
+use swreq_words::laws::count_is_in_range;
 use swreq_words::{CommandLine, Input, UsageErr};
 
 /// The most bytes that a text may have.
@@ -92,7 +91,7 @@ fn carry_out<S: Source, K: Sink, W: Watch>(
     ensures unread { AreWrong (map string_bytes words.now)
         ⊎ ReadNothing (map string_bytes words.now) → src.new ≡ src.old }
 {
-    numbers_are_in_range();
+    count_is_in_range();
     match swreq_words::read(alloc, words) {
         Ok(line) => match answer(alloc, &line, src, watch) {
             Ok(outcome) => finish(out, outcome.status, outcome.output.items()),
@@ -112,7 +111,6 @@ fn answer<S: Source, W: Watch>(
     src: &mut S,
     watch: &mut W,
 ) -> Result<Outcome, ReadErr>
-    requires limits { AreInRange (limits_of line.now) }
     requires count { HasCount line.now }
     ensures answer { Answers line.now (S.left src.old) (S.left src.new) (W.told watch.old)
         (W.told watch.new) result }
@@ -137,7 +135,6 @@ fn replied<W: Watch>(
     text: &[u8],
     watch: &mut W,
 ) -> Result<Outcome, ReadErr>
-    requires limits { AreInRange (limits_of line.now) }
     requires count { HasCount line.now }
     ensures { AnswersText line.now (answered_text line.now text.now) (W.told watch.old)
         (W.told watch.new) result }

@@ -4,7 +4,7 @@ use Rattle.std.specs.List.{list_all}
 use Rattle.std.proofs.lemmas.Bool.{and_parts}
 use Rattle.swreq_words.specs.Form.{Part, Says, count_in, greatest, greatest_count, is_in_range, limit_in}
 use Rattle.swreq_words.specs.Form.Part.{apart, joined, trace, number}
-use Rattle.swreq_words.specs.Numbers.{is_number, number_of}
+use Rattle.swreq_words.specs.Numbers.{AreLimits, is_number, number_of}
 use Rattle.swreq_words.specs.declared.command.CommandLine.{CommandLine}
 use Rattle.swreq_words.specs.declared.limits.Limit.{Limit}
 use Rattle.swreq_words.specs.declared.limits.Limit.TheVariants.{MaxRules, MaxLength}
@@ -46,12 +46,10 @@ limit_within MaxLength (trace ∷ parts) h = limit_within MaxLength parts (and_p
 limit_within MaxLength (number text ∷ parts) h =
     limit_within MaxLength parts (and_parts (is_number greatest_count text) (list_all is_in_range parts) h).1
 
--- the limits that words say are in their ranges
-pub limits_within : {words : List (List ℕ)} {line : CommandLine} → Says words line
-    → (1 ≤ line.max_rules) × (line.max_rules ≤ 100000) × (1 ≤ line.max_length) × (line.max_length ≤ 255)
-limits_within says =
-    let rules = subst (IsFrom1 100000) (sym says.max_rules) (limit_within MaxRules says.form.parts says.form.in_range) in
-    let symbols = subst (IsFrom1 255) (sym says.max_length) (limit_within MaxLength says.form.parts says.form.in_range) in
+-- the limits that the parts of a form set are in their ranges
+pub limits_within : (parts : List Part) → list_all is_in_range parts ≡ true → AreLimits (limit_in MaxRules parts) (limit_in MaxLength parts)
+limits_within parts h =
+    let rules = limit_within MaxRules parts h in let symbols = limit_within MaxLength parts h in
     (rules.0, rules.1, symbols.0, symbols.1)
 
 -- ---- the number of a command

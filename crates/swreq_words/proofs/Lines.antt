@@ -1,9 +1,11 @@
 -- Words of the form, and the command line in what the command finds.
-use Rattle.std.proofs.Common.{ap, ap₂, refl, sym, subst, codes, true, false, Bool, not, ◌&&◌, ◌||◌, if◌then◌else◌, option_map, true≢false, is_some, Result, Ok, Err, IfOk, List, Option, Some, None, [], ◌∷◌, ◌≡◌, ◌∙◌, ℕ}
+use Rattle.std.proofs.Common.{ap, ap₂, refl, sym, subst, codes, true, false, Bool, not, ◌&&◌, ◌||◌, if◌then◌else◌, option_map, true≢false, is_some, Result, Ok, Err, IfOk, IfSome, List, Option, Some, None, [], ◌∷◌, ◌≡◌, ◌∙◌, ℕ}
 use Rattle.std.specs.Str.{bytes_eq}
 use Rattle.std.specs.Option.{option_map_or, ok_or}
-use Rattle.std.specs.List.{find, flat_map}
+use Rattle.std.specs.List.{find, flat_map, list_all}
 use Rattle.std.proofs.lemmas.Bool.{and_parts}
+use Rattle.std.proofs.Props.{props}
+use mathlib.Core.HLevel.{is_prop→PathP}
 use Rattle.clap.specs.Words.{takes, subcommand_of}
 use Rattle.swreq_words.specs.declared.command.Command.{Command}
 use Rattle.swreq_words.specs.declared.command.CommandLine.{CommandLine}
@@ -13,14 +15,15 @@ use Rattle.swreq_words.specs.declared.command.TheConstants.{COMMANDS}
 use Rattle.swreq_words.specs.declared.limits.Limit.{Limit}
 use Rattle.swreq_words.specs.declared.limits.Limit.TheVariants.{MaxRules, MaxLength}
 use Rattle.swreq_words.specs.declared.seen.Seen.{Seen}
-use Rattle.swreq_words.specs.Numbers.{number_of}
+use Rattle.swreq_words.specs.Numbers.{AreLimits, number_of}
 use Rattle.swreq_words.specs.Commands.{follows, word_of}
-use Rattle.swreq_words.specs.Form.{Text, Part, HasForm, Says, words_of, count_in, is_set, limit_in, limit_name, preset, preset_count, takes_number}
+use Rattle.swreq_words.specs.Form.{Text, Part, HasForm, Says, words_of, count_in, is_in_range, is_set, limit_in, limit_name, preset, preset_count, takes_number}
 use Rattle.swreq_words.specs.Reading.{name_of, read_on, nothing_seen, is_done, are_parts, has_form}
-use Rattle.swreq_words.specs.Found.{count_found, limit_found, line_of, line_found}
+use Rattle.swreq_words.specs.Found.{Fields, HasLimits, count_found, fields_of, limit_found, line_of, line_found}
 use Rattle.swreq_words.specs.Taken.{genreq}
 use Rattle.swreq_words.proofs.Each.{alike}
 use Rattle.swreq_words.proofs.Fronts.{some_same, bytes_same}
+use Rattle.swreq_words.proofs.InRange.{limits_within}
 use Rattle.swreq_words.proofs.Told.{told}
 use Rattle.swreq_words.proofs.Accepts.{accepted, are_of}
 use Rattle.swreq_words.proofs.TopCommand.{Taken, taken, rows_of_parts}
@@ -95,8 +98,8 @@ has_form_of words f =
 
 -- ---- what the words say
 
--- the line of these parts
-abbrev pub line_by : Command → List Part → CommandLine
+-- the fields of the line of these parts
+abbrev pub line_by : Command → List Part → Fields
 line_by n ps = record {
   command = n;
   count = count_in ps;
@@ -105,23 +108,50 @@ line_by n ps = record {
   trace = is_set (codes "trace") ps;
 }
 
+-- the limit that is found is the one that the parts set
+limit_is : (n : Command) (ps : List Part) (l : Limit) → bytes_eq (codes "trace") (limit_name l) ≡ false
+    → limit_found l (rows_of_parts (follows n) ps) ≡ limit_in l ps
+limit_is n ps l differs = ap (λ o. option_map_or number_of o (preset l)) (found (limit_name l) (follows n) ps differs)
+
+has_limits : (n : Command) (ps : List Part) → list_all is_in_range ps ≡ true → HasLimits (rows_of_parts (follows n) ps)
+has_limits n ps h =
+    subst (λ x. AreLimits x (limit_found MaxLength (rows_of_parts (follows n) ps))) (sym (limit_is n ps MaxRules refl))
+    (subst (λ y. AreLimits (limit_in MaxRules ps) y) (sym (limit_is n ps MaxLength refl)) (limits_within ps h))
+
 pub found_in : (n : Command) (ps : List Part) → line_found (Some (word_of n, rows_of_parts (follows n) ps)) ≡ Some (line_by n ps)
 found_in n ps =
     let rows = rows_of_parts (follows n) ps in
-    let limits : (l : Limit) → bytes_eq (codes "trace") (limit_name l) ≡ false → limit_found l rows ≡ limit_in l ps =
-    λ l differs. ap (λ o. option_map_or number_of o (preset l)) (found (limit_name l) (follows n) ps differs) in
     let count : count_found rows ≡ count_in ps =
     ap (λ o. option_map_or number_of o preset_count) (found (codes "number") (follows n) ps refl) in
     ap (option_map (λ command. line_of command rows)) (name_is n)
-    ∙ ap (λ line. Some line) (same_line n count (limits MaxRules refl) (limits MaxLength refl) (trace_found (follows n) ps))
+    ∙ ap (λ line. Some line) (same_fields n count (limit_is n ps MaxRules refl) (limit_is n ps MaxLength refl) (trace_found (follows n) ps))
   where
-    same_line : (n : Command) {a b c d e f : ℕ} {t u : Bool} → a ≡ b → c ≡ d → e ≡ f → t ≡ u
-        → (let line : CommandLine = record { command = n; count = a; max_rules = c; max_length = e; trace = t } in line)
+    same_fields : (n : Command) {a b c d e f : ℕ} {t u : Bool} → a ≡ b → c ≡ d → e ≡ f → t ≡ u
+        → (let line : Fields = record { command = n; count = a; max_rules = c; max_length = e; trace = t } in line)
         ≡ record { command = n; count = b; max_rules = d; max_length = f; trace = u }
-    same_line n count rules length trace =
+    same_fields n count rules length trace =
         λ i. record { command = n; count = count i; max_rules = rules i; max_length = length i; trace = trace i }
 
-says_line : (words : List Text) (line : CommandLine) → (says : Says words line) → line_by says.form.command says.form.parts ≡ line
+-- two command lines with the same fields are one
+same_line : (a b : CommandLine) → fields_of a ≡ fields_of b → a ≡ b
+same_line a b e = λ i. record {
+  command = (e i).command;
+  count = (e i).count;
+  max_rules = (e i).max_rules;
+  max_length = (e i).max_length;
+  trace = (e i).trace;
+  in_range = is_prop→PathP (λ j. AreLimits (e j).max_rules (e j).max_length) (λ j. are_limits_prop (e j).max_rules (e j).max_length)
+      a.in_range b.in_range i;
+}
+  where
+    are_limits_prop : (rules symbols : ℕ) → IsProp (AreLimits rules symbols)
+    are_limits_prop rules symbols = hlevel props
+
+same_found : (o : Option CommandLine) (line : CommandLine) → option_map fields_of o ≡ Some (fields_of line) → o ≡ Some line
+same_found None line e = cc
+same_found (Some other) line e = ap (λ l. Some l) (same_line other line (some_same (fields_of other) (fields_of line) e))
+
+says_line : (words : List Text) (line : CommandLine) → (says : Says words line) → line_by says.form.command says.form.parts ≡ fields_of line
 says_line words line says = λ i. record {
   command = sym says.command i;
   count = sym says.count i;
@@ -130,8 +160,26 @@ says_line words line says = λ i. record {
   trace = sym says.traces i;
 }
 
-line_says : (words : List Text) (f : HasForm words) → Says words (line_by f.command f.parts)
-line_says words f = record { form = f; command = refl; count = refl; max_rules = refl; max_length = refl; traces = refl }
+-- the line that words of this form say
+abbrev line_in : {words : List Text} → HasForm words → CommandLine
+line_in f = record {
+  command = f.command;
+  count = count_in f.parts;
+  max_rules = limit_in MaxRules f.parts;
+  max_length = limit_in MaxLength f.parts;
+  trace = is_set (codes "trace") f.parts;
+  in_range = limits_within f.parts f.in_range;
+}
+
+line_says : (words : List Text) (f : HasForm words) (line : CommandLine) → line_by f.command f.parts ≡ fields_of line → Says words line
+line_says words f line e = record {
+  form = f;
+  command = ap (λ (x : Fields). x.command) (sym e);
+  count = ap (λ (x : Fields). x.count) (sym e);
+  max_rules = ap (λ (x : Fields). x.max_rules) (sym e);
+  max_length = ap (λ (x : Fields). x.max_length) (sym e);
+  traces = ap (λ (x : Fields). x.trace) (sym e);
+}
 
 -- ---- the command takes them, and finds the line
 
@@ -147,20 +195,31 @@ found_of : (words : List Text) (f : HasForm words) → line_found (subcommand_of
 found_of words f =
     ap (λ ws. line_found (subcommand_of genreq ws)) f.spelled ∙ ap line_found (taken_of words f).finds ∙ found_in f.command f.parts
 
+-- the limits that are found are in their ranges
+pub limits_found : (words : List Text) → has_form words ≡ true → IfSome (subcommand_of genreq words) (λ found. HasLimits found.1)
+limits_found words e =
+    let f = formed words e in
+    subst (λ o. IfSome o (λ found. HasLimits found.1)) (sym (ap (subcommand_of genreq) f.spelled ∙ (taken_of words f).finds))
+    (has_limits f.command f.parts f.in_range)
+
 -- what is found is what the words say
 pub found_says : (words : List Text) (line : CommandLine) → has_form words ≡ true
-    → line_found (subcommand_of genreq words) ≡ Some line → Says words line
+    → line_found (subcommand_of genreq words) ≡ Some (fields_of line) → Says words line
 found_says words line e is =
-    let f = formed words e in subst (Says words) (some_same _ line (sym (found_of words f) ∙ is)) (line_says words f)
+    let f = formed words e in
+    line_says words f line (some_same (line_by f.command f.parts) (fields_of line) (sym (found_of words f) ∙ is))
 
-pub says_found : (words : List Text) (line : CommandLine) → Says words line → line_found (subcommand_of genreq words) ≡ Some line
+pub says_found : (words : List Text) (line : CommandLine) → Says words line
+    → line_found (subcommand_of genreq words) ≡ Some (fields_of line)
 says_found words line says = found_of words says.form ∙ ap (λ l. Some l) (says_line words line says)
 
 pub one_line : (words : List Text) (a b : CommandLine) → Says words a → Says words b → a ≡ b
-one_line words a b x y = some_same a b (sym (says_found words a x) ∙ says_found words b y)
+one_line words a b x y =
+    same_line a b (some_same (fields_of a) (fields_of b) (sym (says_found words a x) ∙ says_found words b y))
 
-pub line_there : (words : List Text) → has_form words ≡ true → (line : CommandLine) × (line_found (subcommand_of genreq words) ≡ Some line)
-line_there words e = let f = formed words e in (line_by f.command f.parts, found_of words f)
+pub line_there : (words : List Text) → has_form words ≡ true
+    → (line : CommandLine) × (line_found (subcommand_of genreq words) ≡ Some (fields_of line))
+line_there words e = let f = formed words e in (line_in f, found_of words f)
 
 -- ---- what is answered
 
@@ -196,19 +255,20 @@ usage_memory words e = usage_with words (Err Memory) e (no_usage (Err Memory) re
 
 -- the answer is what was found
 found_is : (words : List Text) (answer : Result CommandLine UsageErr) (o : Option CommandLine) → (e : has_form words ≡ true)
-    → answer ≡ ok_or o Usage → o ≡ line_found (subcommand_of genreq words)
+    → answer ≡ ok_or o Usage → option_map fields_of o ≡ line_found (subcommand_of genreq words)
     → answer ≡ Ok (line_there words e).0
-found_is words answer o e is there = is ∙ ap (λ x. ok_or x Usage) (there ∙ (line_there words e).1)
+found_is words answer o e is there =
+    let line = line_there words e in is ∙ ap (λ x. ok_or x Usage) (same_found o line.0 (there ∙ line.1))
 
 pub ok_found : (words : List Text) (answer : Result CommandLine UsageErr) (o : Option CommandLine) → has_form words ≡ true
-    → answer ≡ ok_or o Usage → o ≡ line_found (subcommand_of genreq words)
+    → answer ≡ ok_or o Usage → option_map fields_of o ≡ line_found (subcommand_of genreq words)
     → IfOk answer (λ line. Says words line)
 ok_found words answer o e is there =
     subst (λ r. IfOk r (λ line. Says words line)) (sym (found_is words answer o e is there))
     (found_says words (line_there words e).0 e (line_there words e).1)
 
 pub usage_found : (words : List Text) (answer : Result CommandLine UsageErr) (o : Option CommandLine) → has_form words ≡ true
-    → answer ≡ ok_or o Usage → o ≡ line_found (subcommand_of genreq words)
+    → answer ≡ ok_or o Usage → option_map fields_of o ≡ line_found (subcommand_of genreq words)
     → IsUsage words answer
 unfolding is_usage
 usage_found words answer o e is there = usage_with words answer e (no_usage answer (ap is_usage (found_is words answer o e is there)))

@@ -1,7 +1,7 @@
 //! The commands, and what the words say.
 
-ghost use Rattle.std.specs.{Prelude.{◌≡◌}, List.{find}, Str.{bytes_eq}};
-ghost use Rattle.swreq_words.specs.{Commands.{follows, input, word_of}, Reading.{name_of}};
+ghost use Rattle.std.specs.{Prelude.{◌≡◌, ◌≤◌}, List.{find}, Str.{bytes_eq}};
+ghost use Rattle.swreq_words.specs.Commands.{follows, input, word_of};
 
 /// What is to be done.
 #[derive(Clone, Copy, Debug, PartialEq, Eq)]
@@ -69,6 +69,8 @@ fn named_among(commands: &[Command], word: &str) -> Option<Command>
 }
 
 impl Command {
+    ghost use Rattle.swreq_words.specs.Reading.{name_of};
+
     /// The command that the word names.
     #[tactic(auto, unfolding(crate::specs::Reading::name_of))]
     pub(crate) fn of(word: &str) -> Option<Command>
@@ -128,7 +130,7 @@ impl Command {
     }
 }
 
-/// A command, its number and its options.
+/// A command, its number and its options. The limits are in their ranges.
 #[derive(Clone, Copy, Debug, PartialEq, Eq)]
 pub struct CommandLine {
     /// What is to be done.
@@ -141,4 +143,6 @@ pub struct CommandLine {
     pub max_length: u32,
     /// Whether the trace of a limit is to be printed.
     pub trace: bool,
+    ghost in_range: { (1 ≤ max_rules) × (max_rules ≤ 100000) × (1 ≤ max_length)
+        × (max_length ≤ 255) },
 }

@@ -15,11 +15,8 @@ pub fn words_of_the_form_are_taken()
         → takes genreq words ≡ true }
 {}
 
-/// The numbers that words say are in their ranges.
-pub fn numbers_are_in_range()
-    ensures limits { (words : List (List ℕ)) (line : CommandLine) → Says words line
-        → (1 ≤ line.max_rules) × (line.max_rules ≤ 100000) × (1 ≤ line.max_length)
-        × (line.max_length ≤ 255) }
+/// The number of a command that words say is in its range.
+pub fn count_is_in_range()
     ensures count { (words : List (List ℕ)) (line : CommandLine) → Says words line
         → (1 ≤ line.count) × (line.count ≤ 100) }
 {}

@@ -1,8 +1,8 @@
 //! The command of `clap`, and the command line that is read off its matches.
 
-ghost use Rattle.std.specs.Prelude.{◌≡◌, List, Option, Some, true, false, IfErr, IfOk, map, string_bytes, option_map, codes};
+ghost use Rattle.std.specs.Prelude.{◌≡◌, List, Option, Some, true, false, IfErr, IfOk, IfSome, map, string_bytes, option_map, codes};
 ghost use Rattle.clap.specs.{Words.{app_of, kind_of, takes, rows_of, found_of, first_of, one_of, subcommand_rows_of, subcommand_of, with_rule}, declared.builder.command.Command.TheViews.{out-Command}};
-ghost use Rattle.swreq_words.specs.{Taken.{bare, genreq, leaf_of, limit_rule, number_rule, trace_rule, with_leaf, with_options, with_parts}, Found.{count_found, is_true, limit_found, line_found, line_of}};
+ghost use Rattle.swreq_words.specs.{Taken.{bare, genreq, leaf_of, limit_rule, number_rule, trace_rule, with_leaf, with_options, with_parts}, Found.{HasLimits, count_found, fields_of, is_true, limit_found, line_found, line_of}};
 
 use crate::command::{COMMANDS, Command, CommandLine, Follows};
 use crate::limits::{Limit, PRESET_COUNT};
@@ -179,7 +179,8 @@ fn count_found(matches: &ArgMatches<'_>) -> u32
 }
 
 fn line_of(command: Command, matches: &ArgMatches<'_>) -> CommandLine
-    ensures { result ≡ line_of command (rows_of (found_of matches.now)) }
+    requires { HasLimits (rows_of (found_of matches.now)) }
+    ensures { fields_of result ≡ line_of command (rows_of (found_of matches.now)) }
 {
     CommandLine {
         command,
@@ -192,7 +193,8 @@ fn line_of(command: Command, matches: &ArgMatches<'_>) -> CommandLine
 
 /// The command line that is read off what the command found.
 pub(crate) fn line_found(matches: &ArgMatches<'_>) -> Option<CommandLine>
-    ensures { result ≡ line_found (subcommand_rows_of matches.now) }
+    requires { IfSome (subcommand_rows_of matches.now) (λ found. HasLimits found.1) }
+    ensures { option_map fields_of result ≡ line_found (subcommand_rows_of matches.now) }
 {
     let (word, inner) = matches.subcommand()?;
     let command = Command::of(word)?;

@@ -5,7 +5,7 @@ use Rattle.swreq_complete.proofs.Short.{borne_answer, borne_is_one, few_kept, pa
 use Rattle.swreq_complete.proofs.complete_rules.bear.Goals as goal
 
 pub new-requires : goal.new-requires
-new-requires c = few_kept c.args.limits c.base.inside.list c.settle_given.new.rules c.requires c.base.invariant.few c.in-Ok.ensures.kept
+new-requires c = few_kept c.args.limits c.base.inside.list c.settle_given.new.rules c.base.invariant.few c.in-Ok.ensures.kept
 
 pub returns-in-Ok : goal.returns-in-Ok
 returns-in-Ok c =

@@ -25,7 +25,7 @@ greater-init g c =
 pub overflow_add-greater-in-greater : goal.overflow_add-greater-in-greater
 overflow_add-greater-in-greater g c =
     let k = kept_length c.args.task.now.limits c.args.task.now.base c.greater.rules c.greater.invariant.goes.kept in
-    let t = c.greater-test.true in let e = c.count.ensures in let b = c.requires.base_fits in let m = c.requires.limits.1 in
+    let t = c.greater-test.true in let e = c.count.ensures in let b = c.requires.base_fits in let m = c.args.task.now.limits.in_range.1 in
     omega (arith, k, t, e, b, m)
 
 pub greater-preserved : goal.greater-preserved

@@ -26,7 +26,7 @@ settle_place-requires-clause-pair g c =
 pub settle_place-requires-clause-few : goal.settle_place-requires-clause-few
 settle_place-requires-clause-few g c =
     let k = kept_length c.args.task.now.limits c.args.task.now.base c.loop-n.rules c.loop-n.invariant.kept in
-    let b = c.requires.so_far.base_fits in let m = c.requires.so_far.in_range.1 in
+    let b = c.requires.so_far.base_fits in let m = c.args.task.now.limits.in_range.1 in
     omega (arith, k, b, m)
 
 pub loop-n-preserved : goal.loop-n-preserved

@@ -20,5 +20,5 @@ returns g c =
     → Settles c.args.rules.now t (Given c.args.number) c.args.equation.now.0 c.args.equation.now.1 =
     (λ t s. subst (λ x. Settles c.args.rules.now t (Given c.args.number) x c.args.equation.now.1) l
     (subst (λ x. Settles c.args.rules.now t (Given c.args.number) set.left.items x) r s)) in
-    MatchResult-weaker c.settle_sides.result c.settle_sides.ensures (λ x. does_more _ _ _ _ _ _ _ settles)
-    (λ s. stops_more _ _ _ _ _ _ _ settles s)
+    MatchResult-weaker c.settle_sides.result c.settle_sides.ensures (λ x. does_more c.args.limits _ _ _ _ _ _ settles)
+    (λ s. stops_more c.args.limits _ _ _ _ _ _ settles s)

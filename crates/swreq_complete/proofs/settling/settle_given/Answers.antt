@@ -75,5 +75,5 @@ returns-in_err-settle_equation g c =
 pub settle_equation-requires : goal.settle_equation-requires
 settle_equation-requires g c =
     let k = kept_length c.args.task.now.limits (length c.args.rules.now) c.loop-n.rules c.loop-n.invariant.kept in
-    let b = c.requires.base_fits in let m = c.requires.limits.1 in
+    let b = c.requires in let m = c.args.task.now.limits.in_range.1 in
     omega (arith, k, b, m)

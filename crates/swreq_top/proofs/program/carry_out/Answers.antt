@@ -5,9 +5,8 @@ use Rattle.swreq_top.specs.Run.HasToPrint.{no_memory, wrong_words}
 use Rattle.swreq_top.proofs.Delivering.{ended, nothing_said, nothing_told, to_print}
 use Rattle.swreq_top.proofs.program.carry_out.Goals as goal
 
-pub answer-requires-clause-count : goal.answer-requires-clause-count
-answer-requires-clause-count g c =
-    c.numbers_are_in_range.ensures.count _ c.in-Ok.line c.in-Ok.ensures.ok
+pub answer-requires : goal.answer-requires
+answer-requires g c = record { count = c.count_is_in_range.ensures.count _ c.in-Ok.line c.in-Ok.ensures.ok }
 
 pub returns-in-Ok-answer-clause-end : goal.returns-in-Ok-answer-clause-end
 returns-in-Ok-answer-clause-end g c =

@@ -1,10 +1,10 @@
-use Rattle.std.proofs.Common.{◌≡◌, ◌∙◌, Err, map, string_bytes, sym, ap, rules, subst}
+use Rattle.std.proofs.Common.{◌≡◌, ◌∙◌, Err, IfSome, map, string_bytes, sym, ap, rules, subst}
 use Rattle.std.proofs.lemmas.Result.{err_from_is_err_and}
 use Rattle.clap.specs.Words.{subcommand_of, subcommand_rows_of}
 use Rattle.swreq_words.specs.declared.reading.UsageErr.TheVariants.{Memory}
-use Rattle.swreq_words.specs.Found.{line_found}
+use Rattle.swreq_words.specs.Found.{HasLimits, line_found}
 use Rattle.swreq_words.specs.Taken.{genreq}
-use Rattle.swreq_words.proofs.Lines.{IsUsage, usage_without, usage_memory, ok_found, usage_found}
+use Rattle.swreq_words.proofs.Lines.{IsUsage, limits_found, ok_found, usage_found, usage_memory, usage_without}
 use Rattle.swreq_words.proofs.reading.read.Goals as goal
 
 pub returns-then-not-has_form-clause-usage : goal.returns-then-not-has_form-clause-usage
@@ -17,6 +17,12 @@ returns-in_err-matches-clause-usage c =
     let failed = err_from_is_err_and c.from_residual.result c.from_residual.ensures.1 in
     subst (IsUsage (map string_bytes c.args.words.now)) (sym (failed.1 ∙ ap Err (search (rules, failed, memory))))
     (usage_memory (map string_bytes c.args.words.now) (sym c.has_form.ensures ∙ c.if-not-has_form.false))
+
+pub line_found-requires : goal.line_found-requires
+line_found-requires c =
+    let found : subcommand_rows_of c.in_ok-matches.matches ≡ subcommand_of genreq (map string_bytes c.args.words.now) = search rules in
+    subst (λ o. IfSome o (λ found. HasLimits found.1)) (sym found)
+    (limits_found (map string_bytes c.args.words.now) (sym c.has_form.ensures ∙ c.if-not-has_form.false))
 
 pub returns-clause-ok : goal.returns-clause-ok
 returns-clause-ok c =
