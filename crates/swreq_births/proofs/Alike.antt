@@ -1,15 +1,10 @@
 -- Words that are read alike.
 use Rattle.std.proofs.Common.{◌≡◌, inl, inr, ℕ, zero, suc, List, [], ◌∷◌, take, refl, sym, subst}
-use Rattle.swreq_param.specs.declared.ids.TermId.{TermId}
-use Rattle.swreq_param.specs.Terms.{Term}
-use Rattle.swreq_param.specs.Tables.{IsOf, term_at}
+use Rattle.swreq_param.specs.{declared.ids.TermId.{TermId}, Terms.{Term}, Tables.{IsOf, term_at}}
 use Rattle.swreq_correspondence.specs.swreq_word.declared.symbols.Symbol.{Symbol}
-use Rattle.swreq_complete.specs.swreq_rule.declared.rules.Rule.{Rule}
-use Rattle.swreq_complete.specs.swreq_rule.Oriented.{IsOriented}
-use Rattle.swreq_derivation.specs.declared.derivation.Derivation.{Derivation}
-use Rattle.swreq_derivation.specs.UnderWay.{AddsLines}
-use Rattle.swreq_readings.specs.declared.alphabet.Alphabet.{Alphabet}
-use Rattle.swreq_readings.specs.Readable.{AllowsWord, AreReadEqual, read_symbol}
+use Rattle.swreq_complete.specs.swreq_rule.{declared.rules.Rule.{Rule}, Oriented.{IsOriented}}
+use Rattle.swreq_derivation.specs.{declared.derivation.Derivation.{Derivation}, UnderWay.{AddsLines}}
+use Rattle.swreq_readings.specs.{declared.alphabet.Alphabet.{Alphabet}, Readable.{AllowsWord, AreReadEqual, read_symbol}}
 use Rattle.swreq_readings.proofs.ReadingLemmas.{both_still, term_still}
 
 pub both_as : (g : Alphabet) (s : Derivation) (t u : Term) (a a' b b' : List Symbol) → t ≡ u → a ≡ a' → b ≡ b' → AreReadEqual g s t a b

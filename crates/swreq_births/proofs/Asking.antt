@@ -1,21 +1,14 @@
 -- What words ask of the type parameter after which they are read.
-use Rattle.std.proofs.Common.{◌≡◌, inl, inr, ℕ, ◌<◌, Bool, true, false, List, [], ◌∷◌, ◌++◌, length, take, slice_get, Some, Option, refl, sym, ap, subst, ◌∙◌, arith}
-use Rattle.swreq_param.specs.declared.ids.ProtoId.{ProtoId}
-use Rattle.swreq_param.specs.Terms.{Term}
-use Rattle.swreq_correspondence.specs.swreq_word.declared.symbols.Symbol.{Symbol}
-use Rattle.swreq_correspondence.specs.swreq_word.declared.symbols.Symbol.TheVariants.{Proto, Member, Param, Name, Layout}
-use Rattle.swreq_complete.specs.swreq_rule.declared.rules.Rule.{Rule}
-use Rattle.swreq_complete.specs.swreq_rule.Reduction.{Reduces, ReductionStep}
-use Rattle.swreq_correspondence.specs.swreq_word.Relations.{Chain}
-use Rattle.swreq_correspondence.specs.swreq_word.Relations.Chain.{done, more}
-use Rattle.swreq_correspondence.proofs.swreq_derive.LineLemmas.{get_take}
-use Rattle.swreq_births.specs.Systems.{ReducesTo}
+use Rattle.std.proofs.Common.{◌≡◌, inl, inr, ℕ, ◌<◌, Bool, true, false, List, [], ◌∷◌, ◌++◌, length, take, slice_get, Some, Option, refl}
+use Rattle.std.proofs.{Common.{sym, ap, subst, ◌∙◌, arith}, lemmas.Option.{same_Some}}
+use Rattle.swreq_param.specs.{declared.ids.ProtoId.{ProtoId}, Terms.{Term}}
+use Rattle.swreq_correspondence.specs.swreq_word.declared.symbols.Symbol.{Symbol, TheVariants.{Proto, Member, Param, Name, Layout}}
+use Rattle.swreq_correspondence.{specs.swreq_word.Relations.{Chain, Chain.{done, more}}, proofs.swreq_derive.LineLemmas.{get_take}}
+use Rattle.swreq_complete.specs.swreq_rule.{declared.rules.Rule.{Rule}, Reduction.{Reduces, ReductionStep}}
 use Rattle.swreq_complete.specs.swreq_path.Paths.{replaced_side}
-use Rattle.swreq_derivation.specs.declared.derivation.Derivation.{Derivation}
-use Rattle.swreq_readings.specs.declared.alphabet.Alphabet.{Alphabet}
-use Rattle.swreq_readings.specs.Readable.{AllowsWord}
-use Rattle.swreq_births.specs.Heads.{head_of, ConformsIfAny, IsHeadStated}
-use Rattle.std.proofs.lemmas.Option.{same_Some}
+use Rattle.swreq_births.specs.{Systems.{ReducesTo}, Heads.{head_of, IsHeadStated}}
+use Rattle.swreq_derivation.specs.{declared.derivation.Derivation.{Derivation}, Origins.{ConformsIfAny}}
+use Rattle.swreq_readings.specs.{declared.alphabet.Alphabet.{Alphabet}, Readable.{AllowsWord}}
 
 -- Both words ask the same of the type parameter after which they are read: that it conforms to a protocol, or nothing.
 abbrev pub IsHeaded : Alphabet → List Symbol → List Symbol → Type 0

@@ -1,30 +1,19 @@
 -- What a rule is born of: an equation, or a pair.
-use Rattle.std.proofs.Common.{◌≡◌, ◌⊎◌, inl, inr, ℕ, suc, ◌-◌, ◌<◌, ◌≤◌, List, ◌++◌, length, take, slice_get, Some, Option, max, sym, ap, subst, ◌∙◌, arith}
-use Rattle.swreq_complete.specs.swreq_pair.Pairs.{ContainmentPair, OverlapPair, IsPair}
-use Rattle.swreq_param.specs.declared.ids.ProtoId.{ProtoId}
-use Rattle.swreq_param.specs.Terms.{Term}
-use Rattle.swreq_correspondence.specs.swreq_word.declared.symbols.Symbol.{Symbol}
-use Rattle.swreq_complete.specs.swreq_rule.declared.rules.Rule.{Rule}
-use Rattle.swreq_complete.specs.swreq_rule.Steps.{RuleAt}
-use Rattle.swreq_complete.specs.swreq_rule.Oriented.{IsOriented}
-use Rattle.swreq_param.proofs.swreq_lemmas.Elements.{get_of_map}
-use Rattle.swreq_complete.specs.swreq_rule.declared.rules.Birth.{Birth}
-use Rattle.swreq_complete.specs.swreq_rule.declared.rules.Birth.TheVariants.{Given, Pair}
-use Rattle.swreq_complete.specs.Moments.{HasSides, greater_number}
-use Rattle.swreq_complete.specs.swreq_rule.declared.rules.Place.{Place}
-use Rattle.swreq_complete.specs.Reached.{IsBorn}
-use Rattle.swreq_births.specs.declared.history.Equation.{Equation}
-use Rattle.swreq_births.specs.declared.history.System.{System}
-use Rattle.swreq_births.specs.Systems.{given_of, ReducesTo}
-use Rattle.swreq_derivation.specs.declared.derivation.Derivation.{Derivation}
-use Rattle.swreq_readings.specs.declared.alphabet.Alphabet.{Alphabet}
-use Rattle.swreq_readings.specs.Readable.{AllowsWord, AreReadEqual, read_word}
-use Rattle.swreq_readings.proofs.ReadingLemmas.{word_right}
-use Rattle.swreq_births.specs.Heads.{head_of, ConformsIfAny, IsHeadStated}
-use Rattle.swreq_births.proofs.Asking.{IsHeaded, head_front, asked_is_said, head_of_front, head_of_born, AreHeaded}
-use Rattle.std.proofs.lemmas.Option.{same_Some}
+use Rattle.std.proofs.Common.{◌≡◌, ◌⊎◌, inl, inr, ℕ, suc, ◌-◌, ◌<◌, ◌≤◌, List, ◌++◌, length, take, slice_get, Some, Option, max, sym, ap}
+use Rattle.std.proofs.{Common.{subst, ◌∙◌, arith}, lemmas.Option.{same_Some}}
+use Rattle.swreq_complete.specs.{swreq_pair.Pairs.{ContainmentPair, OverlapPair, IsPair}, swreq_rule.declared.rules.Rule.{Rule}}
+use Rattle.swreq_complete.specs.swreq_rule.{declared.rules.{Birth.{Birth, TheVariants.{Given, Pair}}, Place.{Place}}, Steps.{RuleAt}}
+use Rattle.swreq_complete.specs.{swreq_rule.Oriented.{IsOriented}, Moments.{HasSides, greater_number}, Reached.{IsBorn}}
 use Rattle.swreq_complete.proofs.swreq_rule.Numbers.{one_rule}
+use Rattle.swreq_param.{specs.{declared.ids.ProtoId.{ProtoId}, Terms.{Term}}, proofs.swreq_lemmas.Elements.{get_of_map}}
+use Rattle.swreq_correspondence.specs.swreq_word.declared.symbols.Symbol.{Symbol}
+use Rattle.swreq_births.specs.{declared.history.{Equation.{Equation}, System.{System}}, Systems.{given_of, ReducesTo}}
+use Rattle.swreq_births.specs.Heads.{head_of, IsHeadStated}
+use Rattle.swreq_births.proofs.Asking.{IsHeaded, head_front, asked_is_said, head_of_front, head_of_born, AreHeaded}
 use Rattle.swreq_births.proofs.PairParts.{in_two, crossed, contained}
+use Rattle.swreq_derivation.specs.{declared.derivation.Derivation.{Derivation}, Origins.{ConformsIfAny}}
+use Rattle.swreq_readings.specs.{declared.alphabet.Alphabet.{Alphabet}, Readable.{AllowsWord, AreReadEqual, read_word}}
+use Rattle.swreq_readings.proofs.ReadingLemmas.{word_right}
 
 -- ---- births
 

@@ -1,10 +1,8 @@
 -- Words that reduce to one, and where their reductions end.
 use Rattle.std.proofs.Common.{◌≡◌, ◌∙◌, List}
 use Rattle.swreq_correspondence.specs.swreq_word.declared.symbols.Symbol.{Symbol}
-use Rattle.swreq_complete.specs.swreq_rule.declared.rules.Rule.{Rule}
-use Rattle.swreq_complete.specs.swreq_rule.Reduction.{Reduces}
+use Rattle.swreq_complete.specs.{swreq_rule.{declared.rules.Rule.{Rule}, Reduction.{Reduces}}, Alike.{ReduceAlike}}
 use Rattle.swreq_complete.proofs.swreq_rule.Remaining.{one_result}
-use Rattle.swreq_complete.specs.Alike.{ReduceAlike}
 
 pub alike_back : (rules : List Rule) (u v : List Symbol) → ReduceAlike rules u v → ReduceAlike rules v u
 alike_back rules u v h = (h.0, h.2, h.1)

@@ -1,32 +1,21 @@
 -- The equations of rounds: if lines state what the left side asks, both sides are read alike.
 use Rattle.std.proofs.Common.{◌≡◌, inl, ℕ, List, [], ◌∷◌, ◌++◌, Option, Some, None, slice_get, refl, sym, ap, subst, ◌∙◌}
 use Rattle.std.proofs.lemmas.Option.{get_or_from_slice_get, same_Some}
-use Rattle.swreq_param.specs.declared.ids.ProtoId.{ProtoId}
-use Rattle.swreq_param.specs.declared.ids.TermId.{TermId}
-use Rattle.swreq_param.specs.Tables.{IsOf, term_at}
-use Rattle.swreq_param.specs.Terms.{Term}
-use Rattle.swreq_correspondence.specs.swreq_derive.Derivation.TermRequirement.{Conforms, IsAnyObject}
-use Rattle.swreq_correspondence.specs.swreq_derive.Derivation.TermStatement.{Requires}
+use Rattle.swreq_param.specs.{declared.ids.{ProtoId.{ProtoId}, TermId.{TermId}}, Tables.{IsOf, term_at}, Terms.{Term}}
+use Rattle.swreq_correspondence.specs.swreq_derive.Derivation.{TermRequirement.{Conforms, IsAnyObject}, TermStatement.{Requires}}
 use Rattle.swreq_correspondence.specs.swreq_word.declared.symbols.Symbol.{Symbol}
 use Rattle.swreq_correspondence.specs.swreq_word.declared.symbols.Symbol.TheVariants.{Layout as LayoutSymbol, Member, Name, Proto}
 use Rattle.swreq_complete.specs.swreq_rule.declared.rules.Rule.{Rule}
-use Rattle.swreq_derivation.specs.declared.derivation.Derivation.{Derivation}
-use Rattle.swreq_derivation.specs.UnderWay.{AddsLines, States}
-use Rattle.swreq_readings.specs.declared.alphabet.Alphabet.{Alphabet}
-use Rattle.swreq_readings.specs.swreq_lexicon.declared.pair.ProtocolName.{ProtocolName}
-use Rattle.swreq_readings.specs.Alphabets.{lexicon, member_at}
-use Rattle.swreq_readings.specs.Readable.{AllowsWord, AreReadEqual, read_word}
+use Rattle.swreq_derivation.specs.declared.{derivation.Derivation.{Derivation}, statements.Bound.{Bound}}
+use Rattle.swreq_derivation.specs.{declared.statements.Bound.TheVariants.{AnyObject, Protocol}, UnderWay.{AddsLines, States, StatesBound}}
+use Rattle.swreq_derivation.specs.Origins.{ConformsIfAny}
+use Rattle.swreq_readings.specs.{declared.alphabet.Alphabet.{Alphabet}, swreq_lexicon.declared.pair.ProtocolName.{ProtocolName}}
+use Rattle.swreq_readings.specs.{Alphabets.{lexicon, member_at}, Readable.{AllowsSymbol, AllowsWord, AreReadEqual, read_word}}
 use Rattle.swreq_readings.proofs.ReadingLemmas.{is_still, read_on, term_still, word_both, word_right}
-use Rattle.swreq_births.specs.declared.history.History.{History}
-use Rattle.swreq_births.specs.declared.history.Equation.{Equation}
-use Rattle.swreq_births.specs.declared.history.Reason.{Reason}
-use Rattle.swreq_births.specs.declared.history.OwnedRequirement.{OwnedRequirement}
-use Rattle.swreq_births.specs.declared.history.OwnedRequirement.TheVariants.{Conf, Layout, Same}
-use Rattle.swreq_births.specs.Heads.{head_of, ConformsIfAny, IsHeadStated}
-use Rattle.swreq_births.specs.Systems.{HasEquation, HasShownSides, IsGivenBy}
-use Rattle.swreq_births.proofs.Headed.{shown_head}
-use Rattle.swreq_births.proofs.Alike.{both_as}
-use Rattle.swreq_births.proofs.Asking.{head_front}
+use Rattle.swreq_births.specs.declared.history.{History.{History}, Equation.{Equation}, Reason.{Reason}}
+use Rattle.swreq_births.specs.declared.history.OwnedRequirement.{OwnedRequirement, TheVariants.{Conf, Layout, Same}}
+use Rattle.swreq_births.specs.{Heads.{head_of, IsHeadStated}, Readings.{symbol_of}, Systems.{HasEquation, HasShownSides, IsGivenBy}}
+use Rattle.swreq_births.proofs.{Headed.{shown_head}, Alike.{both_as}, Asking.{head_front}}
 
 -- ---- what is asked, as a derivation grows
 
@@ -100,22 +89,24 @@ module _ (g : Alphabet) (s : Derivation) (t : Term) (left right : List Symbol) w
 
 module _ (g : Alphabet) (s : Derivation) (t : Term) (w : List Symbol) where
   -- one side is the other one with a symbol more, which does not change what the word is read as
-  pub conf_both : (q : ProtoId) → AllowsWord g s t w → States s (Requires (Conforms (read_word g t w) q)) → AreReadEqual g s t
-      (w ++ Proto q.rank ∷ []) w
-  conf_both q h says = record {
-    left = word_both g s t w (Proto q.rank ∷ []) h (says, tt);
+  pub bound_both : (bound : Bound) → AllowsWord g s t w → AllowsSymbol g s (read_word g t w) (symbol_of bound)
+      → AreReadEqual g s t (w ++ symbol_of bound ∷ []) w
+  bound_both (Protocol p) h says = record {
+    left = word_both g s t w (Proto p.rank ∷ []) h (says, tt);
     right = h;
-    equal = inl
-        (read_on g t w (Proto q.rank ∷ []));
+    equal = inl (read_on g t w (Proto p.rank ∷ []));
   }
-
-  pub layout_both : AllowsWord g s t w → States s (Requires (IsAnyObject (read_word g t w))) → AreReadEqual g s t (w ++ LayoutSymbol ∷ []) w
-  layout_both h says = record {
+  bound_both AnyObject h says = record {
     left = word_both g s t w (LayoutSymbol ∷ []) h (says, tt);
     right = h;
-    equal = inl
-        (read_on g t w (LayoutSymbol ∷ []));
+    equal = inl (read_on g t w (LayoutSymbol ∷ []));
   }
+
+-- what lines state of the bound of a type parameter allows the symbol of the bound after it
+pub bound_allowed : (g : Alphabet) (s u : Derivation) (v : TermId) (x : Term) (bound : Bound) → term_at s.table v ≡ x
+    → StatesBound s u v bound → AllowsSymbol g u x (symbol_of bound)
+bound_allowed g s u v x (Protocol p) e = subst (λ z. States u (Requires (Conforms z p))) e
+bound_allowed g s u v x AnyObject e = subst (λ z. States u (Requires (IsAnyObject z))) e
 
 -- if lines allow a word with a protocol symbol after it, they state that what the word is read as conforms to the protocol
 pub proto_said : (g : Alphabet) (s : Derivation) (t : Term) (w v : List Symbol) (p : ProtoId) → v ≡ w ++ Proto p.rank ∷ [] → AllowsWord g s

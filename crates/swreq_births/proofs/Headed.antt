@@ -1,35 +1,24 @@
 -- Both sides of each rule ask the same.
-use Rattle.std.proofs.Common.{◌≡◌, ◌⊎◌, inl, inr, ℕ, zero, suc, ◌+◌, ◌-◌, ◌<◌, ◌≤◌, List, [], ◌++◌, length, take, slice_get, Some, Option, None, refl, sym, ap, subst, ◌∙◌, arith, append_assoc}
-use Rattle.std.proofs.lemmas.Option.{get_or_from_slice_get, slice_get_within, same_Some}
-use Rattle.std.proofs.lemmas.Bool.{cases_lt}
+use Rattle.std.proofs.Common.{◌≡◌, ◌⊎◌, inl, inr, ℕ, zero, suc, ◌+◌, ◌-◌, ◌<◌, ◌≤◌, List, [], ◌++◌, length, take, slice_get, Some, Option}
+use Rattle.std.proofs.Common.{None, refl, sym, ap, subst, ◌∙◌, arith, append_assoc}
+use Rattle.std.proofs.lemmas.{Option.{get_or_from_slice_get, slice_get_within, same_Some}, Bool.{cases_lt}}
 use Rattle.std.proofs.lemmas.List.{append-nil, get_or_past, take_all}
-use Rattle.swreq_param.specs.declared.ids.ProtoId.{ProtoId}
-use Rattle.swreq_correspondence.specs.swreq_word.declared.symbols.Symbol.{Symbol}
-use Rattle.swreq_complete.specs.swreq_rule.declared.rules.Birth.{Birth}
-use Rattle.swreq_complete.specs.swreq_rule.declared.rules.Birth.TheVariants.{Given, Pair}
-use Rattle.swreq_complete.specs.swreq_rule.declared.rules.Rule.{Rule}
-use Rattle.swreq_complete.specs.swreq_rule.declared.rules.Place.{Place}
-use Rattle.swreq_complete.specs.swreq_rule.Steps.{RuleAt}
-use Rattle.swreq_complete.specs.swreq_pair.Pairs.{ContainmentPair, IsPair, OverlapPair}
-use Rattle.swreq_param.specs.Terms.{Term}
-use Rattle.swreq_derivation.specs.declared.derivation.Derivation.{Derivation}
-use Rattle.swreq_correspondence.proofs.swreq_derive.LineLemmas.{get_take}
-use Rattle.swreq_readings.specs.declared.alphabet.Alphabet.{Alphabet}
-use Rattle.swreq_readings.specs.Alphabets.{lexicon}
-use Rattle.swreq_readings.specs.Readable.{AllowsWord, read_word}
-use Rattle.swreq_births.specs.declared.history.RulePlace.{RulePlace}
-use Rattle.swreq_births.specs.declared.history.History.{History}
-use Rattle.swreq_births.specs.declared.history.Equation.{Equation}
-use Rattle.swreq_births.specs.declared.history.OwnedRequirement.{OwnedRequirement}
-use Rattle.swreq_births.specs.declared.history.OwnedRequirement.TheVariants.{Conf, Layout, Same}
-use Rattle.swreq_births.specs.declared.history.Reason.{Reason}
-use Rattle.swreq_births.specs.declared.history.Reason.TheVariants.{Doubled, Named, Required}
-use Rattle.swreq_births.specs.declared.history.System.{System}
-use Rattle.swreq_births.specs.Heads.{head_of, IsHeadStated}
-use Rattle.swreq_births.proofs.Asking.{IsHeaded, AreHeaded, head_front, head_of_born, head_put, head_reduces}
-use Rattle.swreq_births.specs.Systems.{HasRule, HasRules, HasShownSides, HasSystem, IsBornAt, IsGivenBy, IsHistory, IsShown, IsSystem, ReducesTo, rules_at, system_at, systems_of}
-use Rattle.swreq_births.proofs.Births.{head_of_pair, born_of, BornOf, GivenBy, PairedBy, first_allows, given_by, pair_kind, pair_within, paired_by, rule_at_number, second_allows}
+use Rattle.swreq_param.specs.{declared.ids.ProtoId.{ProtoId}, Terms.{Term}}
+use Rattle.swreq_correspondence.{specs.swreq_word.declared.symbols.Symbol.{Symbol}, proofs.swreq_derive.LineLemmas.{get_take}}
+use Rattle.swreq_complete.specs.swreq_rule.declared.rules.{Birth.{Birth, TheVariants.{Given, Pair}}, Rule.{Rule}, Place.{Place}}
+use Rattle.swreq_complete.specs.{swreq_rule.Steps.{RuleAt}, swreq_pair.Pairs.{ContainmentPair, IsPair, OverlapPair}}
 use Rattle.swreq_complete.proofs.swreq_rule.Numbers.{number_some}
+use Rattle.swreq_derivation.specs.declared.derivation.Derivation.{Derivation}
+use Rattle.swreq_readings.specs.{declared.alphabet.Alphabet.{Alphabet}, Alphabets.{lexicon}, Readable.{AllowsWord, read_word}}
+use Rattle.swreq_births.specs.declared.history.{RulePlace.{RulePlace}, History.{History}, Equation.{Equation}}
+use Rattle.swreq_births.specs.declared.history.{OwnedRequirement.{OwnedRequirement, TheVariants.{Conf, Layout, Same}}, Reason.{Reason}}
+use Rattle.swreq_births.specs.declared.history.{Reason.TheVariants.{Doubled, Named, Required}, System.{System}}
+use Rattle.swreq_births.specs.Heads.{head_of, IsHeadStated}
+use Rattle.swreq_births.specs.Systems.{HasRule, HasRules, HasShownSides, HasSystem, IsBornAt, IsGivenBy, IsHistory, IsShown, IsSystem}
+use Rattle.swreq_births.specs.Systems.{ReducesTo, rules_at, system_at, systems_of}
+use Rattle.swreq_births.proofs.Asking.{IsHeaded, AreHeaded, head_front, head_of_born, head_put, head_reduces}
+use Rattle.swreq_births.proofs.Births.{head_of_pair, born_of, BornOf, GivenBy, PairedBy, first_allows, given_by, pair_kind, pair_within}
+use Rattle.swreq_births.proofs.Births.{paired_by, rule_at_number, second_allows}
 
 -- ---- equations
 

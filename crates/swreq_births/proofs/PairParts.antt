@@ -1,9 +1,8 @@
 -- The parts of the words of pairs.
-use Rattle.std.proofs.Common.{◌≡◌, ℕ, ◌+◌, ◌-◌, ◌≤◌, List, ◌++◌, length, drop, take, refl, sym, ap, subst, ◌∙◌, arith, append_assoc, length-append}
-use Rattle.swreq_complete.specs.swreq_pair.Pairs.{ContainmentPair, OverlapPair}
+use Rattle.std.proofs.Common.{◌≡◌, ℕ, ◌+◌, ◌-◌, ◌≤◌, List, ◌++◌, length, drop, take, refl, sym, ap, subst, ◌∙◌, arith, append_assoc}
+use Rattle.std.proofs.{Common.{length-append}, lemmas.List.{drop_at, take_at}}
+use Rattle.swreq_complete.specs.{swreq_pair.Pairs.{ContainmentPair, OverlapPair}, swreq_rule.declared.rules.Rule.{Rule}}
 use Rattle.swreq_correspondence.specs.swreq_word.declared.symbols.Symbol.{Symbol}
-use Rattle.swreq_complete.specs.swreq_rule.declared.rules.Rule.{Rule}
-use Rattle.std.proofs.lemmas.List.{drop_at, take_at}
 
 -- ---- the parts of a pair
 

@@ -1,15 +1,10 @@
 -- The steps of paths, and the rules that numbers name.
-use Rattle.std.proofs.Common.{◌≡◌, ℕ, suc, ◌+◌, ◌-◌, ◌<◌, List, [], ◌∷◌, ◌++◌, drop}
-use Rattle.std.proofs.Common.{take, slice_get, Some, sym, ap, subst, ◌∙◌, arith}
-use Rattle.swreq_correspondence.specs.swreq_word.declared.symbols.Symbol.{Symbol}
-use Rattle.swreq_complete.specs.swreq_rule.declared.rules.Rule.{Rule}
-use Rattle.swreq_complete.specs.swreq_rule.Steps.{RuleAt}
-use Rattle.swreq_complete.proofs.swreq_lemmas.Elements.{drop_from}
-use Rattle.swreq_complete.proofs.swreq_rule.Numbers.{one_rule}
-use Rattle.swreq_correspondence.proofs.swreq_derive.LineLemmas.{get_take}
-use Rattle.swreq_complete.specs.swreq_path.declared.paths.Path.{Path}
+use Rattle.std.proofs.Common.{◌≡◌, ℕ, suc, ◌+◌, ◌-◌, ◌<◌, List, ◌++◌, drop, take, slice_get, Some, sym, ap, subst, ◌∙◌, arith}
+use Rattle.swreq_correspondence.{specs.swreq_word.declared.symbols.Symbol.{Symbol}, proofs.swreq_derive.LineLemmas.{get_take}}
+use Rattle.swreq_complete.specs.{swreq_rule.{declared.rules.Rule.{Rule}, Steps.{RuleAt}}, swreq_path.declared.paths.Path.{Path}}
 use Rattle.swreq_complete.specs.swreq_path.declared.steps.RewriteStep.{RewriteStep}
 use Rattle.swreq_complete.specs.swreq_path.Paths.{HasTarget, replaced_side, put_side, StepLeads, StepsLead}
+use Rattle.swreq_complete.proofs.{swreq_lemmas.Elements.{drop_from}, swreq_rule.Numbers.{one_rule}}
 
 -- ---- a step of a path
 

@@ -1,22 +1,14 @@
 -- What lines say of type parameters with their words, as a derivation grows.
 use Rattle.std.proofs.Common.{◌≡◌, List, Option, sym, ap, subst, ◌∙◌}
-use Rattle.swreq_param.specs.declared.ids.ProtoId.{ProtoId}
-use Rattle.swreq_param.specs.declared.ids.Step.{Step}
-use Rattle.swreq_param.specs.declared.ids.TermId.{TermId}
-use Rattle.swreq_param.specs.Tables.{IsOf, term_at}
-use Rattle.swreq_param.specs.Terms.{Term}
+use Rattle.swreq_param.specs.{declared.ids.{ProtoId.{ProtoId}, Step.{Step}, TermId.{TermId}}, Tables.{IsOf, term_at}, Terms.{Term}}
 use Rattle.swreq_correspondence.specs.swreq_word.declared.symbols.Symbol.{Symbol}
-use Rattle.swreq_derivation.specs.declared.derivation.Derivation.{Derivation}
-use Rattle.swreq_derivation.specs.UnderWay.{AddsLines, AreStatedEqual}
+use Rattle.swreq_derivation.specs.declared.{derivation.Derivation.{Derivation}, requirements.Origin.{Origin}}
+use Rattle.swreq_derivation.specs.{UnderWay.{AddsLines, AreStatedEqual}, Origins.{IsOrigin, placed}}
 use Rattle.swreq_derivation.proofs.DerivationLemmas.{grows_then}
-use Rattle.swreq_readings.specs.declared.alphabet.Alphabet.{Alphabet}
-use Rattle.swreq_readings.specs.swreq_lexicon.declared.pair.ProtocolName.{ProtocolName}
+use Rattle.swreq_readings.specs.{declared.alphabet.Alphabet.{Alphabet}, swreq_lexicon.declared.pair.ProtocolName.{ProtocolName}}
 use Rattle.swreq_readings.specs.Readable.{AllowsWord, IsGiven, read_word}
 use Rattle.swreq_readings.proofs.ReadingLemmas.{equal_as, equal_still, is_still, term_still, word_still}
-use Rattle.swreq_births.specs.declared.giving.Origin.{Origin}
-use Rattle.swreq_births.specs.Readings.{IsOrigin, IsReadBy}
-use Rattle.swreq_births.specs.Types.{placed}
-use Rattle.swreq_births.proofs.Equations.{asked_now}
+use Rattle.swreq_births.{specs.Readings.{IsReadBy}, proofs.Equations.{asked_now}}
 
 pub origin_still : (s u : Derivation) → AddsLines s u → (o : Origin) → IsOrigin s o → IsOrigin u o
 origin_still s u grows o w = record {

@@ -1,35 +1,22 @@
 -- The steps of type parameters that rules show valid, and what lines allow by them.
-use Rattle.std.proofs.Common.{◌≡◌, ℕ, zero, suc, ◌+◌, ◌<◌, List, [], ◌∷◌, ◌++◌, length, map, take, get_or, slice_get, Some, Option, None, refl, sym, ap, subst, ◌∙◌, arith, append_assoc}
-use Rattle.std.proofs.lemmas.List.{append-nil, length-map, take-map}
+use Rattle.std.proofs.Common.{◌≡◌, ℕ, zero, suc, ◌+◌, ◌<◌, List, [], ◌∷◌, ◌++◌, length, map, take, get_or, slice_get, Some, Option, None}
+use Rattle.std.proofs.{Common.{refl, sym, ap, subst, ◌∙◌, arith, append_assoc}, lemmas.List.{append-nil, length-map, take-map}}
 use Rattle.std.proofs.lemmas.Option.{get_or_from_slice_get, same_Some, slice_get_within}
-use Rattle.swreq_param.specs.declared.ids.ParamId.{ParamId}
-use Rattle.swreq_param.specs.declared.ids.ProtoId.{ProtoId}
-use Rattle.swreq_param.specs.declared.ids.Step.{Step}
-use Rattle.swreq_param.specs.declared.ids.Step.TheVariants.{Bound, Name}
-use Rattle.swreq_param.specs.Terms.{Term, with_steps}
-use Rattle.swreq_param.specs.Terms.Term.{Generic, Member}
-use Rattle.swreq_param.proofs.swreq_lemmas.Elements.{get_map}
+use Rattle.swreq_param.specs.declared.ids.{ParamId.{ParamId}, ProtoId.{ProtoId}, Step.{Step, TheVariants.{Bound, Name}}}
+use Rattle.swreq_param.{specs.Terms.{Term, with_steps, Term.{Generic, Member}}, proofs.swreq_lemmas.Elements.{get_map}}
 use Rattle.swreq_correspondence.specs.swreq_word.declared.symbols.Symbol.{Symbol}
 use Rattle.swreq_correspondence.specs.swreq_word.declared.symbols.Symbol.TheVariants.{Proto, Member as MemberSymbol, Name as NameSymbol}
-use Rattle.swreq_complete.specs.swreq_rule.declared.rules.Rule.{Rule}
-use Rattle.swreq_complete.specs.Alike.{ReduceAlike}
-use Rattle.swreq_correspondence.specs.swreq_derive.Derivation.{Source, TermFacts, TermRequirement}
-use Rattle.swreq_correspondence.specs.swreq_derive.Derivation.TermRequirement.{Conforms}
-use Rattle.swreq_correspondence.specs.swreq_derive.Derivation.TermStatement.{Requires}
-use Rattle.swreq_correspondence.specs.Shown.{ShowsConformance, ShowsValid}
-use Rattle.swreq_correspondence.specs.Symbols.{Symbols, Word, start, symbol, word_of}
-use Rattle.swreq_correspondence.proofs.Spelling.{spell-append}
-use Rattle.swreq_derivation.specs.declared.derivation.Derivation.{Derivation}
-use Rattle.swreq_derivation.specs.UnderWay.{AreStatedEqual, States}
-use Rattle.swreq_readings.specs.declared.alphabet.Alphabet.{Alphabet}
-use Rattle.swreq_readings.specs.swreq_lexicon.declared.pair.ProtocolName.{ProtocolName}
+use Rattle.swreq_correspondence.specs.swreq_derive.Derivation.{Source, TermFacts, TermRequirement, TermRequirement.{Conforms}}
+use Rattle.swreq_correspondence.specs.{swreq_derive.Derivation.TermStatement.{Requires}, Shown.{ShowsConformance, ShowsValid}}
+use Rattle.swreq_correspondence.{specs.Symbols.{Symbols, Word, start, symbol, word_of}, proofs.Spelling.{spell-append}}
+use Rattle.swreq_complete.specs.{swreq_rule.declared.rules.Rule.{Rule}, Alike.{ReduceAlike}}
+use Rattle.swreq_derivation.specs.{declared.derivation.Derivation.{Derivation}, UnderWay.{AreStatedEqual, States}}
+use Rattle.swreq_derivation.specs.Origins.{ConformsIfAny, placed}
+use Rattle.swreq_readings.specs.{declared.alphabet.Alphabet.{Alphabet}, swreq_lexicon.declared.pair.ProtocolName.{ProtocolName}}
 use Rattle.swreq_readings.specs.Alphabets.{lexicon, member_at}
 use Rattle.swreq_readings.specs.Readable.{read_symbol, read_word, IsGiven, AllowsName, AllowsSymbol, AllowsWord}
 use Rattle.swreq_readings.proofs.ReadingLemmas.{equal_as, named_given, read_more, says_more}
-use Rattle.swreq_births.specs.Heads.{ConformsIfAny}
-use Rattle.swreq_births.specs.Systems.{AreSymbols, IsShown, source_of}
-use Rattle.swreq_births.specs.Types.{IsStepShown, placed}
-use Rattle.swreq_births.proofs.Ends.{alike_back}
+use Rattle.swreq_births.{specs.{Systems.{AreSymbols, IsShown, source_of}, Types.{IsStepShown}}, proofs.Ends.{alike_back}}
 
 -- ---- steps of a term
 

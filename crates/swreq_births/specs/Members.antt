@@ -1,18 +1,10 @@
 -- Conformances of members that one written requirement gives.
 use Rattle.std.specs.Prelude.{◌≡◌, ℕ, List, Some, slice_get}
-use Rattle.swreq_param.specs.declared.ids.ProtoId.{ProtoId}
-use Rattle.swreq_param.specs.declared.ids.Step.{Step}
-use Rattle.swreq_param.specs.Terms.{self}
-use Rattle.swreq_param.specs.Terms.Term.{Member}
-use Rattle.swreq_correspondence.specs.swreq_derive.Derivation.TermRequirement.{Conforms}
-use Rattle.swreq_correspondence.specs.swreq_derive.Instances.{HasNumber}
+use Rattle.swreq_param.specs.{declared.ids.{ProtoId.{ProtoId}, Step.{Step}}, Terms.{self, Term.{Member}}}
+use Rattle.swreq_correspondence.specs.swreq_derive.{Derivation.TermRequirement.{Conforms}, Instances.{HasNumber}}
 use Rattle.swreq_derivation.specs.UnderWay.{Assumptions}
-use Rattle.swreq_births.specs.declared.history.History.{History}
-use Rattle.swreq_births.specs.declared.history.Equation.{Equation}
-use Rattle.swreq_births.specs.declared.history.OwnedRequirement.{OwnedRequirement}
-use Rattle.swreq_births.specs.declared.history.Reason.{Reason}
-use Rattle.swreq_births.specs.declared.history.Reason.TheVariants.{Required}
-use Rattle.swreq_births.specs.declared.members.Written.{Written}
+use Rattle.swreq_births.specs.declared.history.{History.{History}, Equation.{Equation}, OwnedRequirement.{OwnedRequirement}}
+use Rattle.swreq_births.specs.declared.{history.Reason.{Reason, TheVariants.{Required}}, members.Written.{Written}}
 use Rattle.swreq_births.specs.Systems.{FitsHistory, IsWritten, requirement_by}
 
 -- The reason is the requirement `[Self.B : P]` of the protocol, with this number.

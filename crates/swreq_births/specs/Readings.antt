@@ -1,37 +1,16 @@
 -- What lines say of type parameters with their words, and of words with one another.
-use Rattle.std.specs.Prelude.{◌≡◌, List}
-use Rattle.swreq_param.specs.declared.ids.TermId.{TermId}
-use Rattle.swreq_param.specs.Tables.{IsOf, term_at}
-use Rattle.swreq_param.specs.Terms.{Term}
-use Rattle.swreq_correspondence.specs.swreq_derive.Derivation.{TermRequirement}
-use Rattle.swreq_correspondence.specs.swreq_derive.Derivation.TermRequirement.{Equals}
-use Rattle.swreq_correspondence.specs.swreq_derive.Instances.{HasNumber}
-use Rattle.swreq_correspondence.specs.swreq_word.declared.symbols.Symbol.{Symbol}
-use Rattle.swreq_derivation.specs.declared.derivation.Derivation.{Derivation}
-use Rattle.swreq_derivation.specs.UnderWay.{AreStatedEqual, Assumptions}
-use Rattle.swreq_readings.specs.declared.alphabet.Alphabet.{Alphabet}
-use Rattle.swreq_readings.specs.declared.putting.Sides.{Sides}
+use Rattle.std.specs.Prelude.{List}
+use Rattle.swreq_param.specs.{declared.ids.TermId.{TermId}, Tables.{IsOf, term_at}, Terms.{Term}}
+use Rattle.swreq_correspondence.specs.swreq_word.declared.symbols.Symbol.{Symbol, TheVariants.{Layout, Proto}}
+use Rattle.swreq_derivation.specs.declared.{derivation.Derivation.{Derivation}, statements.Bound.{Bound}}
+use Rattle.swreq_derivation.specs.{declared.statements.Bound.TheVariants.{AnyObject, Protocol}, UnderWay.{AreStatedEqual}}
+use Rattle.swreq_readings.specs.declared.{alphabet.Alphabet.{Alphabet}, putting.Sides.{Sides}}
 use Rattle.swreq_readings.specs.Readable.{AllowsWord, AreReadEqual, read_word}
-use Rattle.swreq_births.specs.declared.giving.Origin.{Origin}
-use Rattle.swreq_births.specs.Heads.{ConformsIfAny}
-use Rattle.swreq_births.specs.Types.{placed, written_by}
 
--- The type parameter after which the requirement is read is of the table. A line states that it conforms to the owner, if there is one.
-pub record IsOrigin (s : Derivation) (o : Origin) : Type 0 where
-  pub for_self : IsOf s.table o.for_self
-  pub owner : ConformsIfAny s (term_at s.table o.for_self) o.owner
-
--- The requirement with the origin's number is written of a type parameter, and the id stands for it. If there is an owner, T stands for
--- `Self`.
-abbrev pub IsWrittenOf : Derivation → Origin → TermId → (Term → TermRequirement) → Assumptions → Type 0
-IsWrittenOf s o t of b = (v : Term) × HasNumber o.number (written_by b o.owner) (of v)
-    × (term_at s.table t ≡ placed o.owner (term_at s.table o.for_self) v)
-
--- The same of a requirement that two type parameters are equal.
-abbrev pub AreWrittenOf : Derivation → Origin → TermId → TermId → Assumptions → Type 0
-AreWrittenOf s o t u b = (v : Term) × (w : Term) × HasNumber o.number (written_by b o.owner) (Equals v w)
-    × (term_at s.table t ≡ placed o.owner (term_at s.table o.for_self) v)
-    × (term_at s.table u ≡ placed o.owner (term_at s.table o.for_self) w)
+-- the symbol of a protocol, or that of `AnyObject`
+abbrev pub symbol_of : Bound → Symbol
+symbol_of (Protocol p) = Proto p.rank
+symbol_of AnyObject = Layout
 
 -- Lines allow the word after T, and state that the type parameter of the id equals what the word is read as.
 pub record IsReadBy (g : Alphabet) (s : Derivation) (t u : TermId) (w : List Symbol) : Type 0 where

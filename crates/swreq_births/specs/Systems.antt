@@ -1,39 +1,19 @@
 -- The systems of rules of all rounds, those of the protocols first.
 use Rattle.std.specs.Prelude.{◌≡◌, ℕ, ◌<◌, ◌≤◌, ◌-◌, ◌^◌, List, [], ◌∷◌, ◌++◌, Option, Some, None, length, map, get_or, slice_get, take}
-use Rattle.swreq_param.specs.Owned.{as_term}
-use Rattle.swreq_param.specs.Terms.{Term}
-use Rattle.swreq_param.specs.declared.ids.AssocId.{AssocId}
-use Rattle.swreq_param.specs.declared.ids.NameId.{NameId}
-use Rattle.swreq_param.specs.declared.ids.ProtoId.{ProtoId}
+use Rattle.swreq_param.specs.{Owned.{as_term}, Terms.{Term}, declared.ids.{AssocId.{AssocId}, NameId.{NameId}, ProtoId.{ProtoId}}}
 use Rattle.swreq_correspondence.specs.swreq_word.declared.symbols.Symbol.{Symbol}
 use Rattle.swreq_correspondence.specs.swreq_word.declared.symbols.Symbol.TheVariants.{Layout as LayoutSymbol, Member, Name, Proto}
-use Rattle.swreq_complete.specs.swreq_rule.declared.rules.Birth.{Birth}
-use Rattle.swreq_complete.specs.swreq_rule.declared.rules.Rule.{Rule}
-use Rattle.swreq_complete.specs.swreq_rule.Oriented.{IsOriented}
-use Rattle.swreq_complete.specs.swreq_rule.Reduction.{Reduces}
-use Rattle.swreq_complete.specs.Alike.{ReduceAlike}
-use Rattle.swreq_complete.specs.Reached.{IsBorn}
-use Rattle.swreq_correspondence.specs.swreq_derive.Derivation.{Declares, Source, TermFacts, TermRequirement}
-use Rattle.swreq_correspondence.specs.swreq_derive.Derivation.Source.{SelfOf, Written}
-use Rattle.swreq_correspondence.specs.swreq_derive.Derivation.TermRequirement.{Conforms, Equals, IsAnyObject}
-use Rattle.swreq_correspondence.specs.swreq_derive.Facts.{generic_params}
-use Rattle.swreq_correspondence.specs.swreq_derive.Instances.{HasNumber}
-use Rattle.swreq_correspondence.specs.Shown.{ShowsValid}
-use Rattle.swreq_correspondence.specs.Symbols.{Symbols, word_of}
-use Rattle.swreq_derivation.specs.UnderWay.{Assumptions}
-use Rattle.swreq_readings.specs.declared.alphabet.Alphabet.{Alphabet}
-use Rattle.swreq_readings.specs.swreq_lexicon.declared.pair.ProtocolName.{ProtocolName}
-use Rattle.swreq_readings.specs.swreq_lexicon.Lexicons.{pair}
-use Rattle.swreq_readings.specs.Alphabets.{Fits, IsInherited, lexicon}
-use Rattle.swreq_births.specs.declared.history.RulePlace.{RulePlace}
-use Rattle.swreq_births.specs.declared.history.History.{History}
-use Rattle.swreq_births.specs.declared.history.Equation.{Equation}
-use Rattle.swreq_births.specs.declared.history.OwnedRequirement.{OwnedRequirement}
-use Rattle.swreq_births.specs.declared.history.OwnedRequirement.TheVariants.{Conf, Layout, Same}
-use Rattle.swreq_births.specs.declared.history.Reason.{Reason}
-use Rattle.swreq_births.specs.declared.history.Reason.TheVariants.{Doubled, Named as NamedBy, Required}
-use Rattle.swreq_births.specs.declared.history.System.{System}
-use Rattle.swreq_births.specs.Types.{written_by}
+use Rattle.swreq_correspondence.specs.swreq_derive.Derivation.{Declares, Source, TermFacts, TermRequirement, Source.{SelfOf, Written}}
+use Rattle.swreq_correspondence.specs.swreq_derive.{Derivation.TermRequirement.{Conforms, Equals, IsAnyObject}, Facts.{generic_params}}
+use Rattle.swreq_correspondence.specs.{swreq_derive.Instances.{HasNumber}, Shown.{ShowsValid}, Symbols.{Symbols, word_of}}
+use Rattle.swreq_complete.specs.swreq_rule.{declared.rules.{Birth.{Birth}, Rule.{Rule}}, Oriented.{IsOriented}, Reduction.{Reduces}}
+use Rattle.swreq_complete.specs.{Alike.{ReduceAlike}, Reached.{IsBorn}}
+use Rattle.swreq_derivation.specs.{Origins.{written_by}, UnderWay.{Assumptions}}
+use Rattle.swreq_readings.specs.{declared.alphabet.Alphabet.{Alphabet}, swreq_lexicon.declared.pair.ProtocolName.{ProtocolName}}
+use Rattle.swreq_readings.specs.{swreq_lexicon.Lexicons.{pair}, Alphabets.{Fits, IsInherited, lexicon}}
+use Rattle.swreq_births.specs.declared.history.{RulePlace.{RulePlace}, History.{History}, Equation.{Equation}}
+use Rattle.swreq_births.specs.declared.history.{OwnedRequirement.{OwnedRequirement, TheVariants.{Conf, Layout, Same}}, Reason.{Reason}}
+use Rattle.swreq_births.specs.declared.history.{Reason.TheVariants.{Doubled, Named as NamedBy, Required}, System.{System}}
 
 -- the requirement, as the rules of derivation have it
 abbrev pub requirement_by : OwnedRequirement → TermRequirement

@@ -1,32 +1,11 @@
--- Type parameters of requirements with a type parameter for `Self`, and the steps that rules show.
-use Rattle.std.specs.Prelude.{◌≡◌, ℕ, List, [], ◌∷◌, ◌++◌, Option, Some, None, slice_get}
-use Rattle.swreq_param.specs.declared.ids.ProtoId.{ProtoId}
+-- The steps that rules show.
+use Rattle.std.specs.Prelude.{◌≡◌, ℕ, List, [], ◌∷◌, ◌++◌, Some, slice_get}
 use Rattle.swreq_param.specs.declared.ids.Step.{Step}
-use Rattle.swreq_param.specs.Terms.{Term}
-use Rattle.swreq_correspondence.specs.swreq_derive.Derivation.{for_self, TermRequirement}
-use Rattle.swreq_correspondence.specs.swreq_word.declared.symbols.Symbol.{Symbol}
-use Rattle.swreq_correspondence.specs.swreq_word.declared.symbols.Symbol.TheVariants.{Proto}
-use Rattle.swreq_complete.specs.swreq_rule.declared.rules.Rule.{Rule}
-use Rattle.swreq_complete.specs.swreq_path.Paths.{HasTarget}
-use Rattle.swreq_complete.specs.Alike.{ReduceAlike}
-use Rattle.swreq_derivation.specs.UnderWay.{Assumptions}
-use Rattle.swreq_readings.specs.declared.alphabet.Alphabet.{Alphabet}
-use Rattle.swreq_readings.specs.swreq_lexicon.declared.pair.ProtocolName.{ProtocolName}
-use Rattle.swreq_readings.specs.Alphabets.{lexicon}
-use Rattle.swreq_readings.specs.Readable.{IsOfStep}
+use Rattle.swreq_correspondence.specs.swreq_word.declared.symbols.Symbol.{Symbol, TheVariants.{Proto}}
+use Rattle.swreq_complete.specs.{swreq_rule.declared.rules.Rule.{Rule}, swreq_path.Paths.{HasTarget}, Alike.{ReduceAlike}}
+use Rattle.swreq_readings.specs.{declared.alphabet.Alphabet.{Alphabet}, swreq_lexicon.declared.pair.ProtocolName.{ProtocolName}}
+use Rattle.swreq_readings.specs.{Alphabets.{lexicon}, Readable.{IsOfStep}}
 use Rattle.swreq_births.specs.declared.types.Shown.{Shown}
-
--- U with T for `Self` if it is of a requirement of a protocol, and otherwise U itself
-abbrev pub placed : Option ProtoId → Term → Term → Term
-placed (Some p) t u = for_self t u
-placed None t u = u
-
--- the requirements of the protocol, or those of the list if there is no owner
-abbrev pub written_by : Assumptions → Option ProtoId → List TermRequirement
-written_by b (Some p) = b.facts.of_protocol p
-written_by b None = b.written
-
--- ---- steps that rules show
 
 -- The step names the associated type with this rank. The word, and the word with the symbol of its protocol after it, reduce to one word.
 abbrev pub IsShownAt : Alphabet → List Rule → List Symbol → Step → ℕ → ProtocolName → Type 0

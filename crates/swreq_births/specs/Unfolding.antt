@@ -1,18 +1,12 @@
 -- What a derivation states before and after a rule, an equation or a requirement of the history is read after a type parameter.
 use Rattle.std.specs.Prelude.{ℕ, List, take}
-use Rattle.swreq_param.specs.declared.ids.TermId.{TermId}
-use Rattle.swreq_param.specs.Tables.{IsOf, term_at}
+use Rattle.swreq_param.specs.{declared.ids.TermId.{TermId}, Tables.{IsOf, term_at}}
 use Rattle.swreq_correspondence.specs.swreq_word.declared.symbols.Symbol.{Symbol}
-use Rattle.swreq_complete.specs.swreq_rule.declared.rules.Rule.{Rule}
-use Rattle.swreq_complete.specs.swreq_path.declared.paths.Path.{Path}
-use Rattle.swreq_complete.specs.swreq_path.Paths.{HasTarget}
-use Rattle.swreq_derivation.specs.declared.derivation.Derivation.{Derivation}
+use Rattle.swreq_complete.specs.{swreq_rule.declared.rules.Rule.{Rule}, swreq_path.{declared.paths.Path.{Path}, Paths.{HasTarget}}}
+use Rattle.swreq_derivation.specs.{declared.derivation.Derivation.{Derivation}, Origins.{ConformsIfAny}}
 use Rattle.swreq_readings.specs.Readable.{AreReadEqual}
-use Rattle.swreq_births.specs.declared.history.Equation.{Equation}
-use Rattle.swreq_births.specs.declared.history.History.{History}
-use Rattle.swreq_births.specs.declared.history.RulePlace.{RulePlace}
-use Rattle.swreq_births.specs.declared.types.ReadingPlace.{ReadingPlace}
-use Rattle.swreq_births.specs.Heads.{ConformsIfAny, IsHeadStated}
+use Rattle.swreq_births.specs.declared.history.{Equation.{Equation}, History.{History}, RulePlace.{RulePlace}}
+use Rattle.swreq_births.specs.{declared.types.ReadingPlace.{ReadingPlace}, Heads.{IsHeadStated}}
 use Rattle.swreq_births.specs.Systems.{HasEquation, HasRule, HasSystem, rules_at}
 
 -- The rule stands at this place of the history, and the lines of a derivation under way state what it asks of the type parameter of the id.

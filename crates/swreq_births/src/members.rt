@@ -8,7 +8,9 @@ ghost use Rattle.swreq_births.specs.{Members.{AreWritten, IsMemberRequirement, I
 
 use crate::history::{Equation, History, OwnedRequirement, Reason, system_at};
 use std::alloc::AllocError;
-use swreq_derivation::{Derivation, add_assoc_conf, conf_statement, is_stated};
+use swreq_derivation::{
+    Derivation, Origin, Requirement, add_requirement, conf_statement, is_stated,
+};
 use swreq_param::{ParamId, ProtoId, Step, TermId};
 use swreq_readings::{ProtocolName, declared_at, given_step, is_of_step};
 
@@ -112,13 +114,16 @@ pub fn conform_by_member(
     };
     match requirement_of_member(history, derivation, base, member, protocol) {
         Some(written) => {
-            add_assoc_conf(
-                derivation,
-                base,
-                (written.owner, written.number),
-                t,
-                protocol,
-            )?;
+            let origin = Origin {
+                owner: Some(written.owner),
+                number: written.number,
+                for_self: base,
+            };
+            let r = Requirement::Conf {
+                subject: t,
+                proto: protocol,
+            };
+            add_requirement(derivation, origin, r)?;
             Ok(true)
         }
         None => Ok(false),

@@ -16,6 +16,17 @@ use swreq_derivation::Derivation;
 use swreq_param::TermId;
 use swreq_readings::{Alphabet, Sides, join, put_side, replace, turn};
 
+/// The left side of a rule, and the right side, which is put in place of it.
+pub(crate) fn rule_sides(rule: &Rule) -> Sides<'_>
+    ensures from { result.from.now ≡ rule.now.left }
+    ensures to { result.to.now ≡ rule.now.right }
+{
+    Sides {
+        from: rule.left.symbols(),
+        to: rule.right.symbols(),
+    }
+}
+
 /// The first `count` symbols of a word.
 pub(crate) fn first_symbols(word: &[Symbol], count: usize) -> &[Symbol]
     requires { count ≤ length word.now }
@@ -32,91 +43,8 @@ fn later_symbols(word: &[Symbol], count: usize) -> &[Symbol]
     &word[count..]
 }
 
-/// If the left sides of two rules overlap at this place, states that the two sides of the pair are read alike.
-pub(crate) fn read_overlap(
-    alphabet: &Alphabet,
-    derivation: &mut Derivation,
-    subject: TermId,
-    first: &Rule,
-    second: &Rule,
-    at: usize,
-) -> Result<(), AllocError>
-    requires subject { IsOf derivation.old.table subject }
-    requires pair { (left : List SymbolView) × (right : List SymbolView)
-        × OverlapPair first.now second.now at left right }
-    requires first { ReadsAlike alphabet.now derivation.old derivation.old subject first.now.left
-        first.now.right }
-    requires second { AreReadEqual alphabet.now derivation.old
-        (read_word alphabet.now (term_at derivation.old.table subject) (take at first.now.left))
-        second.now.left second.now.right }
-    ensures both { OnOk result ((left right : List SymbolView) → OverlapPair first.now second.now
-        at left right → ReadsAlike alphabet.now derivation.old derivation.new subject left right) }
-    ensures continues { ContinuesFrom (Fits alphabet.now) derivation.old derivation.new }
-{
-    let left = first.left.symbols();
-    let common = left.len() - at;
-    read_across(
-        alphabet,
-        derivation,
-        subject,
-        Sides {
-            from: left,
-            to: first.right.symbols(),
-        },
-        Sides {
-            from: second.left.symbols(),
-            to: second.right.symbols(),
-        },
-        Around {
-            before: first_symbols(left, at),
-            after: later_symbols(second.left.symbols(), common),
-        },
-    )?;
-    Ok(())
-}
-
-/// If the left side of the second rule stands in that of the first at this place, states that the two sides of the pair are read alike.
-pub(crate) fn read_containment(
-    alphabet: &Alphabet,
-    derivation: &mut Derivation,
-    subject: TermId,
-    first: &Rule,
-    second: &Rule,
-    at: usize,
-) -> Result<(), AllocError>
-    requires subject { IsOf derivation.old.table subject }
-    requires pair { (left : List SymbolView) × (right : List SymbolView)
-        × ContainmentPair first.now second.now at left right }
-    requires first { ReadsAlike alphabet.now derivation.old derivation.old subject first.now.left
-        first.now.right }
-    requires second { AreReadEqual alphabet.now derivation.old
-        (read_word alphabet.now (term_at derivation.old.table subject) (take at first.now.left))
-        second.now.left second.now.right }
-    ensures both { OnOk result
-        ((left right : List SymbolView) → ContainmentPair first.now second.now at left right
-        → ReadsAlike alphabet.now derivation.old derivation.new subject left right) }
-    ensures continues { ContinuesFrom (Fits alphabet.now) derivation.old derivation.new }
-{
-    let left = first.left.symbols();
-    let end = at + second.left.symbols().len();
-    read_inside(
-        alphabet,
-        derivation,
-        subject,
-        first.right.symbols(),
-        Around {
-            before: first_symbols(left, at),
-            after: later_symbols(left, end),
-        },
-        Sides {
-            from: second.left.symbols(),
-            to: second.right.symbols(),
-        },
-    )?;
-    Ok(())
-}
-
-/// States that the two sides of the pair of the two rules at this place, of either kind, are read alike.
+/// States that the two sides of the pair of the two rules at this place are read alike, whether the left sides overlap or the second one
+/// stands in the first one.
 pub(crate) fn read_pair(
     alphabet: &Alphabet,
     derivation: &mut Derivation,
@@ -142,13 +70,26 @@ pub(crate) fn read_pair(
         → ReadsAlike alphabet.now derivation.old derivation.new subject left right) }
     ensures continues { ContinuesFrom (Fits alphabet.now) derivation.old derivation.new }
 {
-    let rest = first.left.symbols().len() - at;
-    if second.left.symbols().len() <= rest {
-        read_containment(alphabet, derivation, subject, first, second, at)?;
-        return Ok(());
+    let word = first.left.symbols();
+    let before = first_symbols(word, at);
+    let rest = word.len() - at;
+    let sides = rule_sides(second);
+    if sides.from.len() <= rest {
+        let after = later_symbols(word, at + sides.from.len());
+        let around = Around { before, after };
+        let reduct = first.right.symbols();
+        return read_inside(alphabet, derivation, subject, reduct, around, sides);
     }
-    read_overlap(alphabet, derivation, subject, first, second, at)?;
-    Ok(())
+    let after = later_symbols(sides.from, rest);
+    let around = Around { before, after };
+    read_across(
+        alphabet,
+        derivation,
+        subject,
+        rule_sides(first),
+        sides,
+        around,
+    )
 }
 
 /// What stands before a part of a word, and what stands after it.
@@ -190,8 +131,7 @@ fn join_at(
     ensures continues { Continues derivation.old derivation.new }
 {
     turn(alphabet, derivation, subject, via, from)?;
-    join(alphabet, derivation, subject, from, via, to)?;
-    Ok(())
+    join(alphabet, derivation, subject, from, via, to)
 }
 
 /// If one left side stands in the other, the two sides of the pair are read alike. They are `reduct`, which the rule of the longer left
@@ -226,8 +166,7 @@ pub(crate) fn read_inside(
     let to = joined(derivation.alloc(), sides.to, around.after)?;
     let w = joined(derivation.alloc(), around.before, &from)?;
     let v = joined(derivation.alloc(), around.before, &to)?;
-    join_at(alphabet, derivation, subject, &w, reduct, &v)?;
-    Ok(())
+    join_at(alphabet, derivation, subject, &w, reduct, &v)
 }
 
 /// If two words are read alike, and each of them is read alike with the word that it reduces to, then the two sides of a rule are read
@@ -254,8 +193,7 @@ pub(crate) fn close(
         alphabet, derivation, subject, words.from, ends.from, words.to,
     )?;
     join(alphabet, derivation, subject, ends.from, words.to, ends.to)?;
-    turn(alphabet, derivation, subject, ends.from, ends.to)?;
-    Ok(())
+    turn(alphabet, derivation, subject, ends.from, ends.to)
 }
 
 /// If one left side ends as the other begins, the two sides of the pair are read alike. In the word that they make, the first one ends
@@ -291,8 +229,7 @@ pub(crate) fn read_across(
     let u = joined(derivation.alloc(), first.to, around.after)?;
     let v = joined(derivation.alloc(), around.before, second.to)?;
     replace(alphabet, derivation, subject, around.before, second, &[])?;
-    join_at(alphabet, derivation, subject, &w, &u, &v)?;
-    Ok(())
+    join_at(alphabet, derivation, subject, &w, &u, &v)
 }
 
 /// The two sides of the pair at this place.

@@ -7,6 +7,7 @@ ghost use Rattle.swreq_derivation.specs.UnderWay.{ContinuesFrom};
 ghost use Rattle.swreq_readings.specs.{Alphabets.{Fits}, Readable.{AllowsWord, AreReadEqual, ReadsAlike, read_word}};
 
 use crate::history::RulePlace;
+use crate::pairs::rule_sides;
 use std::alloc::AllocError;
 use swreq_complete::path::{Path, RewriteStep};
 use swreq_complete::rule::Rule;
@@ -62,32 +63,15 @@ pub(crate) fn take_step(
         (step.now.before ++ (put_side step.now.forward rule.now ++ step.now.after))) }
     ensures continues { ContinuesFrom (Fits alphabet.now) derivation.old derivation.new }
 {
-    let left = rule.left.symbols();
-    let right = rule.right.symbols();
+    let before = step.before.symbols();
+    let after = step.after.symbols();
+    let sides = rule_sides(rule);
     if step.forward {
-        replace(
-            alphabet,
-            derivation,
-            subject,
-            step.before.symbols(),
-            Sides {
-                from: left,
-                to: right,
-            },
-            step.after.symbols(),
-        )?;
-        return Ok(());
+        return replace(alphabet, derivation, subject, before, sides, after);
     }
-    replace_back(
-        alphabet,
-        derivation,
-        subject,
-        step.before.symbols(),
-        Sides {
-            from: right,
-            to: left,
-        },
-        step.after.symbols(),
-    )?;
-    Ok(())
+    let back = Sides {
+        from: sides.to,
+        to: sides.from,
+    };
+    replace_back(alphabet, derivation, subject, before, back, after)
 }

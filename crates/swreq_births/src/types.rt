@@ -4,10 +4,10 @@ ghost use Rattle.swreq_param.specs.{Tables.{IsOf, term_at}, Terms.Term.{Generic}
 ghost use Rattle.swreq_correspondence.specs.swreq_word.declared.symbols.Symbol.TheVariants.{Proto};
 ghost use Rattle.swreq_complete.specs.swreq_path.Paths.{HasTarget};
 ghost use Rattle.swreq_complete.specs.Alike.{ReduceAlike};
-ghost use Rattle.swreq_derivation.specs.UnderWay.{Continues};
+ghost use Rattle.swreq_derivation.specs.{Origins.{placed}, UnderWay.{Continues}};
 ghost use Rattle.swreq_readings.specs.swreq_lexicon.declared.pair.ProtocolName.{ProtocolName as PairView};
 ghost use Rattle.swreq_readings.specs.Alphabets.{lexicon};
-ghost use Rattle.swreq_births.specs.Types.{HasPath, IsShownAt, IsStepShown, placed};
+ghost use Rattle.swreq_births.specs.Types.{HasPath, IsShownAt, IsStepShown};
 
 use crate::pairs::joined;
 use std::alloc::{AllocError, Global};

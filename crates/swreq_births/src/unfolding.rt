@@ -2,14 +2,14 @@
 ghost use Rattle.std.specs.Prelude.{OnOk, ◌≡◌, IfOk, List};
 ghost use Rattle.swreq_param.specs.{Tables.{IsOf, term_at}, Owned.{as_term}};
 ghost use Rattle.swreq_complete.specs.Alike.{ReduceAlike};
-ghost use Rattle.swreq_derivation.specs.UnderWay.{ContinuesFrom, AreStatedEqual};
+ghost use Rattle.swreq_derivation.specs.{Origins.{ConformsIfAny, placed, written_by}, UnderWay.{ContinuesFrom, AreStatedEqual}};
 ghost use Rattle.swreq_readings.specs.Readable.{AllowsWord, ReadsAlike, IsGiven, read_word};
-ghost use Rattle.swreq_births.specs.{Systems.{FitsHistory, HasSystem, rules_at, HasRule, HasRules, HasShownSides, IsBornAt, IsShown, ReducesTo, requirement_by}, Heads.{ConformsIfAny}, Types.{IsStepShown, placed, written_by}, Unfolding.{AllowsEquation, AllowsRule, AllowsScope, IsSaid, LeadsTo}};
+ghost use Rattle.swreq_births.specs.{Systems.{FitsHistory, HasSystem, rules_at, HasRule, HasRules, HasShownSides, IsBornAt, IsShown, ReducesTo, requirement_by}, Types.{IsStepShown}, Unfolding.{AllowsEquation, AllowsRule, AllowsScope, IsSaid, LeadsTo}};
 ghost use Rattle.swreq_correspondence.specs.swreq_derive.Instances.{HasNumber};
 ghost use Rattle.swreq_correspondence.specs.swreq_word.declared.symbols.Symbol.{Symbol as SymbolView};
 ghost use Rattle.swreq_complete.specs.swreq_rule.declared.rules.Birth.TheVariants as births;
 
-use crate::giving::{Origin, give_conf, give_layout, give_member, give_same};
+use crate::giving::{give_bound, give_member, give_same};
 use crate::history::{
     Equation, History, OwnedRequirement, Reason, RulePlace, all_of, all_rules, equation_at,
     rules_before, sides_of, system_at,
@@ -22,7 +22,7 @@ use std::alloc::AllocError;
 use swreq_complete::path::{Path, path_of};
 use swreq_complete::rule::{Birth, Place, Rule};
 use swreq_complete::word::{Symbol, Word};
-use swreq_derivation::Derivation;
+use swreq_derivation::{Bound, Derivation, Origin};
 use swreq_param::{Step, TermId, TypeParam};
 use swreq_readings::{ProtocolName, Sides, are_read_equal, equal_member, join, read_word};
 
@@ -274,11 +274,13 @@ fn give_required(
     match requirement {
         OwnedRequirement::Conf { subject, proto } => {
             let u = read_type(history, derivation, scope, subject, words.to)?;
-            give_conf(&history.alphabet, derivation, origin, u, *proto, words.to)
+            let bound = Bound::Protocol(*proto);
+            give_bound(&history.alphabet, derivation, origin, u, bound, words.to)
         }
         OwnedRequirement::Layout { subject } => {
             let u = read_type(history, derivation, scope, subject, words.to)?;
-            give_layout(&history.alphabet, derivation, origin, u, words.to)
+            let bound = Bound::AnyObject;
+            give_bound(&history.alphabet, derivation, origin, u, bound, words.to)
         }
         OwnedRequirement::Same { left, right } => {
             let u = read_type(history, derivation, scope, left, words.from)?;

@@ -1,27 +1,16 @@
 -- Derivations: how they grow by a line, and what they state by ids and over type parameters.
 use Rattle.std.proofs.Common.{◌≡◌, ℕ, zero, suc, ◌+◌, ◌-◌, ◌<◌, List, [], ◌∷◌, ◌++◌, length, map, take, slice_get, Option, Some, None}
-use Rattle.std.proofs.Common.{MatchOption, refl, sym, ap, ap₂, subst, ◌∙◌, ◌⊎◌, inl, inr, arith}
-use Rattle.std.proofs.Math.Seq.{take-append_seam}
+use Rattle.std.proofs.{Common.{MatchOption, refl, sym, ap, ap₂, subst, ◌∙◌, ◌⊎◌, inl, inr, arith}, Math.Seq.{take-append_seam}}
 use Rattle.std.proofs.lemmas.List.{map-append, take-append-le, length-map}
-use Rattle.swreq_derive.specs.swreq_param.Terms.{Term}
-use Rattle.swreq_derive.specs.swreq_param.Tables.{AreDistinct, Extends}
-use Rattle.swreq_derive.proofs.swreq_param.Growing.{onward, unchanged}
-use Rattle.swreq_derive.specs.declared.lines.Line.{Line}
-use Rattle.swreq_derive.specs.declared.lines.DerivRule.{DerivRule}
-use Rattle.swreq_derive.specs.declared.requirements.Requirement.TheVariants.{Conf, Layout, Same}
-use Rattle.swreq_derive.specs.declared.requirements.Statement.{Statement}
-use Rattle.swreq_derive.specs.declared.requirements.Statement.TheVariants.{Valid, Holds}
-use Rattle.swreq_derive.specs.Derivation.{TermStatement}
-use Rattle.swreq_derive.specs.Derivation.TermRequirement.{Conforms, IsAnyObject, Equals}
-use Rattle.swreq_derive.specs.Derivation.TermStatement.{IsValid, Requires}
+use Rattle.swreq_derive.specs.{swreq_param.{Terms.{Term}, Tables.{AreDistinct, Extends}}, declared.lines.Line.{Line}}
+use Rattle.swreq_derive.specs.declared.{lines.DerivRule.{DerivRule}, requirements.Requirement.TheVariants.{Conf, Layout, Same}}
+use Rattle.swreq_derive.specs.{declared.requirements.Statement.{Statement, TheVariants.{Valid, Holds}}, Derivation.{TermStatement}}
+use Rattle.swreq_derive.specs.Derivation.{TermRequirement.{Conforms, IsAnyObject, Equals}, TermStatement.{IsValid, Requires}}
 use Rattle.swreq_derive.specs.Facts.{statement_of}
 use Rattle.swreq_derive.specs.Instances.{HasNumber, AreStated, Follows, IsInstance, IsDerivation, TermLine, statements_of}
-use Rattle.swreq_derive.specs.Lines.{line_of, stated_by}
-use Rattle.swreq_derive.proofs.swreq_lemmas.Elements.{get_map, get_of_map}
-use Rattle.swreq_derive.proofs.LineLists.{number_left, number_last}
-use Rattle.swreq_derivation.specs.declared.derivation.Derivation.{Derivation}
-use Rattle.swreq_derivation.specs.declared.derivation.Derivation.TheInside.{Inside}
-use Rattle.swreq_derivation.specs.Inside.{IsUnderWay, view_of}
+use Rattle.swreq_derive.{specs.Lines.{line_of, stated_by}, proofs.swreq_param.Growing.{onward, unchanged}}
+use Rattle.swreq_derive.proofs.{swreq_lemmas.Elements.{get_map, get_of_map}, LineLists.{number_left, number_last}}
+use Rattle.swreq_derivation.specs.{declared.derivation.Derivation.{Derivation, TheInside.{Inside}}, Inside.{IsUnderWay, view_of}}
 use Rattle.swreq_derivation.specs.UnderWay.{AddsLines, AllIn, AreIdsIn, Assumptions, Continues, ContinuesFrom, States, statements_in}
 
 -- ---- ids and type parameters

@@ -1,19 +1,12 @@
 -- The lines that are marked, with their new numbers.
-use Rattle.std.proofs.Common.{◌≡◌, inl, inr, ℕ, zero, suc, ◌+◌, ◌-◌, ◌<◌, ◌≤◌, Bool, true, false, List, [], ◌∷◌, ◌++◌, length, Some, Contains, map, slice_get, take, refl, sym, subst, ◌∙◌, ap, arith}
-use Rattle.std.proofs.lemmas.Option.{slice_get_within}
-use Rattle.std.proofs.lemmas.List.{map-append}
-use Rattle.std.proofs.Math.Nat.{eq-or-lt_of_le}
-use Rattle.std.proofs.lemmas.Bool.{cases_lt}
+use Rattle.std.proofs.Common.{◌≡◌, inl, inr, ℕ, zero, suc, ◌+◌, ◌-◌, ◌<◌, ◌≤◌, Bool, true, false, List, [], ◌∷◌, ◌++◌, length, Some}
+use Rattle.std.proofs.{Common.{Contains, map, slice_get, take, refl, sym, subst, ◌∙◌, ap, arith}, lemmas.Option.{slice_get_within}}
+use Rattle.std.proofs.{lemmas.{List.{map-append}, Bool.{cases_lt}}, Math.Nat.{eq-or-lt_of_le}}
 use Rattle.swreq_derive.proofs.swreq_lemmas.Elements.{get_last, get_left, get_map, get_of_map, in_front, there_is}
-use Rattle.swreq_derive.proofs.swreq_lemmas.Members.{contains_map, first_member, later_member}
-use Rattle.swreq_derive.specs.swreq_param.Terms.{Term}
-use Rattle.swreq_derive.specs.declared.lines.Line.{Line}
-use Rattle.swreq_derive.specs.declared.requirements.Statement.{Statement}
-use Rattle.swreq_derive.specs.Derivation.{TermStatement}
-use Rattle.swreq_derive.specs.Facts.{IdFacts, generic_params, requirement_of, statement_of, term_facts}
-use Rattle.swreq_derive.specs.Instances.{AreStated, Follows, HasNumber, TermLine, statements_of}
-use Rattle.swreq_derive.specs.Lines.{AreDerived, line_of}
-use Rattle.swreq_derive.proofs.LineLemmas.{get_take}
+use Rattle.swreq_derive.proofs.{swreq_lemmas.Members.{contains_map, first_member, later_member}, LineLemmas.{get_take}}
+use Rattle.swreq_derive.specs.{swreq_param.Terms.{Term}, declared.{lines.Line.{Line}, requirements.Statement.{Statement}}}
+use Rattle.swreq_derive.specs.{Derivation.{TermStatement}, Facts.{IdFacts, generic_params, requirement_of, statement_of, term_facts}}
+use Rattle.swreq_derive.specs.{Instances.{AreStated, Follows, HasNumber, TermLine, statements_of}, Lines.{AreDerived, line_of}}
 use Rattle.swreq_derivation.specs.Marks.{AreNeeded, IsEarlier, IsMarked, kept, marked, new_number, renumbered}
 use Rattle.swreq_derivation.specs.Needed.{AreAllUsed, AreSomeOf, EndIn, StateOnce}
 

@@ -1,19 +1,11 @@
 -- Keys of statements, by their places.
 use Rattle.std.proofs.Common.{◌≡◌, ℕ, zero, suc, ◌+◌, Bool, true, false, ◌||◌, if◌then◌else◌, List, [], ◌∷◌, ◌++◌, map, get_or, slice_get}
-use Rattle.std.proofs.Common.{Some, position, refl, sym, ap, subst, ◌∙◌, arith, true≢false, rules}
-use Rattle.std.proofs.Math.Bool.{or-true}
-use Rattle.std.proofs.lemmas.List.{map-append}
-use Rattle.std.proofs.lemmas.List.Quantifiers.{position-Some}
-use Rattle.std.proofs.lemmas.Option.{slice_get-get_or}
-use Rattle.std.specs.List.{list_any}
-use Rattle.swreq_derive.proofs.swreq_lemmas.Elements.{get_map, get_of_map}
-use Rattle.swreq_derive.specs.declared.requirements.Statement.{Statement}
+use Rattle.std.proofs.{Common.{Some, position, refl, sym, ap, subst, ◌∙◌, arith, true≢false, rules}, Math.Bool.{or-true}}
+use Rattle.std.{proofs.lemmas.{List.{map-append, Quantifiers.{position-Some}}, Option.{slice_get-get_or}}, specs.List.{list_any}}
+use Rattle.swreq_derive.{proofs.swreq_lemmas.Elements.{get_map, get_of_map}, specs.declared.requirements.Statement.{Statement}}
 use Rattle.swreq_derive.specs.Instances.{HasNumber}
-use Rattle.swreq_derivation.specs.declared.stated.Key.{Key}
-use Rattle.swreq_derivation.specs.declared.stated.Key.TheVariants.{Valid, Conf, Layout, Same}
-use Rattle.swreq_derivation.specs.contracts.stated.KeyPartialEq.TheImpl.{eq-value}
-use Rattle.swreq_derivation.specs.contracts.stated.KeyEq.TheImpl.Laws.{laws-law}
-use Rattle.swreq_derivation.specs.Keys.{statement_by}
+use Rattle.swreq_derivation.specs.declared.stated.Key.{Key, TheVariants.{Valid, Conf, Layout, Same}}
+use Rattle.swreq_derivation.specs.{contracts.stated.{KeyPartialEq.TheImpl.{eq-value}, KeyEq.TheImpl.Laws.{laws-law}}, Keys.{statement_by}}
 
 -- keys that are equal by the derived `==` are identical
 key_same : (x y : Key) → eq-value.it x y ≡ true → x ≡ y

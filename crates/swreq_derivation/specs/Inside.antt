@@ -1,9 +1,7 @@
 -- What the fields of a derivation that is being written show, and what is true of them.
 use Rattle.std.specs.Prelude.{◌≡◌}
 use Rattle.swreq_derive.specs.Lines.{stated_by}
-use Rattle.swreq_derivation.specs.declared.derivation.Derivation.TheInside.{Inside}
-use Rattle.swreq_derivation.specs.UnderWay.{AllIn}
-use Rattle.swreq_derivation.specs.Views.{DerivationView}
+use Rattle.swreq_derivation.specs.{declared.derivation.Derivation.TheInside.{Inside}, UnderWay.{AllIn}, Views.{DerivationView}}
 
 abbrev pub view_of : Inside → DerivationView
 view_of d = record { table = d.table; lines = d.lines.items }

@@ -1,9 +1,8 @@
 -- Keys by which statements are looked up.
-use Rattle.swreq_derive.specs.declared.requirements.Requirement.TheVariants as required
 use Rattle.swreq_derive.specs.declared.requirements.Statement.{Statement}
+use Rattle.swreq_derivation.specs.declared.stated.Key.{Key, TheVariants.{Valid, Conf, Layout, Same}}
+use Rattle.swreq_derive.specs.declared.requirements.Requirement.TheVariants as required
 use Rattle.swreq_derive.specs.declared.requirements.Statement.TheVariants as stated
-use Rattle.swreq_derivation.specs.declared.stated.Key.{Key}
-use Rattle.swreq_derivation.specs.declared.stated.Key.TheVariants.{Valid, Conf, Layout, Same}
 
 -- the statement of a key
 abbrev pub statement_by : Key → Statement

@@ -2,5 +2,6 @@ pub mod Inside
 pub mod Keys
 pub mod Marks
 pub mod Needed
+pub mod Origins
 pub mod UnderWay
 pub mod Views

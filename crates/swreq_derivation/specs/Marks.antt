@@ -1,5 +1,6 @@
 -- Marks on lines: the marked lines, and their new numbers.
-use Rattle.std.specs.Prelude.{◌≡◌, ◌⊎◌, ◌<◌, ◌≤◌, ◌-◌, ℕ, suc, Bool, true, false, List, [], ◌∷◌, Some, length, map, slice_get, take, Contains}
+use Rattle.std.specs.Prelude.{◌≡◌, ◌⊎◌, ◌<◌, ◌≤◌, ◌-◌, ◌+◌, ℕ, suc, Bool, true, false, List, [], ◌∷◌, Some, length, map, slice_get, take}
+use Rattle.std.specs.Prelude.{Contains}
 use Rattle.swreq_derive.specs.declared.lines.Line.{Line}
 
 -- the marked items, in order
@@ -22,6 +23,11 @@ new_number marks n = marked (take n marks)
 -- the line with the new numbers of its premises
 abbrev pub renumbered : List Bool → Line → Line
 renumbered marks l = record { rule = l.rule; premises = map (new_number marks) l.premises; statement = l.statement }
+
+-- At each place n stands how many of the first n items are marked.
+pub record AreNewNumbers (marks : List Bool) (numbers : List ℕ) : Type 0 where
+  pub count : length numbers ≡ length marks + 1
+  pub each : (n : ℕ) → n ≤ length marks → slice_get numbers n ≡ Some (new_number marks n)
 
 abbrev pub IsMarked : List Bool → ℕ → Type 0
 IsMarked marks k = slice_get marks k ≡ Some true

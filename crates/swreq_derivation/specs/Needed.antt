@@ -1,7 +1,6 @@
 -- What is said of the lines that the last line of a derivation needs.
 use Rattle.std.specs.Prelude.{◌≡◌, ◌<◌, ℕ, suc, List, [], ◌∷◌, ◌++◌, Some, length, slice_get, Contains}
-use Rattle.swreq_derive.specs.declared.lines.Line.{Line}
-use Rattle.swreq_derive.specs.declared.requirements.Statement.{Statement}
+use Rattle.swreq_derive.specs.declared.{lines.Line.{Line}, requirements.Statement.{Statement}}
 
 -- There is a last line, and this is what it states.
 abbrev pub EndIn : List Line → Statement → Type 0

@@ -1,22 +1,14 @@
 -- What the lines of a derivation state over type parameters, and how a derivation grows.
 use Rattle.std.specs.Prelude.{◌≡◌, ◌⊎◌, ℕ, List, Some, map, slice_get}
-use Rattle.swreq_derive.specs.swreq_param.declared.ids.ParamId.{ParamId}
-use Rattle.swreq_derive.specs.swreq_param.declared.ids.ProtoId.{ProtoId}
-use Rattle.swreq_derive.specs.swreq_param.declared.ids.Step.{Step}
-use Rattle.swreq_derive.specs.swreq_param.declared.ids.TermId.{TermId}
-use Rattle.swreq_derive.specs.swreq_param.Terms.{Term}
-use Rattle.swreq_derive.specs.swreq_param.Terms.Term.{Member}
-use Rattle.swreq_derive.specs.swreq_param.Tables.{IsOf, Extends, term_at}
-use Rattle.swreq_derive.specs.declared.lines.Line.{Line}
-use Rattle.swreq_derive.specs.declared.requirements.Requirement.TheVariants.{Conf, Layout, Same}
-use Rattle.swreq_derive.specs.declared.requirements.Statement.{Statement}
+use Rattle.swreq_derive.specs.swreq_param.{declared.ids.{ParamId.{ParamId}, ProtoId.{ProtoId}, Step.{Step}, TermId.{TermId}}, Terms.{Term}}
+use Rattle.swreq_derive.specs.{swreq_param.{Terms.Term.{Member}, Tables.{IsOf, Extends, term_at}}, declared.lines.Line.{Line}}
+use Rattle.swreq_derive.specs.declared.lines.DerivRule.{DerivRule, TheVariants.{SameConf, SameLayout}}
+use Rattle.swreq_derive.specs.declared.requirements.{Requirement.{Requirement, TheVariants.{Conf, Layout, Same}}, Statement.{Statement}}
 use Rattle.swreq_derive.specs.declared.requirements.Statement.TheVariants.{Valid, Holds}
-use Rattle.swreq_derive.specs.Derivation.{TermFacts, TermRequirement, TermStatement}
-use Rattle.swreq_derive.specs.Derivation.TermRequirement.{Conforms, Equals}
-use Rattle.swreq_derive.specs.Derivation.TermStatement.{Requires}
-use Rattle.swreq_derive.specs.Facts.{statement_of}
-use Rattle.swreq_derive.specs.Instances.{HasNumber, IsDerivation}
-use Rattle.swreq_derive.specs.Lines.{line_of, stated_by}
+use Rattle.swreq_derive.specs.Derivation.{TermFacts, TermRequirement, TermStatement, TermRequirement.{Conforms, Equals}}
+use Rattle.swreq_derive.specs.{Derivation.TermStatement.{Requires}, Facts.{requirement_of, statement_of}}
+use Rattle.swreq_derive.specs.{Instances.{HasNumber, IsDerivation}, Lines.{line_of, stated_by}}
+use Rattle.swreq_derivation.specs.declared.statements.Bound.{Bound, TheVariants.{AnyObject, Protocol}}
 use Rattle.swreq_derivation.specs.Views.{DerivationView as Derivation}
 
 -- What lines are derived from: the facts of a text, and a list of requirements with its generic parameters.
@@ -59,6 +51,20 @@ AreStatedEqual s t u = (t ≡ u) ⊎ States s (Requires (Equals t u))
 -- A line states that what the id stood for conforms to the protocol.
 abbrev pub StatesConformance : Derivation → Derivation → TermId → ProtoId → Type 0
 StatesConformance old s t p = States s (Requires (Conforms (term_at old.table t) p))
+
+-- the requirement that the type parameter of the id conforms to the bound
+abbrev pub bound_on : Bound → TermId → Requirement
+bound_on (Protocol p) t = Conf t p
+bound_on AnyObject t = Layout t
+
+-- the rule that gives a conformance of an equal type parameter
+abbrev pub rule_along : Bound → DerivRule
+rule_along (Protocol p) = SameConf p
+rule_along AnyObject = SameLayout
+
+-- A line states that what the id stood for conforms to the bound.
+abbrev pub StatesBound : Derivation → Derivation → TermId → Bound → Type 0
+StatesBound old s t bound = States s (Requires (requirement_of old.table (bound_on bound t)))
 
 -- What the two ids stood for is identical, or a line states that it is equal.
 abbrev pub StatesEqual : Derivation → Derivation → TermId → TermId → Type 0

@@ -1,7 +1,6 @@
 -- What contracts see of a derivation that is being written.
 use Rattle.std.specs.Prelude.{List}
-use Rattle.swreq_derive.specs.swreq_param.Terms.{Term}
-use Rattle.swreq_derive.specs.declared.lines.Line.{Line}
+use Rattle.swreq_derive.specs.{swreq_param.Terms.{Term}, declared.lines.Line.{Line}}
 
 -- the type parameters of the table, and the lines
 pub record DerivationView : Type 0 where

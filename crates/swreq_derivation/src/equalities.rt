@@ -1,15 +1,16 @@
 //! Lines by the rules of equality.
 ghost use Rattle.std.specs.{Prelude.{◌≡◌, OnOk}, Bool.{Decides}};
-ghost use Rattle.swreq_derive.specs.swreq_param.{Tables.{IsOf, term_at}, declared.ids.AssocId.{AssocId}, declared.ids.Step.TheVariants.{Bound, Name}, Terms.Term.{Member}};
+ghost use Rattle.swreq_derive.specs.swreq_param.{Tables.{IsOf, term_at}, declared.ids.AssocId.{AssocId}, Terms.Term.{Member}};
+ghost use Rattle.swreq_derive.specs.swreq_param.declared.ids.Step.TheVariants as steps;
 ghost use Rattle.swreq_derive.specs.{Derivation.{Declares}, Derivation.TermRequirement.{IsAnyObject}, Derivation.TermStatement.{Requires}};
-ghost use Rattle.swreq_derivation.specs.UnderWay.{AreEqualIds, Continues, ContinuesFrom, IsIdOfMember, States, StatesConformance, StatesEqual};
+ghost use Rattle.swreq_derivation.specs.UnderWay.{AreEqualIds, Continues, ContinuesFrom, IsIdOfMember, States, StatesBound, StatesConformance, StatesEqual, rule_along};
 
 use crate::adding::{from_conformance, from_one, from_two};
 use crate::derivation::Derivation;
-use crate::statements::{conf_statement, layout_statement, same_statement};
+use crate::statements::{Bound, bound_requirement, conf_statement, same_statement};
 use std::alloc::AllocError;
-use swreq_derive::DerivRule;
 use swreq_derive::param::{NameId, ProtoId, TermId};
+use swreq_derive::{DerivRule, Statement};
 
 /// Whether the two ids of the table stand for the same type parameter.
 pub fn are_one(derivation: &Derivation, left: TermId, right: TermId) -> bool
@@ -73,6 +74,44 @@ pub fn add_trans(
     )
 }
 
+/// The rule that gives a conformance of an equal type parameter.
+fn rule_of(bound: Bound) -> DerivRule
+    ensures { result ≡ rule_along bound }
+{
+    match bound {
+        Bound::Protocol(p) => DerivRule::SameConf { p },
+        Bound::AnyObject => DerivRule::SameLayout,
+    }
+}
+
+/// From `[U : P]` or `[U : AnyObject]`, and `[T == U]`: the same of T. `subject` is the id of T, and `other` that of U.
+pub fn add_same_bound(
+    derivation: &mut Derivation,
+    subject: TermId,
+    other: TermId,
+    bound: Bound,
+) -> Result<(), AllocError>
+    requires subject { IsOf derivation.old.table subject }
+    requires other { IsOf derivation.old.table other }
+    requires conforms { StatesBound derivation.old derivation.old other bound }
+    requires equal { StatesEqual derivation.old derivation.old subject other }
+    ensures table { derivation.new.table ≡ derivation.old.table }
+    ensures conforms { OnOk result (StatesBound derivation.old derivation.new subject bound) }
+    ensures continues { Continues derivation.old derivation.new }
+{
+    if are_one(derivation, subject, other) {
+        return Ok(());
+    }
+    let from = Statement::Holds {
+        r: bound_requirement(other, bound),
+    };
+    let gives = Statement::Holds {
+        r: bound_requirement(subject, bound),
+    };
+    let equal = same_statement(subject, other);
+    from_two(derivation, rule_of(bound), (from, equal), gives)
+}
+
 /// From `[U : P]` and `[T == U]`: `[T : P]`. `subject` is the id of T, and `other` that of U.
 pub fn add_same_conf(
     derivation: &mut Derivation,
@@ -89,18 +128,7 @@ pub fn add_same_conf(
         (StatesConformance derivation.old derivation.new subject protocol) }
     ensures continues { Continues derivation.old derivation.new }
 {
-    if are_one(derivation, subject, other) {
-        return Ok(());
-    }
-    from_two(
-        derivation,
-        DerivRule::SameConf { p: protocol },
-        (
-            conf_statement(other, protocol),
-            same_statement(subject, other),
-        ),
-        conf_statement(subject, protocol),
-    )
+    add_same_bound(derivation, subject, other, Bound::Protocol(protocol))
 }
 
 /// From `[U : AnyObject]` and `[T == U]`: `[T : AnyObject]`. `subject` is the id of T, and `other` that of U.
@@ -119,15 +147,7 @@ pub fn add_same_layout(
         (States derivation.new (Requires (IsAnyObject (term_at derivation.old.table subject)))) }
     ensures continues { Continues derivation.old derivation.new }
 {
-    if are_one(derivation, subject, other) {
-        return Ok(());
-    }
-    from_two(
-        derivation,
-        DerivRule::SameLayout,
-        (layout_statement(other), same_statement(subject, other)),
-        layout_statement(subject),
-    )
+    add_same_bound(derivation, subject, other, Bound::AnyObject)
 }
 
 /// From `[U : P]` and `[T == U]`, where P declares A: `[T.A == U.A]`.
@@ -142,8 +162,8 @@ pub fn add_same_name(
 ) -> Result<(), AllocError>
     requires conforms { StatesConformance derivation.old derivation.old right of.0 }
     requires equal { AreEqualIds derivation.old left right }
-    requires first { IsIdOfMember derivation.old left (Name of.1) members.0 }
-    requires second { IsIdOfMember derivation.old right (Name of.1) members.1 }
+    requires first { IsIdOfMember derivation.old left (steps.Name of.1) members.0 }
+    requires second { IsIdOfMember derivation.old right (steps.Name of.1) members.1 }
     ensures table { derivation.new.table ≡ derivation.old.table }
     ensures equal { OnOk result (StatesEqual derivation.old derivation.new members.0 members.1) }
     ensures continues { ContinuesFrom (λ b. (d : AssocId) × Declares b.facts of.0 of.1 d)
@@ -178,9 +198,9 @@ pub fn add_assoc_bind(
     ensures equal { OnOk result (StatesEqual derivation.old derivation.new members.0 members.1) }
     ensures continues { ContinuesFrom (λ b. (d : AssocId) × Declares b.facts of.0 of.1 d
         × (term_at derivation.old.table members.0
-        ≡ Member (term_at derivation.old.table subject) (Bound d))
+        ≡ Member (term_at derivation.old.table subject) (steps.Bound d))
         × (term_at derivation.old.table members.1
-        ≡ Member (term_at derivation.old.table subject) (Name of.1)))
+        ≡ Member (term_at derivation.old.table subject) (steps.Name of.1)))
         derivation.old derivation.new }
 {
     let (p, a) = of;

@@ -1,8 +1,8 @@
 //! The lines that are needed, with new numbers.
-ghost use Rattle.std.specs.Prelude.{◌≡◌, ◌+◌, ◌≤◌, ℕ, List, Some, IfOk, length, map, slice_get};
+ghost use Rattle.std.specs.Prelude.{◌≡◌, List, IfOk, length, map};
 ghost use Rattle.swreq_derive.specs.swreq_param.Terms.{Term};
 ghost use Rattle.swreq_derive.specs.{declared.requirements.Statement.{Statement}, Facts.{IdFacts}, Lines.{AreDerived}};
-ghost use Rattle.swreq_derivation.specs.{Marks.{kept, new_number, renumbered}, Needed.{AreAllUsed, AreSomeOf, EndIn, StateOnce}};
+ghost use Rattle.swreq_derivation.specs.{Marks.{AreNewNumbers, kept, new_number, renumbered}, Needed.{AreAllUsed, AreSomeOf, EndIn, StateOnce}};
 
 use crate::marking::marks_of;
 use std::alloc::{AllocError, Global};
@@ -11,9 +11,7 @@ use swreq_text::Seq;
 
 /// At each place n, how many of the first n lines are marked.
 fn numbers_of(alloc: Global, marks: &[bool]) -> Result<Vec<usize>, AllocError>
-    ensures count { IfOk result (λ v. length v.items ≡ length marks.now + 1) }
-    ensures each { IfOk result (λ v.
-        (n : ℕ) → n ≤ length marks.now → slice_get v.items n ≡ Some (new_number marks.now n)) }
+    ensures { IfOk result (λ v. AreNewNumbers marks.now v.items) }
 {
     let mut numbers = Vec::new(alloc);
     let mut count = 0;
@@ -29,9 +27,7 @@ fn numbers_of(alloc: Global, marks: &[bool]) -> Result<Vec<usize>, AllocError>
 
 /// The number that the line with this number has among the marked ones.
 fn number_in(marks: &[bool], numbers: &[usize], number: usize) -> usize
-    requires count { length numbers.now ≡ length marks.now + 1 }
-    requires each { (n : ℕ) → n ≤ length marks.now
-        → slice_get numbers.now n ≡ Some (new_number marks.now n) }
+    requires { AreNewNumbers marks.now numbers.now }
     ensures { result ≡ new_number marks.now number }
 {
     let last = marks.len();
@@ -49,9 +45,7 @@ fn premises_in(
     numbers: &[usize],
     premises: &[usize],
 ) -> Result<Vec<usize>, AllocError>
-    requires count { length numbers.now ≡ length marks.now + 1 }
-    requires each { (n : ℕ) → n ≤ length marks.now
-        → slice_get numbers.now n ≡ Some (new_number marks.now n) }
+    requires { AreNewNumbers marks.now numbers.now }
     ensures { IfOk result (λ v. v.items ≡ map (new_number marks.now) premises.now) }
 {
     let mut found = Vec::new(alloc);
@@ -69,9 +63,7 @@ fn renumbered(
     numbers: &[usize],
     line: &Line,
 ) -> Result<Line, AllocError>
-    requires count { length numbers.now ≡ length marks.now + 1 }
-    requires each { (n : ℕ) → n ≤ length marks.now
-        → slice_get numbers.now n ≡ Some (new_number marks.now n) }
+    requires { AreNewNumbers marks.now numbers.now }
     ensures { IfOk result (λ l. l ≡ renumbered marks.now line.now) }
 {
     let premises = premises_in(alloc, marks, numbers, line.premises.items())?;

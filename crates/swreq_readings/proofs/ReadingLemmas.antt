@@ -1,27 +1,19 @@
 -- What lines allow after a type parameter, in a derivation and on the derivations that it grows to.
 use Rattle.std.proofs.Common.{◌≡◌, inl, inr, ℕ, zero, suc, ◌+◌, ◌<◌, Bool, List, [], ◌∷◌, ◌++◌, length, drop, take, get_or, slice_get, ◌≤◌}
 use Rattle.std.proofs.Common.{arith, Option, Some, None, MatchOption, true, false, refl, sym, ap, subst, ◌∙◌}
-use Rattle.std.specs.Bool.{Decides}
-use Rattle.std.proofs.lemmas.List.{drop_all, drop_more, take_more}
-use Rattle.std.proofs.lemmas.Option.{MatchOption-at_some, same_Some}
-use Rattle.swreq_derive.specs.swreq_param.declared.ids.ProtoId.{ProtoId}
-use Rattle.swreq_derive.specs.Derivation.TermRequirement.{Conforms, IsAnyObject}
-use Rattle.swreq_derive.specs.Derivation.TermStatement.{Requires}
-use Rattle.swreq_derive.specs.swreq_param.declared.ids.NameId.{NameId}
-use Rattle.swreq_derive.specs.swreq_param.declared.ids.TermId.{TermId}
-use Rattle.swreq_derive.specs.swreq_param.Tables.{IsOf, term_at}
-use Rattle.swreq_derive.specs.swreq_param.Terms.{Term}
-use Rattle.swreq_derive.specs.swreq_param.declared.ids.Step.{Step}
-use Rattle.swreq_derive.specs.swreq_param.declared.ids.Step.TheVariants.{Name as NameStep}
-use Rattle.swreq_word.specs.declared.symbols.Symbol.{Symbol}
-use Rattle.swreq_word.specs.declared.symbols.Symbol.TheVariants.{Proto, Member, Param, Name, Layout}
-use Rattle.swreq_derivation.specs.declared.derivation.Derivation.{Derivation}
-use Rattle.swreq_derivation.specs.UnderWay.{AddsLines, AreEqualIds, AreStatedEqual, States}
-use Rattle.swreq_derivation.proofs.DerivationLemmas as derivations
-use Rattle.swreq_readings.specs.declared.alphabet.Alphabet.{Alphabet}
+use Rattle.std.{proofs.lemmas.{List.{drop_all, drop_more, take_more}, Option.{MatchOption-at_some, same_Some}}, specs.Bool.{Decides}}
+use Rattle.swreq_derive.specs.swreq_param.declared.ids.{NameId.{NameId}, TermId.{TermId}, Step.{Step}}
+use Rattle.swreq_derive.specs.swreq_param.{declared.ids.Step.TheVariants.{Name as NameStep}, Tables.{IsOf, term_at}, Terms.{Term}}
+use Rattle.swreq_derive.specs.Derivation.{TermRequirement.{Conforms, IsAnyObject}, TermStatement.{Requires}}
+use Rattle.swreq_word.specs.declared.symbols.Symbol.{Symbol, TheVariants.{Proto, Member, Param, Name, Layout}}
+use Rattle.swreq_derivation.specs.declared.{derivation.Derivation.{Derivation}, statements.Bound.{Bound}}
+use Rattle.swreq_derivation.specs.declared.statements.Bound.TheVariants.{AnyObject, Protocol}
+use Rattle.swreq_derivation.specs.UnderWay.{AddsLines, AreEqualIds, AreStatedEqual, States, StatesBound}
+use Rattle.swreq_readings.specs.{declared.alphabet.Alphabet.{Alphabet}, Alphabets.{lexicon}}
+use Rattle.swreq_readings.specs.Readable.{read_symbol, read_word, IsGiven, IsGivenAt, IsOfStep, IsReadAs, AreReadEqual, AllowsName}
+use Rattle.swreq_readings.specs.Readable.{AllowsSymbol, AllowsWord}
 use Rattle.swreq_world.specs.swreq_lexicon.declared.pair.ProtocolName.{ProtocolName}
-use Rattle.swreq_readings.specs.Alphabets.{lexicon}
-use Rattle.swreq_readings.specs.Readable.{read_symbol, read_word, IsGiven, IsGivenAt, IsOfStep, IsReadAs, AreReadEqual, AllowsName, AllowsSymbol, AllowsWord}
+use Rattle.swreq_derivation.proofs.DerivationLemmas as derivations
 
 module _ (g : Alphabet) (s u : Derivation) (grows : AddsLines s u) where
   pub equal_still : (t v : Term) → AreStatedEqual s t v → AreStatedEqual u t v
@@ -126,13 +118,9 @@ module _ (s u : Derivation) (grows : AddsLines s u) where
   pub term_still : (t : TermId) → IsOf s.table t → term_at u.table t ≡ term_at s.table t
   term_still t h = grows.extends.stands t h
 
-  pub conforms_still : (t : TermId) (p : ProtoId) → IsOf s.table t → States s (Requires (Conforms (term_at s.table t) p))
-      → States u (Requires (Conforms (term_at u.table t) p))
-  conforms_still t p h w = subst (λ z. States u (Requires (Conforms z p))) (sym (term_still t h)) (grows.stays _ w)
-
-  pub object_still : (t : TermId) → IsOf s.table t → States s (Requires (IsAnyObject (term_at s.table t)))
-      → States u (Requires (IsAnyObject (term_at u.table t)))
-  object_still t h w = subst (λ z. States u (Requires (IsAnyObject z))) (sym (term_still t h)) (grows.stays _ w)
+  pub bound_still : (t : TermId) (bound : Bound) → IsOf s.table t → StatesBound s s t bound → StatesBound u u t bound
+  bound_still t (Protocol p) h w = subst (λ z. States u (Requires (Conforms z p))) (sym (term_still t h)) (grows.stays _ w)
+  bound_still t AnyObject h w = subst (λ z. States u (Requires (IsAnyObject z))) (sym (term_still t h)) (grows.stays _ w)
 
   -- if the grown derivation says that what two ids stood for is equal, it says the same of what they stand for now
   pub equal_now : (t v : TermId) → IsOf s.table t → IsOf s.table v → AreStatedEqual u (term_at s.table t) (term_at s.table v)

@@ -1,19 +1,10 @@
 -- What words are read by: the world of a text, and the generic parameters of a list.
 use Rattle.std.specs.Prelude.{◌≡◌, ◌⊎◌, ◌<◌, ◌≤◌, ◌+◌, ◌^◌, ℕ, Some, List, get_or, length, map, slice_get}
-use Rattle.swreq_derive.specs.declared.requirements.Requirement.{Requirement}
-use Rattle.swreq_derive.specs.declared.requirements.Requirement.TheVariants.{Conf}
-use Rattle.swreq_derive.specs.swreq_param.Terms.{self}
-use Rattle.swreq_derive.specs.swreq_param.declared.ids.NameId.{NameId}
-use Rattle.swreq_derive.specs.swreq_param.declared.ids.ProtoId.{ProtoId}
-use Rattle.swreq_derive.specs.swreq_param.declared.ids.TermId.{TermId}
-use Rattle.swreq_derive.specs.Derivation.{Declares}
-use Rattle.swreq_derive.specs.Derivation.TermRequirement.{Conforms}
-use Rattle.swreq_derive.specs.Facts.{generic_params}
-use Rattle.swreq_derive.specs.Instances.{HasNumber}
+use Rattle.swreq_derive.specs.{declared.requirements.Requirement.{Requirement, TheVariants.{Conf}}, swreq_param.Terms.{self}}
+use Rattle.swreq_derive.specs.{swreq_param.declared.ids.{NameId.{NameId}, ProtoId.{ProtoId}, TermId.{TermId}}, Derivation.{Declares}}
+use Rattle.swreq_derive.specs.{Derivation.TermRequirement.{Conforms}, Facts.{generic_params}, Instances.{HasNumber}}
 use Rattle.swreq_derivation.specs.UnderWay.{Assumptions}
-use Rattle.swreq_world.specs.swreq_lexicon.declared.pair.ProtocolName.{ProtocolName}
-use Rattle.swreq_world.specs.swreq_lexicon.Lexicons.{pair}
-use Rattle.swreq_world.specs.swreq_lexicon.Views.{IsProtocol, LexiconView}
+use Rattle.swreq_world.specs.swreq_lexicon.{declared.pair.ProtocolName.{ProtocolName}, Lexicons.{pair}, Views.{IsProtocol, LexiconView}}
 use Rattle.swreq_world.specs.Worlds.{requirements_of}
 use Rattle.swreq_readings.specs.declared.alphabet.Alphabet.{Alphabet}
 

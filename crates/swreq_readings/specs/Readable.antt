@@ -3,26 +3,16 @@
 -- A generic parameter is read as itself after any type parameter, and the rest of the word is read after it. So a word that begins with one
 -- is read as the same type parameter after every type parameter.
 use Rattle.std.specs.Prelude.{◌≡◌, ◌<◌, ℕ, List, [], ◌∷◌, Some, length, slice_get, Contains}
-use Rattle.swreq_derive.specs.swreq_param.declared.ids.AssocId.{AssocId}
-use Rattle.swreq_derive.specs.swreq_param.declared.ids.NameId.{NameId}
-use Rattle.swreq_derive.specs.swreq_param.declared.ids.ProtoId.{ProtoId}
-use Rattle.swreq_derive.specs.swreq_param.declared.ids.Step.{Step}
-use Rattle.swreq_derive.specs.swreq_param.declared.ids.Step.TheVariants.{Bound, Name as NameStep}
-use Rattle.swreq_derive.specs.swreq_param.declared.ids.TermId.{TermId}
-use Rattle.swreq_derive.specs.swreq_param.Tables.{IsOf, term_at}
-use Rattle.swreq_derive.specs.swreq_param.Terms.{Term}
-use Rattle.swreq_derive.specs.swreq_param.Terms.Term.{Generic, Member as MemberOf}
-use Rattle.swreq_derive.specs.Derivation.TermRequirement.{Conforms, IsAnyObject}
-use Rattle.swreq_derive.specs.Derivation.TermStatement.{Requires}
-use Rattle.swreq_derive.specs.Facts.{generic_params}
-use Rattle.swreq_word.specs.declared.symbols.Symbol.{Symbol}
-use Rattle.swreq_word.specs.declared.symbols.Symbol.TheVariants.{Proto, Member, Param, Name, Layout}
+use Rattle.swreq_derive.specs.swreq_param.declared.ids.{AssocId.{AssocId}, NameId.{NameId}, ProtoId.{ProtoId}, Step.{Step}}
+use Rattle.swreq_derive.specs.swreq_param.declared.ids.{Step.TheVariants.{Bound, Name as NameStep}, TermId.{TermId}}
+use Rattle.swreq_derive.specs.swreq_param.{Tables.{IsOf, term_at}, Terms.{Term, Term.{Generic, Member as MemberOf}}}
+use Rattle.swreq_derive.specs.{Derivation.{TermRequirement.{Conforms, IsAnyObject}, TermStatement.{Requires}}, Facts.{generic_params}}
+use Rattle.swreq_word.specs.declared.symbols.Symbol.{Symbol, TheVariants.{Proto, Member, Param, Name, Layout}}
 use Rattle.swreq_derivation.specs.declared.derivation.Derivation.{Derivation}
 use Rattle.swreq_derivation.specs.UnderWay.{AreEqualIds, AreStatedEqual, IsIdOfMember, States}
-use Rattle.swreq_readings.specs.declared.alphabet.Alphabet.{Alphabet}
-use Rattle.swreq_world.specs.swreq_lexicon.declared.pair.ProtocolName.{ProtocolName}
-use Rattle.swreq_readings.specs.declared.members.Members.{Members}
+use Rattle.swreq_readings.specs.declared.{alphabet.Alphabet.{Alphabet}, members.Members.{Members}}
 use Rattle.swreq_readings.specs.Alphabets.{IsDeclared, lexicon, member_at}
+use Rattle.swreq_world.specs.swreq_lexicon.declared.pair.ProtocolName.{ProtocolName}
 
 -- the type parameter that a symbol after t is read as
 abbrev pub read_symbol : Alphabet → Term → Symbol → Term

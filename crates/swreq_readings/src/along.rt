@@ -1,8 +1,7 @@
 //! Symbols and words that lines allow after a type parameter are allowed after an equal one.
 ghost use Rattle.std.specs.Prelude.{OnOk, ◌≡◌, ◌<◌, IfOk};
 ghost use Rattle.swreq_derive.specs.swreq_param.{Tables.{IsOf, term_at}, declared.ids.Step.TheVariants.{Name}};
-ghost use Rattle.swreq_derive.specs.{Derivation.TermRequirement.{IsAnyObject}, Derivation.TermStatement.{Requires}};
-ghost use Rattle.swreq_derivation.specs.UnderWay.{AreEqualIds, Continues, ContinuesFrom, IsIdOfMember, States, StatesConformance, StatesEqual, AreStatedEqual};
+ghost use Rattle.swreq_derivation.specs.UnderWay.{AreEqualIds, Continues, ContinuesFrom, IsIdOfMember, StatesBound, StatesEqual, AreStatedEqual};
 ghost use Rattle.swreq_readings.specs.{Alphabets.{Fits}, Readable.{AllowsName, AllowsSymbol, AllowsWord, IsIdAfter, read_symbol, read_word}};
 ghost use Rattle.swreq_derive.specs.swreq_param.declared.ids.Step.TheVariants as steps;
 ghost use Rattle.swreq_word.specs.declared.symbols.Symbol.TheVariants as symbols;
@@ -11,43 +10,26 @@ use crate::alphabet::{Alphabet, member_at};
 use crate::reading::read_symbol;
 use crate::telling::declarer;
 use std::alloc::AllocError;
-use swreq_derivation::{Derivation, add_same_conf, add_same_layout, add_same_name, add_symm};
+use swreq_derivation::{Bound, Derivation, add_same_bound, add_same_name, add_symm};
 use swreq_derive::param::{NameId, ProtoId, TermId};
 use swreq_word::Symbol;
 
-/// From `[T : P]` and `[T == U]`: `[U : P]`.
-pub fn carry_conf(
+/// From `[T : P]` or `[T : AnyObject]`, and `[T == U]`: the same of U.
+pub fn carry_bound(
     derivation: &mut Derivation,
     from: TermId,
     to: TermId,
-    protocol: ProtoId,
+    bound: Bound,
 ) -> Result<(), AllocError>
     requires from { IsOf derivation.old.table from }
     requires to { IsOf derivation.old.table to }
-    requires conforms { StatesConformance derivation.old derivation.old from protocol }
+    requires conforms { StatesBound derivation.old derivation.old from bound }
     requires equal { StatesEqual derivation.old derivation.old from to }
-    ensures conforms { OnOk result (StatesConformance derivation.old derivation.new to protocol) }
+    ensures conforms { OnOk result (StatesBound derivation.old derivation.new to bound) }
     ensures continues { Continues derivation.old derivation.new }
 {
     add_symm(derivation, from, to)?;
-    add_same_conf(derivation, to, from, protocol)?;
-    Ok(())
-}
-
-/// From `[T : AnyObject]` and `[T == U]`: `[U : AnyObject]`.
-pub fn carry_layout(derivation: &mut Derivation, from: TermId, to: TermId) -> Result<(), AllocError>
-    requires from { IsOf derivation.old.table from }
-    requires to { IsOf derivation.old.table to }
-    requires object { States derivation.old
-        (Requires (IsAnyObject (term_at derivation.old.table from))) }
-    requires equal { StatesEqual derivation.old derivation.old from to }
-    ensures object { OnOk result
-        (States derivation.new (Requires (IsAnyObject (term_at derivation.old.table to)))) }
-    ensures continues { Continues derivation.old derivation.new }
-{
-    add_symm(derivation, from, to)?;
-    add_same_layout(derivation, to, from)?;
-    Ok(())
+    add_same_bound(derivation, to, from, bound)
 }
 
 /// If lines allow the name A after T, and state `[T == U]`, then they allow A after U, and state `[T.A == U.A]`. `members` are the ids of
@@ -71,7 +53,7 @@ pub fn carry_name(
     ensures continues { ContinuesFrom (Fits alphabet.now) derivation.old derivation.new }
 {
     let p = declarer(alphabet, derivation, from, name);
-    carry_conf(derivation, from, to, p)?;
+    carry_bound(derivation, from, to, Bound::Protocol(p))?;
     add_same_name(derivation, from, to, (p, name), members)?;
     Ok(())
 }
@@ -99,7 +81,7 @@ fn carry_member(
 {
     let named = member_at(alphabet, rank);
     carry_name(alphabet, derivation, from, to, named.name, members)?;
-    carry_conf(derivation, from, to, named.proto)?;
+    carry_bound(derivation, from, to, Bound::Protocol(named.proto))?;
     Ok(())
 }
 
@@ -125,21 +107,17 @@ fn carry_symbol(
 {
     match symbol {
         Symbol::Proto(rank) => {
-            carry_conf(derivation, from, to, ProtoId { rank })?;
+            carry_bound(derivation, from, to, Bound::Protocol(ProtoId { rank }))?;
             Ok(())
         }
         Symbol::Layout => {
-            carry_layout(derivation, from, to)?;
+            carry_bound(derivation, from, to, Bound::AnyObject)?;
             Ok(())
         }
         Symbol::Name(rank) => {
-            carry_name(alphabet, derivation, from, to, NameId { rank }, members)?;
-            Ok(())
+            carry_name(alphabet, derivation, from, to, NameId { rank }, members)
         }
-        Symbol::Member(rank) => {
-            carry_member(alphabet, derivation, from, to, rank, members)?;
-            Ok(())
-        }
+        Symbol::Member(rank) => carry_member(alphabet, derivation, from, to, rank, members),
         Symbol::Param(_, _) => Ok(()),
     }
 }

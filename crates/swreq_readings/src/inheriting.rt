@@ -7,7 +7,7 @@ ghost use Rattle.swreq_readings.specs.{Alphabets.{Fits, IsFromAbove, IsInherited
 
 use crate::alphabet::{Alphabet, declares, is_member};
 use std::alloc::AllocError;
-use swreq_derivation::{Derivation, add_assoc_conf};
+use swreq_derivation::{Derivation, Origin, add_requirement};
 use swreq_derive::Requirement;
 use swreq_derive::param::{NameId, ProtoId, TermId};
 
@@ -93,14 +93,14 @@ fn step_up(
     ensures continues { ContinuesFrom (Fits alphabet.now) derivation.old derivation.new }
 {
     let parent = parent_for(alphabet, protocol, name);
-    add_assoc_conf(
-        derivation,
-        subject,
-        (protocol, parent.number),
-        subject,
-        parent.proto,
-    )?;
-    Ok(parent.proto)
+    let origin = Origin {
+        owner: Some(protocol),
+        number: parent.number,
+        for_self: subject,
+    };
+    let proto = parent.proto;
+    add_requirement(derivation, origin, Requirement::Conf { subject, proto })?;
+    Ok(proto)
 }
 
 /// If a line states `[T : P]`, and A is a member name of P, then lines state `[T : Q]` for a protocol Q that declares A. Q is P, or stands

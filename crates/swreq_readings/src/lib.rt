@@ -11,7 +11,7 @@ mod putting;
 mod reading;
 mod telling;
 
-pub use along::{carry_all, carry_conf, carry_layout, carry_name};
+pub use along::{carry_all, carry_bound, carry_name};
 pub use alphabet::{Alphabet, declared_at, member_at};
 pub use inheriting::inherit;
 pub use members::equal_member;

@@ -1,12 +1,15 @@
 //! Equal type parameters have equal members.
 ghost use Rattle.std.specs.Prelude.{◌≡◌, IfOk, OnOk};
-ghost use Rattle.swreq_derive.specs.swreq_param.{Tables.{IsOf, term_at}, declared.ids.Step.TheVariants.{Bound, Name}, Terms.Term.{Member}};
+ghost use Rattle.swreq_derive.specs.swreq_param.{Tables.{IsOf, term_at}, Terms.Term.{Member}};
+ghost use Rattle.swreq_derive.specs.swreq_param.declared.ids.Step.TheVariants as steps;
 ghost use Rattle.swreq_derivation.specs.UnderWay.{AreEqualIds, AreStatedEqual, ContinuesFrom, StatesEqual};
 ghost use Rattle.swreq_readings.specs.{Alphabets.{Fits}, Readable.{AreMembers, IsGiven}};
 
 use crate::alphabet::Alphabet;
 use std::alloc::AllocError;
-use swreq_derivation::{Derivation, add_assoc_bind, add_same_conf, add_same_name, add_trans};
+use swreq_derivation::{
+    Bound, Derivation, add_assoc_bind, add_same_bound, add_same_name, add_trans,
+};
 use swreq_derive::param::{AssocId, Step, TermId};
 use swreq_world::lexicon::ProtocolName;
 
@@ -30,7 +33,7 @@ fn bind(
 ) -> Result<(), AllocError>
     requires equal { AreEqualIds derivation.old sides.0 sides.1 }
     requires given { IsGiven alphabet.now derivation.old
-        (term_at derivation.old.table sides.1) (Bound assoc) named }
+        (term_at derivation.old.table sides.1) (steps.Bound assoc) named }
     requires members { AreMembers derivation.old sides.0 assoc named.name members }
     ensures table { derivation.new.table ≡ derivation.old.table }
     ensures equal { OnOk result
@@ -38,7 +41,7 @@ fn bind(
     ensures continues { ContinuesFrom (Fits alphabet.now) derivation.old derivation.new }
 {
     let (t, u) = sides;
-    add_same_conf(derivation, t, u, named.proto)?;
+    add_same_bound(derivation, t, u, Bound::Protocol(named.proto))?;
     add_assoc_bind(
         derivation,
         t,
@@ -69,7 +72,7 @@ pub fn equal_member(
         (λ v. term_at derivation.new.table v ≡ Member (term_at derivation.old.table left) step) }
     ensures equal { OnOk result
         (AreStatedEqual derivation.new (Member (term_at derivation.old.table left) step)
-        (Member (term_at derivation.old.table right) (Name named.name))) }
+        (Member (term_at derivation.old.table right) (steps.Name named.name))) }
     ensures continues { ContinuesFrom (Fits alphabet.now) derivation.old derivation.new }
 {
     let plain = derivation.member(left, Step::Name(named.name))?;

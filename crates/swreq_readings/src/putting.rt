@@ -28,8 +28,7 @@ pub fn turn(
 {
     let first = read_word(alphabet, derivation, subject, from)?;
     let second = read_word(alphabet, derivation, subject, to)?;
-    add_symm(derivation, first, second)?;
-    Ok(())
+    add_symm(derivation, first, second)
 }
 
 /// If `from` and `via` are read alike after T, and so are `via` and `to`, then so are `from` and `to`.
@@ -53,8 +52,7 @@ pub fn join(
     let first = read_word(alphabet, derivation, subject, from)?;
     let middle = read_word(alphabet, derivation, subject, via)?;
     let last = read_word(alphabet, derivation, subject, to)?;
-    add_trans(derivation, first, middle, last)?;
-    Ok(())
+    add_trans(derivation, first, middle, last)
 }
 
 /// Two words, of which the second is put in place of the first.
@@ -110,8 +108,7 @@ pub fn replace(
     ensures continues { ContinuesFrom (Fits alphabet.now) derivation.old derivation.new }
 {
     let v = read_word(alphabet, derivation, subject, before)?;
-    put_side(alphabet, derivation, v, sides.from, sides.to, after)?;
-    Ok(())
+    put_side(alphabet, derivation, v, sides.from, sides.to, after)
 }
 
 /// The same as `replace`, from the two words in the other order.
@@ -136,6 +133,5 @@ pub fn replace_back(
 {
     let v = read_word(alphabet, derivation, subject, before)?;
     turn(alphabet, derivation, v, sides.to, sides.from)?;
-    replace(alphabet, derivation, subject, before, sides, after)?;
-    Ok(())
+    replace(alphabet, derivation, subject, before, sides, after)
 }

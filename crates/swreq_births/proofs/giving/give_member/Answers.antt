@@ -1,12 +1,8 @@
-use Rattle.std.proofs.Common.{inl, refl, subst}
-use Rattle.std.proofs.lemmas.Option.{slice_get_within}
-use Rattle.std.proofs.lemmas.Result.{on_ok_weaker}
+use Rattle.std.proofs.{Common.{inl, refl, subst}, lemmas.{Option.{slice_get_within}, Result.{on_ok_weaker}}}
 use Rattle.swreq_param.specs.Tables.{term_at}
-use Rattle.swreq_correspondence.specs.swreq_derive.Derivation.TermRequirement.{Conforms}
-use Rattle.swreq_correspondence.specs.swreq_derive.Derivation.TermStatement.{Requires}
+use Rattle.swreq_correspondence.specs.swreq_derive.Derivation.{TermRequirement.{Conforms}, TermStatement.{Requires}}
 use Rattle.swreq_derivation.specs.UnderWay.{States}
-use Rattle.swreq_readings.specs.swreq_lexicon.declared.pair.ProtocolName.{ProtocolName}
-use Rattle.swreq_readings.specs.Alphabets.{lexicon, member_at}
+use Rattle.swreq_readings.specs.{swreq_lexicon.declared.pair.ProtocolName.{ProtocolName}, Alphabets.{lexicon, member_at}}
 use Rattle.swreq_readings.specs.Readable.{AllowsName}
 use Rattle.swreq_births.proofs.giving.give_member.Goals as goal
 

@@ -1,5 +1,4 @@
-use Rattle.std.proofs.Common.{get_or, subst}
-use Rattle.std.proofs.lemmas.Option.{slice_get-get_or}
+use Rattle.std.proofs.{Common.{get_or, subst}, lemmas.Option.{slice_get-get_or}}
 use Rattle.swreq_correspondence.specs.swreq_derive.Instances.{HasNumber}
 use Rattle.swreq_births.specs.Systems.{IsWritten}
 use Rattle.swreq_births.proofs.members.requirement_of_member.Goals as goal

@@ -1,4 +1,4 @@
-use Rattle.std.proofs.Common.{refl, sym, ◌∙◌}
+use Rattle.std.proofs.{Common.{refl, sym, ◌∙◌}, lemmas.Result.{on_ok_weaker}}
 use Rattle.swreq_param.specs.Tables.{term_at}
 use Rattle.swreq_readings.proofs.ReadingLemmas.{both_still, is_still, term_still}
 use Rattle.swreq_births.proofs.Alike.{both_as, both_now, oriented_both}
@@ -36,19 +36,16 @@ returns-clause-both c =
     let is = is_still s s1 c.in_ok-join_at.ensures.continues.grows c.args.subject c.requires.subject in
     let one = term_still s s1 c.in_ok-join_at.ensures.continues.grows c.args.subject c.requires.subject in
     let two = term_still s1 s2 c.in_ok-join.ensures.continues.grows c.args.subject is in
-    oriented_both g n (term_at s.table c.args.subject) c.args.ends.from.now c.args.ends.to.now c.args.rule.now c.requires.oriented
-    (both_still g s2 n c.in_ok-turn.ensures.continues.grows _ _ _
+    on_ok_weaker c.turn.result (λ both. oriented_both g n (term_at s.table c.args.subject) c.args.ends.from.now
+    c.args.ends.to.now c.args.rule.now c.requires.oriented
+    (both_still g s2 n c.turn.ensures.continues.grows _ _ _
     (both_as g s2 _ _ c.args.ends.from.now c.args.ends.from.now c.args.ends.to.now c.args.ends.to.now one refl refl
     c.in_ok-join.ensures.both)) (both_as g n _ _ c.args.ends.to.now c.args.ends.to.now c.args.ends.from.now c.args.ends.from.now
-    (two ∙ one) refl refl c.in_ok-turn.ensures.both)
+    (two ∙ one) refl refl both)) c.turn.ensures.both
 
 pub returns-clause-continues : goal.returns-clause-continues
 returns-clause-continues c =
-    continues_then (continues_then c.in_ok-join_at.ensures.continues c.in_ok-join.ensures.continues) c.in_ok-turn.ensures.continues
+    continues_then (continues_then c.in_ok-join_at.ensures.continues c.in_ok-join.ensures.continues) c.turn.ensures.continues
 
 pub returns-in_err-join-clause-continues : goal.returns-in_err-join-clause-continues
 returns-in_err-join-clause-continues c = continues_then c.in_ok-join_at.ensures.continues c.in_err-join.ensures.continues
-
-pub returns-in_err-turn-clause-continues : goal.returns-in_err-turn-clause-continues
-returns-in_err-turn-clause-continues c =
-    continues_then (continues_then c.in_ok-join_at.ensures.continues c.in_ok-join.ensures.continues) c.in_err-turn.ensures.continues

@@ -1,4 +1,4 @@
-use Rattle.std.proofs.Common.{refl}
+use Rattle.std.proofs.{Common.{refl}, lemmas.Result.{on_ok_weaker}}
 use Rattle.swreq_readings.proofs.ReadingLemmas.{term_still}
 use Rattle.swreq_births.proofs.Alike.{both_as, both_now}
 use Rattle.swreq_derivation.proofs.DerivationLemmas.{continues_then}
@@ -10,12 +10,11 @@ join-requires-clause-second c =
     c.requires.subject c.requires.second
 
 pub returns-clause-both : goal.returns-clause-both
-returns-clause-both c = both_as c.args.alphabet.now c.join.new.derivation _ _ c.args.from.now c.args.from.now c.args.to.now c.args.to.now
+returns-clause-both c =
+    on_ok_weaker c.join.result (λ both. both_as c.args.alphabet.now c.join.new.derivation _ _ c.args.from.now c.args.from.now
+    c.args.to.now c.args.to.now
     (term_still c.args.derivation.now c.turn.new.derivation c.in_ok-turn.ensures.continues.grows c.args.subject c.requires.subject) refl
-    refl c.in_ok-join.ensures.both
+    refl both) c.join.ensures.both
 
 pub returns-clause-continues : goal.returns-clause-continues
-returns-clause-continues c = continues_then c.in_ok-turn.ensures.continues c.in_ok-join.ensures.continues
-
-pub returns-in_err-join-clause-continues : goal.returns-in_err-join-clause-continues
-returns-in_err-join-clause-continues c = continues_then c.in_ok-turn.ensures.continues c.in_err-join.ensures.continues
+returns-clause-continues c = continues_then c.in_ok-turn.ensures.continues c.join.ensures.continues

@@ -1,10 +1,9 @@
-use Rattle.std.proofs.Common.{◌++◌, [], refl, sym, ap, subst, ◌∙◌, append-nil}
+use Rattle.std.proofs.{Common.{◌++◌, [], refl, sym, ap, subst, ◌∙◌, append-nil}, lemmas.Result.{on_ok_weaker}}
 use Rattle.swreq_param.specs.Tables.{term_at}
-use Rattle.swreq_readings.specs.Readable.{AllowsWord, read_word}
-use Rattle.swreq_readings.proofs.ReadingLemmas.{both_still, is_still, term_still, word_both}
 use Rattle.swreq_births.proofs.Alike.{both_as}
 use Rattle.swreq_derivation.proofs.DerivationLemmas.{continues_anyway, continues_then, grows_then}
 use Rattle.swreq_births.proofs.pairs.read_across.Goals as goal
+use Rattle.swreq_readings.{specs.Readable.{AllowsWord, read_word}, proofs.ReadingLemmas.{both_still, is_still, term_still, word_both}}
 
 pub put_side-requires-clause-word : goal.put_side-requires-clause-word
 put_side-requires-clause-word c =
@@ -57,20 +56,15 @@ returns-clause-both c =
     let s1 = c.put_side.new.derivation in
     let s2 = c.replace.new.derivation in
     let gr = grows_then c.in_ok-put_side.ensures.continues.grows c.in_ok-replace.ensures.continues.grows in
-    both_as c.args.alphabet.now c.join_at.new.derivation _ (term_at s.table c.args.subject) _
+    on_ok_weaker c.join_at.result (λ both. both_as c.args.alphabet.now c.join_at.new.derivation _ (term_at s.table c.args.subject) _
     (c.args.first.to.now ++ c.args.around.after.now) _ (c.args.around.before.now ++ c.args.second.to.now)
     (term_still s s2 gr c.args.subject c.requires.subject) (c.deref-2.ensures.value ∙ c.in_ok-u.ensures)
-    (c.deref-3.ensures.value ∙ c.in_ok-v.ensures) c.in_ok-join_at.ensures.both
+    (c.deref-3.ensures.value ∙ c.in_ok-v.ensures) both) c.join_at.ensures.both
 
 pub returns-clause-continues : goal.returns-clause-continues
 returns-clause-continues c =
     continues_then (continues_then c.in_ok-put_side.ensures.continues c.in_ok-replace.ensures.continues) (continues_anyway
-    c.in_ok-join_at.ensures.continues)
+    c.join_at.ensures.continues)
 
 pub returns-in_err-replace-clause-continues : goal.returns-in_err-replace-clause-continues
 returns-in_err-replace-clause-continues c = continues_then c.in_ok-put_side.ensures.continues c.in_err-replace.ensures.continues
-
-pub returns-in_err-join_at-clause-continues : goal.returns-in_err-join_at-clause-continues
-returns-in_err-join_at-clause-continues c =
-    continues_then (continues_then c.in_ok-put_side.ensures.continues c.in_ok-replace.ensures.continues) (continues_anyway
-    c.in_err-join_at.ensures.continues)

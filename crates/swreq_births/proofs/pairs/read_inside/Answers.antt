@@ -1,4 +1,4 @@
-use Rattle.std.proofs.Common.{◌++◌, refl, sym, ap, ◌∙◌}
+use Rattle.std.proofs.{Common.{◌++◌, refl, sym, ap, ◌∙◌}, lemmas.Result.{on_ok_weaker}}
 use Rattle.swreq_param.specs.Tables.{term_at}
 use Rattle.swreq_readings.proofs.ReadingLemmas.{term_still}
 use Rattle.swreq_births.proofs.Alike.{both_as, both_now}
@@ -37,13 +37,9 @@ returns-clause-both c =
     let s1 = c.replace.new.derivation in
     let f = c.deref-4.ensures.value ∙ c.in_ok-v.ensures ∙ ap (λ z. c.args.around.before.now ++ z)
     (c.deref-2.ensures.value ∙ c.in_ok-to.ensures) in
-    both_as g c.join_at.new.derivation _ _ c.args.reduct.now _ _
+    on_ok_weaker c.join_at.result (λ both. both_as g c.join_at.new.derivation _ _ c.args.reduct.now _ _
     (c.args.around.before.now ++ (c.args.sides.to.now ++ c.args.around.after.now))
-    (term_still s s1 c.in_ok-replace.ensures.continues.grows c.args.subject c.requires.subject) refl f c.in_ok-join_at.ensures.both
+    (term_still s s1 c.in_ok-replace.ensures.continues.grows c.args.subject c.requires.subject) refl f both) c.join_at.ensures.both
 
 pub returns-clause-continues : goal.returns-clause-continues
-returns-clause-continues c = continues_then c.in_ok-replace.ensures.continues (continues_anyway c.in_ok-join_at.ensures.continues)
-
-pub returns-in_err-join_at-clause-continues : goal.returns-in_err-join_at-clause-continues
-returns-in_err-join_at-clause-continues c =
-    continues_then c.in_ok-replace.ensures.continues (continues_anyway c.in_err-join_at.ensures.continues)
+returns-clause-continues c = continues_then c.in_ok-replace.ensures.continues (continues_anyway c.join_at.ensures.continues)

@@ -1,7 +1,5 @@
 use Rattle.std.proofs.Common.{◌≡◌, ◌∙◌, true, sym, subst}
-use Rattle.swreq_complete.specs.swreq_rule.Reduction.{Reduces}
-use Rattle.swreq_complete.specs.swreq_path.Paths.{HasTarget}
-use Rattle.swreq_complete.proofs.swreq_path.Leading.{one_end}
+use Rattle.swreq_complete.{specs.{swreq_rule.Reduction.{Reduces}, swreq_path.Paths.{HasTarget}}, proofs.swreq_path.Leading.{one_end}}
 use Rattle.swreq_births.proofs.Ends.{one_reduct}
 use Rattle.swreq_births.proofs.types.path_between.Goals as goal
 

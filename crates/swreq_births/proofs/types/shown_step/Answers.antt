@@ -1,7 +1,5 @@
-use Rattle.std.proofs.Common.{◌≡◌, ◌∙◌, ◌<◌, ◌≤◌, ap, arith, length}
-use Rattle.std.proofs.lemmas.Option.{slice_get_within}
-use Rattle.swreq_readings.specs.swreq_lexicon.Views.{LexiconView}
-use Rattle.swreq_readings.specs.Alphabets.{lexicon}
+use Rattle.std.proofs.{Common.{◌≡◌, ◌∙◌, ◌<◌, ◌≤◌, ap, arith, length}, lemmas.Option.{slice_get_within}}
+use Rattle.swreq_readings.specs.{swreq_lexicon.Views.{LexiconView}, Alphabets.{lexicon}}
 use Rattle.swreq_births.proofs.types.shown_step.Goals as goal
 
 pub unreachable-requires : goal.unreachable-requires

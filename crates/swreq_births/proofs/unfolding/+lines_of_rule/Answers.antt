@@ -127,14 +127,14 @@ give_required-read_type-requires-in-Same = requirements.give_required-read_type-
 pub give_required-read_type-requires-in-Same-2 : goal.give_required-read_type-requires-in-Same-2
 give_required-read_type-requires-in-Same-2 = requirements.give_required-read_type-requires-in-Same-2
 
-pub give_required-give_conf-requires : goal.give_required-give_conf-requires
-give_required-give_conf-requires = requirements.give_required-give_conf-requires
+pub give_required-give_bound-requires : goal.give_required-give_bound-requires
+give_required-give_bound-requires = requirements.give_required-give_bound-requires
 
 pub give_required-returns-in_ok-u-in-Conf-clause-continues : goal.give_required-returns-in_ok-u-in-Conf-clause-continues
 give_required-returns-in_ok-u-in-Conf-clause-continues = requirements.give_required-returns-in_ok-u-in-Conf-clause-continues
 
-pub give_required-give_layout-requires : goal.give_required-give_layout-requires
-give_required-give_layout-requires = requirements.give_required-give_layout-requires
+pub give_required-give_bound-requires-in-Layout : goal.give_required-give_bound-requires-in-Layout
+give_required-give_bound-requires-in-Layout = requirements.give_required-give_bound-requires-in-Layout
 
 pub give_required-returns-in_ok-u-in-Layout-clause-continues : goal.give_required-returns-in_ok-u-in-Layout-clause-continues
 give_required-returns-in_ok-u-in-Layout-clause-continues = requirements.give_required-returns-in_ok-u-in-Layout-clause-continues

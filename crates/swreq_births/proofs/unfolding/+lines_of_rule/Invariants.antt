@@ -1,13 +1,10 @@
 use Rattle.std.proofs.Common.{◌≡◌, ◌+◌, ◌*◌, List, drop, take}
-use Rattle.swreq_param.specs.Tables.{IsOf, term_at}
-use Rattle.swreq_param.specs.Terms.{with_steps}
-use Rattle.swreq_param.specs.Terms.Term.{Generic}
+use Rattle.swreq_param.specs.{Tables.{IsOf, term_at}, Terms.{with_steps, Term.{Generic}}}
 use Rattle.swreq_correspondence.specs.swreq_word.declared.symbols.Symbol.{Symbol}
 use Rattle.swreq_complete.specs.swreq_path.Paths.{StepsLead}
-use Rattle.swreq_derivation.specs.UnderWay.{AreStatedEqual, ContinuesFrom}
+use Rattle.swreq_derivation.specs.{UnderWay.{AreStatedEqual, ContinuesFrom}, Origins.{placed}}
 use Rattle.swreq_births.specs.Systems.{FitsHistory}
 use Rattle.swreq_readings.specs.Readable.{AllowsWord, AreReadEqual, read_word}
-use Rattle.swreq_births.specs.Types.{placed}
 use Rattle.swreq_births.proofs.unfolding.+lines_of_rule.Given as goal
 
 -- What decreases: the place of the system, and in one system the place of the rule.

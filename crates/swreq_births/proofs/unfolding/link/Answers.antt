@@ -1,13 +1,7 @@
-use Rattle.std.proofs.Common.{◌≡◌, ◌∙◌, sym, subst, refl}
-use Rattle.std.specs.Option.{IfSome}
-use Rattle.std.proofs.lemmas.Option.{MatchOption-at_some}
-use Rattle.swreq_complete.specs.swreq_path.declared.paths.Path.{Path}
-use Rattle.swreq_complete.specs.swreq_path.Paths.{HasTarget}
+use Rattle.std.{proofs.{Common.{◌≡◌, ◌∙◌, sym, subst, refl}, lemmas.Option.{MatchOption-at_some}}, specs.Option.{IfSome}}
+use Rattle.swreq_complete.specs.{swreq_path.{declared.paths.Path.{Path}, Paths.{HasTarget}}, Alike.{ReduceAlike}}
 use Rattle.swreq_complete.proofs.swreq_path.Leading.{one_end}
-use Rattle.swreq_complete.specs.Alike.{ReduceAlike}
-use Rattle.swreq_births.specs.Systems.{rules_at}
-use Rattle.swreq_births.proofs.Headed.{all_at, all_there}
-use Rattle.swreq_births.proofs.Alike.{both_as}
+use Rattle.swreq_births.{specs.Systems.{rules_at}, proofs.{Headed.{all_at, all_there}, Alike.{both_as}}}
 use Rattle.swreq_births.proofs.unfolding.link.Goals as goal
 
 pub walk_along-requires-clause-rules : goal.walk_along-requires-clause-rules

@@ -1,6 +1,5 @@
 use Rattle.std.proofs.Common.{subst, sym, [], ◌∷◌}
-use Rattle.swreq_derive.specs.Facts.{statement_of}
-use Rattle.swreq_derive.specs.Instances.{AreStated}
+use Rattle.swreq_derive.specs.{Facts.{statement_of}, Instances.{AreStated}}
 use Rattle.swreq_derivation.specs.UnderWay.{statements_in}
 use Rattle.swreq_derivation.proofs.adding.from_two.Goals as goal
 

@@ -1,6 +1,5 @@
 use Rattle.std.proofs.Common.{ap, subst}
-use Rattle.swreq_derive.specs.swreq_param.Tables.{AreDistinct, term_at}
-use Rattle.swreq_derive.proofs.InstanceLemmas.{same_id, id_same}
+use Rattle.swreq_derive.{specs.swreq_param.Tables.{AreDistinct, term_at}, proofs.InstanceLemmas.{same_id, id_same}}
 use Rattle.swreq_derivation.proofs.equalities.are_one.Goals as goal
 
 pub returns : goal.returns

@@ -1,10 +1,8 @@
 use Rattle.std.proofs.Common.{◌≡◌, ◌++◌, ◌∷◌, [], Some, map, slice_get, take, ◌∙◌, add-one, ap, refl, false, length, arith}
-use Rattle.std.proofs.lemmas.List.{map-append}
-use Rattle.std.proofs.lemmas.Option.{slice_get-get_or, slice_get_read}
-use Rattle.swreq_derivation.specs.Marks.{kept, renumbered}
-use Rattle.swreq_derivation.proofs.KeptLines.{kept_no, kept_yes}
-use Rattle.swreq_derivation.proofs.keeping.keep.Goals as goal
+use Rattle.std.proofs.lemmas.{List.{map-append}, Option.{slice_get-get_or, slice_get_read}}
 use Rattle.swreq_derivation.proofs.keeping.keep.Goals.{then-marks-k+in_ok-line+in_ok-push, else-marks-k}
+use Rattle.swreq_derivation.proofs.keeping.keep.Goals as goal
+use Rattle.swreq_derivation.{specs.Marks.{kept, renumbered}, proofs.KeptLines.{kept_no, kept_yes}}
 
 pub loop-k-preserved : goal.loop-k-preserved
 loop-k-preserved c =

@@ -1,9 +1,8 @@
-use Rattle.std.proofs.Common.{◌≡◌, ◌+◌, ◌≤◌, ◌∷◌, [], Some, slice_get, take, ◌∙◌, add-one, ap, subst, sym, arith, length, length-append, false}
-use Rattle.std.proofs.lemmas.Option.{slice_get-get_or}
-use Rattle.swreq_derivation.specs.Marks.{marked, new_number}
-use Rattle.swreq_derivation.proofs.KeptLines.{marked_no, marked_yes, numbers_grow}
-use Rattle.swreq_derivation.proofs.keeping.numbers_of.Goals as goal
+use Rattle.std.proofs.Common.{◌≡◌, ◌+◌, ◌≤◌, ◌∷◌, [], Some, slice_get, take, ◌∙◌, add-one, ap, subst, sym, arith, length, length-append}
+use Rattle.std.proofs.{Common.{false}, lemmas.Option.{slice_get-get_or}}
 use Rattle.swreq_derivation.proofs.keeping.numbers_of.Goals.{then-marks-k, else-marks-k}
+use Rattle.swreq_derivation.proofs.keeping.numbers_of.Goals as goal
+use Rattle.swreq_derivation.{specs.Marks.{marked, new_number}, proofs.KeptLines.{marked_no, marked_yes, numbers_grow}}
 
 pub loop-k-preserved : goal.loop-k-preserved
 loop-k-preserved c =

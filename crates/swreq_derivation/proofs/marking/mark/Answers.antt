@@ -1,5 +1,4 @@
-use Rattle.std.proofs.Common.{get_or, take, add-one, arith}
-use Rattle.std.proofs.Math.Seq.{take-suc}
+use Rattle.std.proofs.{Common.{get_or, take, add-one, arith}, Math.Seq.{take-suc}}
 use Rattle.swreq_derivation.proofs.SetMarks.{marked_then}
 use Rattle.swreq_derivation.proofs.marking.mark.Goals as goal
 

@@ -1,8 +1,7 @@
 use Rattle.std.proofs.Common.{◌≡◌, ◌∙◌, Some, ap, arith, length, refl, slice_get, subst, sym, true, true≢false}
 use Rattle.std.proofs.lemmas.Option.{get_or_from_slice_get, slice_get_read}
-use Rattle.swreq_derivation.specs.Marks.{AreMarked}
-use Rattle.swreq_derivation.proofs.SetMarks.{needed_marked, needed_unmarked}
 use Rattle.swreq_derivation.proofs.marking.mark_premises.Goals as goal
+use Rattle.swreq_derivation.{specs.Marks.{AreMarked}, proofs.SetMarks.{needed_marked, needed_unmarked}}
 
 pub returns-then-index : goal.returns-then-index
 returns-then-index c =

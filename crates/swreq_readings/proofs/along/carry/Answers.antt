@@ -1,6 +1,5 @@
 use Rattle.std.proofs.Common.{sym, ap, ◌∙◌}
-use Rattle.swreq_readings.specs.Readable.{read_symbol}
-use Rattle.swreq_readings.proofs.ReadingLemmas.{equal_as, equal_ids_still, symbol_now, term_still}
+use Rattle.swreq_readings.{specs.Readable.{read_symbol}, proofs.ReadingLemmas.{equal_as, equal_ids_still, symbol_now, term_still}}
 use Rattle.swreq_derivation.proofs.DerivationLemmas.{continues_anyway, continues_then, grows_then}
 use Rattle.swreq_readings.proofs.along.carry.Goals as goal
 

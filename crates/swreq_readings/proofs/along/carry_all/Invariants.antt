@@ -1,7 +1,6 @@
 use Rattle.swreq_derive.specs.swreq_param.Tables.{IsOf, term_at}
 use Rattle.swreq_derivation.specs.UnderWay.{ContinuesFrom}
-use Rattle.swreq_readings.specs.Alphabets.{Fits}
-use Rattle.swreq_readings.proofs.ReadingLemmas.{IsCarrying}
+use Rattle.swreq_readings.{specs.Alphabets.{Fits}, proofs.ReadingLemmas.{IsCarrying}}
 use Rattle.swreq_readings.proofs.along.carry_all.Given as goal
 
 abbrev pub invariant-loop-k : goal.invariant-loop-k

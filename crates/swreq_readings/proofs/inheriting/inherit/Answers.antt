@@ -1,10 +1,7 @@
 use Rattle.std.proofs.Common.{◌≡◌, ◌+◌, ◌<◌, ◌≤◌, length, sym, subst, arith, inl, inr}
-use Rattle.swreq_derive.specs.Derivation.TermRequirement.{Conforms}
-use Rattle.swreq_derive.specs.Derivation.TermStatement.{Requires}
-use Rattle.swreq_derivation.specs.UnderWay.{States}
-use Rattle.swreq_readings.specs.Alphabets.{lexicon}
-use Rattle.swreq_readings.proofs.ReadingLemmas.{is_still, term_still}
-use Rattle.swreq_derivation.proofs.DerivationLemmas.{continues_then}
+use Rattle.swreq_derive.specs.Derivation.{TermRequirement.{Conforms}, TermStatement.{Requires}}
+use Rattle.swreq_derivation.{specs.UnderWay.{States}, proofs.DerivationLemmas.{continues_then}}
+use Rattle.swreq_readings.{specs.Alphabets.{lexicon}, proofs.ReadingLemmas.{is_still, term_still}}
 use Rattle.swreq_readings.proofs.inheriting.inherit.Goals as goal
 
 pub returns-then-declares-clause-name : goal.returns-then-declares-clause-name

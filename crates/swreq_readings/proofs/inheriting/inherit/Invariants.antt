@@ -1,7 +1,5 @@
 use Rattle.std.proofs.Common.{◌+◌, ◌≤◌, length}
-use Rattle.swreq_derive.specs.swreq_param.Tables.{term_at}
-use Rattle.swreq_derive.specs.Derivation.TermRequirement.{Conforms}
-use Rattle.swreq_derive.specs.Derivation.TermStatement.{Requires}
+use Rattle.swreq_derive.specs.{swreq_param.Tables.{term_at}, Derivation.{TermRequirement.{Conforms}, TermStatement.{Requires}}}
 use Rattle.swreq_derivation.specs.UnderWay.{ContinuesFrom, States}
 use Rattle.swreq_readings.specs.Alphabets.{Fits, IsInherited, IsMember, lexicon}
 use Rattle.swreq_readings.proofs.inheriting.inherit.Given as goal

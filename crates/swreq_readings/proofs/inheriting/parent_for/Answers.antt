@@ -1,6 +1,4 @@
-use Rattle.std.proofs.Common.{◌≡◌, ◌≤◌, ◌<◌, ap, arith, length, inl, inr, subst}
-use Rattle.std.proofs.lemmas.Bool.{cases_lt}
-use Rattle.std.proofs.lemmas.Option.{slice_get_within}
+use Rattle.std.proofs.{Common.{◌≡◌, ◌≤◌, ◌<◌, ap, arith, length, inl, inr, subst}, lemmas.{Bool.{cases_lt}, Option.{slice_get_within}}}
 use Rattle.swreq_readings.specs.Alphabets.{IsParentFor, written_at}
 use Rattle.swreq_readings.proofs.inheriting.parent_for.Goals as goal
 

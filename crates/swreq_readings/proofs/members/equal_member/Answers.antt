@@ -1,8 +1,5 @@
 use Rattle.std.proofs.Common.{◌≡◌, sym, ap, ap₂, subst, ◌∙◌}
-use Rattle.swreq_derive.specs.swreq_param.declared.ids.NameId.{NameId}
-use Rattle.swreq_derive.specs.swreq_param.declared.ids.Step.{Step}
-use Rattle.swreq_derive.specs.swreq_param.declared.ids.Step.TheVariants.{Name}
-use Rattle.swreq_derive.specs.swreq_param.Tables.{term_at}
+use Rattle.swreq_derive.specs.swreq_param.{declared.ids.{NameId.{NameId}, Step.{Step, TheVariants.{Name}}}, Tables.{term_at}}
 use Rattle.swreq_derive.specs.swreq_param.Terms.Term.{Member}
 use Rattle.swreq_readings.specs.Readable.{IsGiven, IsOfStep}
 use Rattle.swreq_readings.proofs.ReadingLemmas.{equal_as, equal_ids_now, equal_ids_still, given_still, is_still, term_still}

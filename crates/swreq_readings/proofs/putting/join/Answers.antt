@@ -1,7 +1,7 @@
 use Rattle.std.proofs.Common.{ap, sym, ◌∙◌}
+use Rattle.std.proofs.lemmas.Result.{on_ok_weaker}
 use Rattle.swreq_derive.specs.swreq_param.Tables.{term_at}
-use Rattle.swreq_readings.specs.Readable.{read_word}
-use Rattle.swreq_readings.proofs.ReadingLemmas.{both_still, equal_as, equal_still, is_still, term_still}
+use Rattle.swreq_readings.{specs.Readable.{read_word}, proofs.ReadingLemmas.{both_still, equal_as, equal_still, is_still, term_still}}
 use Rattle.swreq_derivation.proofs.DerivationLemmas.{continues_then, grows_then}
 use Rattle.swreq_readings.proofs.putting.join.Goals as goal
 
@@ -47,19 +47,20 @@ returns-clause-both c =
     let g2 = c.in_ok-middle.ensures.continues.grows in
     let g3 = c.in_ok-last.ensures.continues.grows in
     let g12 = grows_then g1 g2 in
-    let gr = grows_then (grows_then g12 g3) c.in_ok-add_trans.ensures.continues.grows in
-    let t = term_at s.table c.args.subject in record {
+    let gr = grows_then (grows_then g12 g3) c.add_trans.ensures.continues.grows in
+    let t = term_at s.table c.args.subject in
+    on_ok_weaker c.add_trans.result (λ equal. record {
       left = (both_still g s n gr t c.args.from.now c.args.via.now c.requires.first).left;
       right = (both_still g s n gr t c.args.via.now c.args.to.now c.requires.second).right;
       equal = equal_as n _ _ _ _ (sym (term_still s1 s3 (grows_then g2 g3) c.in_ok-first.first c.in_ok-first.ensures.is_of
           ∙ c.in_ok-first.ensures.stands)) (sym (c.in_ok-last.ensures.stands ∙ ap (λ z. read_word g z c.args.to.now)
-          (term_still s s2 g12 c.args.subject c.requires.subject))) c.in_ok-add_trans.ensures.equal;
-    }
+          (term_still s s2 g12 c.args.subject c.requires.subject))) equal;
+    }) c.add_trans.ensures.equal
 
 pub returns-clause-continues : goal.returns-clause-continues
 returns-clause-continues c =
     continues_then (continues_then (continues_then c.in_ok-first.ensures.continues c.in_ok-middle.ensures.continues)
-    c.in_ok-last.ensures.continues) c.in_ok-add_trans.ensures.continues
+    c.in_ok-last.ensures.continues) c.add_trans.ensures.continues
 
 pub returns-in_err-middle-clause-continues : goal.returns-in_err-middle-clause-continues
 returns-in_err-middle-clause-continues c = continues_then c.in_ok-first.ensures.continues c.in_err-middle.ensures.continues
@@ -67,8 +68,3 @@ returns-in_err-middle-clause-continues c = continues_then c.in_ok-first.ensures.
 pub returns-in_err-last-clause-continues : goal.returns-in_err-last-clause-continues
 returns-in_err-last-clause-continues c =
     continues_then (continues_then c.in_ok-first.ensures.continues c.in_ok-middle.ensures.continues) c.in_err-last.ensures.continues
-
-pub returns-in_err-add_trans-clause-continues : goal.returns-in_err-add_trans-clause-continues
-returns-in_err-add_trans-clause-continues c =
-    continues_then (continues_then (continues_then c.in_ok-first.ensures.continues c.in_ok-middle.ensures.continues)
-    c.in_ok-last.ensures.continues) c.in_err-add_trans.ensures.continues

@@ -1,4 +1,5 @@
 use Rattle.std.proofs.Common.{◌++◌, sym, subst}
+use Rattle.std.proofs.lemmas.Result.{on_ok_weaker}
 use Rattle.swreq_derive.specs.swreq_param.Tables.{term_at}
 use Rattle.swreq_readings.specs.Readable.{AreReadEqual, read_word}
 use Rattle.swreq_readings.proofs.ReadingLemmas.{both_behind, both_still, word_at, word_left, word_right, word_still}
@@ -29,15 +30,12 @@ returns-clause-both c =
     let s1 = c.read_word.new.derivation in
     let n = c.put_side.new.derivation in
     let t = term_at s.table c.args.subject in
-    let gr = grows_then c.in_ok-v.ensures.continues.grows c.in_ok-put_side.ensures.continues.grows in
-    both_behind g n t c.args.before.now (c.args.sides.from.now ++ c.args.after.now) (c.args.sides.to.now ++ c.args.after.now)
+    let gr = grows_then c.in_ok-v.ensures.continues.grows c.put_side.ensures.continues.grows in
+    on_ok_weaker c.put_side.result (λ both. both_behind g n t c.args.before.now (c.args.sides.from.now ++ c.args.after.now)
+    (c.args.sides.to.now ++ c.args.after.now)
     (word_left g n t c.args.before.now _ (word_still g s n gr t _ c.requires.word))
     (subst (λ z. AreReadEqual g n z (c.args.sides.from.now ++ c.args.after.now)
-    (c.args.sides.to.now ++ c.args.after.now)) c.in_ok-v.ensures.stands c.in_ok-put_side.ensures.both)
+    (c.args.sides.to.now ++ c.args.after.now)) c.in_ok-v.ensures.stands both)) c.put_side.ensures.both
 
 pub returns-clause-continues : goal.returns-clause-continues
-returns-clause-continues c = continues_then (continues_anyway c.in_ok-v.ensures.continues) c.in_ok-put_side.ensures.continues
-
-pub returns-in_err-put_side-clause-continues : goal.returns-in_err-put_side-clause-continues
-returns-in_err-put_side-clause-continues c =
-    continues_then (continues_anyway c.in_ok-v.ensures.continues) c.in_err-put_side.ensures.continues
+returns-clause-continues c = continues_then (continues_anyway c.in_ok-v.ensures.continues) c.put_side.ensures.continues

@@ -1,7 +1,7 @@
 use Rattle.std.proofs.Common.{◌++◌, sym, subst}
+use Rattle.std.proofs.lemmas.Result.{on_ok_weaker}
 use Rattle.swreq_derive.specs.swreq_param.Tables.{term_at}
-use Rattle.swreq_readings.specs.Readable.{AreReadEqual, read_word}
-use Rattle.swreq_readings.proofs.ReadingLemmas.{both_still, term_still, word_at, word_still}
+use Rattle.swreq_readings.{specs.Readable.{AreReadEqual, read_word}, proofs.ReadingLemmas.{both_still, term_still, word_at, word_still}}
 use Rattle.swreq_derivation.proofs.DerivationLemmas.{continues_anyway, continues_then, grows_then}
 use Rattle.swreq_readings.proofs.putting.replace_back.Goals as goal
 
@@ -39,19 +39,15 @@ returns-clause-both c =
     let s = c.args.derivation.now in
     let s2 = c.turn.new.derivation in
     let gr = grows_then c.in_ok-v.ensures.continues.grows c.in_ok-turn.ensures.continues.grows in
-    subst (λ z. AreReadEqual g c.replace.new.derivation z (c.args.before.now ++ (c.args.sides.from.now ++ c.args.after.now))
+    on_ok_weaker c.replace.result (subst (λ z. AreReadEqual g c.replace.new.derivation z (c.args.before.now ++
+    (c.args.sides.from.now ++ c.args.after.now))
     (c.args.before.now ++ (c.args.sides.to.now ++ c.args.after.now)))
-    (term_still s s2 gr c.args.subject c.requires.subject) c.in_ok-replace.ensures.both
+    (term_still s s2 gr c.args.subject c.requires.subject)) c.replace.ensures.both
 
 pub returns-clause-continues : goal.returns-clause-continues
 returns-clause-continues c =
     continues_then (continues_anyway (continues_then c.in_ok-v.ensures.continues c.in_ok-turn.ensures.continues))
-    c.in_ok-replace.ensures.continues
+    c.replace.ensures.continues
 
 pub returns-in_err-turn-clause-continues : goal.returns-in_err-turn-clause-continues
 returns-in_err-turn-clause-continues c = continues_anyway (continues_then c.in_ok-v.ensures.continues c.in_err-turn.ensures.continues)
-
-pub returns-in_err-replace-clause-continues : goal.returns-in_err-replace-clause-continues
-returns-in_err-replace-clause-continues c =
-    continues_then (continues_anyway (continues_then c.in_ok-v.ensures.continues c.in_ok-turn.ensures.continues))
-    c.in_err-replace.ensures.continues

@@ -1,7 +1,6 @@
 use Rattle.std.proofs.Common.{ap, subst, ◌∙◌}
 use Rattle.swreq_derive.specs.swreq_param.Tables.{term_at}
-use Rattle.swreq_readings.specs.Readable.{AllowsWord, read_word}
-use Rattle.swreq_readings.proofs.ReadingLemmas.{both_told, read_as, term_still, word_still}
+use Rattle.swreq_readings.{specs.Readable.{AllowsWord, read_word}, proofs.ReadingLemmas.{both_told, read_as, term_still, word_still}}
 use Rattle.swreq_derivation.proofs.DerivationLemmas.{continues_then}
 use Rattle.swreq_readings.proofs.telling.are_read_equal.Goals as goal
 

@@ -3,15 +3,11 @@ use Rattle.std.proofs.Common.{refl, sym, ap, subst, arith, ◌≡◌, ◌++◌, 
 use Rattle.swreq_param.specs.Tables.{term_at}
 use Rattle.swreq_readings.specs.Readable.{read_word, AllowsWord}
 use Rattle.swreq_readings.proofs.ReadingLemmas.{is_still, both_still, term_still, word_right, word_still}
-use Rattle.swreq_births.specs.Systems.{rules_at}
-use Rattle.swreq_births.proofs.Alike.{both_as}
-use Rattle.swreq_births.proofs.Headed.{headed, stands_before}
-use Rattle.swreq_derivation.proofs.DerivationLemmas.{continues_anyway, continues_if, continues_then, grows_then}
-use Rattle.swreq_complete.specs.swreq_rule.Steps.{RuleAt}
-use Rattle.swreq_complete.proofs.swreq_rule.Numbers.{number_some, number_within}
-use Rattle.swreq_complete.specs.swreq_path.Paths.{put_side, replaced_side, StepsLead}
-use Rattle.swreq_births.proofs.Asking.{side_allows}
+use Rattle.swreq_births.{specs.Systems.{rules_at}, proofs.{Alike.{both_as}, Headed.{headed, stands_before}, Asking.{side_allows}}}
 use Rattle.swreq_births.proofs.PathSteps.{goes_along, goes_on, went_on, rule_before, step_by}
+use Rattle.swreq_derivation.proofs.DerivationLemmas.{continues_anyway, continues_if, continues_then, grows_then}
+use Rattle.swreq_complete.specs.{swreq_rule.Steps.{RuleAt}, swreq_path.Paths.{put_side, replaced_side, StepsLead}}
+use Rattle.swreq_complete.proofs.swreq_rule.Numbers.{number_some, number_within}
 use Rattle.swreq_births.proofs.unfolding.+lines_of_rule.Goals as goal
 
 pub walk_along-rule_of-rule-requires : goal.walk_along-rule_of-rule-requires

@@ -1,14 +1,13 @@
 -- The answers on equations and on requirements.
-use Rattle.std.proofs.Common.{length, sym, ap, subst, arith, ◌<◌}
+use Rattle.std.proofs.Common.{length, sym, ap, ap₂, subst, arith, ◌<◌}
 use Rattle.swreq_param.specs.Tables.{term_at}
-use Rattle.swreq_correspondence.specs.swreq_derive.Instances.{HasNumber}
+use Rattle.swreq_correspondence.specs.swreq_derive.{Derivation.TermRequirement.{Conforms, Equals, IsAnyObject}, Instances.{HasNumber}}
 use Rattle.swreq_readings.proofs.ReadingLemmas.{is_still}
 use Rattle.swreq_births.specs.Systems.{IsWritten, requirement_by, rules_at, systems_of, HasShownSides}
-use Rattle.swreq_births.specs.Types.{written_by}
+use Rattle.swreq_births.specs.declared.history.Reason.TheVariants.{Doubled, Named, Required}
 use Rattle.swreq_births.proofs.Equations.{sides_as, asked_of, asked_now, doubled_both, given_as, member_asks, member_both, sides_asked}
 use Rattle.swreq_births.proofs.Readings.{placed_now, placed_still, origin_still, side_read, side_still}
-use Rattle.swreq_derivation.proofs.DerivationLemmas.{continues_if, continues_then, grows_then}
-use Rattle.swreq_births.specs.declared.history.Reason.TheVariants.{Doubled, Named, Required}
+use Rattle.swreq_derivation.{specs.Origins.{written_by}, proofs.DerivationLemmas.{continues_if, continues_then, grows_then}}
 use Rattle.swreq_births.proofs.unfolding.+lines_of_rule.Goals as goal
 
 -- ---- equations
@@ -110,8 +109,8 @@ give_required-read_type-requires-in-Same-2 t c =
       ),
     )
 
-pub give_required-give_conf-requires : goal.give_required-give_conf-requires
-give_required-give_conf-requires t c =
+pub give_required-give_bound-requires : goal.give_required-give_bound-requires
+give_required-give_bound-requires t c =
     let u = c.in_ok-u-in-Conf.ensures in record {
       origin = origin_still _ _ u.continues.grows (record {
         owner = c.args.scope.owner;
@@ -129,11 +128,12 @@ give_required-returns-in_ok-u-in-Conf-clause-continues t c =
     continues_then (continues_if (λ b f. f.0) u.continues) (continues_if (λ b f. (
       _,
       subst (HasNumber c.args.number (written_by b c.args.scope.owner)) (ap requirement_by c.in-Conf.is) f.1,
-      placed_now _ _ u.continues.grows c.args.scope.owner c.args.scope.for_self c.in_ok-u-in-Conf.u _ c.requires.scope.for_self u.stands,
-    )) c.give_conf.ensures.continues)
+      ap (λ z. Conforms z c.in-Conf.proto) (placed_now _ _ u.continues.grows c.args.scope.owner c.args.scope.for_self c.in_ok-u-in-Conf.u _
+          c.requires.scope.for_self u.stands),
+    )) c.give_bound.ensures.continues)
 
-pub give_required-give_layout-requires : goal.give_required-give_layout-requires
-give_required-give_layout-requires t c =
+pub give_required-give_bound-requires-in-Layout : goal.give_required-give_bound-requires-in-Layout
+give_required-give_bound-requires-in-Layout t c =
     let u = c.in_ok-u-in-Layout.ensures in record {
       origin = origin_still _ _ u.continues.grows (record {
         owner = c.args.scope.owner;
@@ -151,8 +151,9 @@ give_required-returns-in_ok-u-in-Layout-clause-continues t c =
     continues_then (continues_if (λ b f. f.0) u.continues) (continues_if (λ b f. (
       _,
       subst (HasNumber c.args.number (written_by b c.args.scope.owner)) (ap requirement_by c.in-Layout.is) f.1,
-      placed_now _ _ u.continues.grows c.args.scope.owner c.args.scope.for_self c.in_ok-u-in-Layout.u _ c.requires.scope.for_self u.stands,
-    )) c.give_layout.ensures.continues)
+      ap (λ z. IsAnyObject z) (placed_now _ _ u.continues.grows c.args.scope.owner c.args.scope.for_self c.in_ok-u-in-Layout.u _
+          c.requires.scope.for_self u.stands),
+    )) c.give_bound-in-Layout.ensures.continues)
 
 pub give_required-give_same-requires : goal.give_required-give_same-requires
 give_required-give_same-requires t c =
@@ -178,10 +179,8 @@ give_required-returns-in_ok-v-in-Same-clause-continues t c =
     let v = c.in_ok-v-in-Same.ensures in
     continues_then (continues_then (continues_if (λ b f. f.0) u.continues) (continues_if (λ b f. f.0) v.continues)) (continues_if (λ b f. (
       _,
-      _,
       subst (HasNumber c.args.number (written_by b scope.owner)) (ap requirement_by c.in-Same.is) f.1,
-      placed_still _ _ _ u.continues.grows v.continues.grows scope.owner scope.for_self c.in_ok-u-in-Same.u _ c.requires.scope.for_self
-          u.is_of u.stands,
-      placed_now _ _ v.continues.grows scope.owner scope.for_self c.in_ok-v-in-Same.v _
-          (is_still _ _ u.continues.grows scope.for_self c.requires.scope.for_self) v.stands,
+      ap₂ (λ y z. Equals y z) (placed_still _ _ _ u.continues.grows v.continues.grows scope.owner scope.for_self c.in_ok-u-in-Same.u _
+          c.requires.scope.for_self u.is_of u.stands) (placed_now _ _ v.continues.grows scope.owner scope.for_self
+          c.in_ok-v-in-Same.v _ (is_still _ _ u.continues.grows scope.for_self c.requires.scope.for_self) v.stands),
     )) c.give_same.ensures.continues)

@@ -1,27 +1,17 @@
 -- The answers on how a rule unfolds: by its two ends, by its birth, and of a pair.
 use Rattle.std.proofs.Common.{◌≤◌, length, refl, sym, ap, subst, arith, ◌≡◌, ◌-◌, ◌∙◌, ◌<◌, take, Some, slice_get}
-use Rattle.swreq_param.specs.Tables.{term_at}
-use Rattle.swreq_complete.specs.swreq_pair.Pairs.{IsPair}
-use Rattle.swreq_readings.specs.Readable.{read_word, AllowsWord}
-use Rattle.swreq_readings.proofs.ReadingLemmas.{is_still, both_still, term_still, word_still}
-use Rattle.swreq_births.specs.Systems.{rules_at, HasRule, ReducesTo, system_at, systems_of}
-use Rattle.swreq_births.proofs.Alike.{both_as, both_before, both_now}
-use Rattle.swreq_births.proofs.Equations.{allowed_still, asked_of}
-use Rattle.swreq_births.proofs.Headed.{pair_here, paired_at, within_first, born_past, equation_asks, first_asked}
-use Rattle.swreq_births.proofs.Headed.{first_before, given_at, kind_of, rules_until, second_asked, second_before}
-use Rattle.swreq_derivation.proofs.DerivationLemmas.{continues_anyway, continues_if, continues_then, grows_then}
-use Rattle.swreq_complete.proofs.swreq_rule.Numbers.{number_some, number_within}
-use Rattle.swreq_complete.specs.swreq_path.Paths.{HasTarget}
 use Rattle.std.proofs.lemmas.Option.{same_Some, slice_get_within}
-use Rattle.swreq_complete.specs.swreq_rule.Oriented.{IsOriented}
-use Rattle.swreq_complete.specs.swreq_rule.Reduction.{Reduces}
-use Rattle.swreq_complete.proofs.swreq_rule.Remaining.{one_result}
-use Rattle.swreq_complete.proofs.swreq_pair.OnePair.{one_pair}
-use Rattle.swreq_complete.proofs.swreq_path.Leading.{one_end}
-use Rattle.swreq_births.specs.declared.history.Equation.{Equation}
-use Rattle.swreq_births.specs.declared.history.System.{System}
-use Rattle.swreq_births.specs.Heads.{IsHeadStated}
-use Rattle.swreq_births.proofs.Births.{some_kind, both_of_kind}
+use Rattle.swreq_param.specs.Tables.{term_at}
+use Rattle.swreq_complete.specs.{swreq_pair.Pairs.{IsPair}, swreq_path.Paths.{HasTarget}, swreq_rule.Oriented.{IsOriented}}
+use Rattle.swreq_complete.{specs.swreq_rule.Reduction.{Reduces}, proofs.swreq_rule.Numbers.{number_some, number_within}}
+use Rattle.swreq_complete.proofs.{swreq_rule.Remaining.{one_result}, swreq_pair.OnePair.{one_pair}, swreq_path.Leading.{one_end}}
+use Rattle.swreq_readings.{specs.Readable.{read_word, AllowsWord}, proofs.ReadingLemmas.{is_still, both_still, term_still, word_still}}
+use Rattle.swreq_births.specs.{Systems.{rules_at, HasRule, ReducesTo, system_at, systems_of}, declared.history.Equation.{Equation}}
+use Rattle.swreq_births.{specs.{declared.history.System.{System}, Heads.{IsHeadStated}}, proofs.Alike.{both_as, both_before, both_now}}
+use Rattle.swreq_births.proofs.Equations.{allowed_still, asked_of}
+use Rattle.swreq_births.proofs.Headed.{pair_here, paired_at, within_first, born_past, equation_asks, first_asked, first_before, given_at}
+use Rattle.swreq_births.proofs.{Headed.{kind_of, rules_until, second_asked, second_before}, Births.{some_kind, both_of_kind}}
+use Rattle.swreq_derivation.proofs.DerivationLemmas.{continues_anyway, continues_if, continues_then, grows_then}
 use Rattle.swreq_births.proofs.unfolding.+lines_of_rule.Goals as goal
 
 -- ---- a rule by its two ends

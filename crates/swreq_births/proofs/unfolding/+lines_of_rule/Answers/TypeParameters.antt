@@ -1,25 +1,17 @@
 -- The answers on type parameters and on their steps.
 use Rattle.std.proofs.Common.{◌≤◌, IfSome, length, sym, ap, subst, arith, ◌≡◌, ◌++◌, ◌+◌, ◌∙◌, ◌<◌, take, [], ◌∷◌, inl}
-use Rattle.swreq_param.specs.Tables.{term_at}
+use Rattle.std.proofs.lemmas.List.{take_all}
+use Rattle.swreq_param.specs.{Tables.{term_at}, declared.ids.Step.TheVariants.{Name}, Terms.{with_steps, Term.{Generic, Member}}}
 use Rattle.swreq_readings.specs.Readable.{IsGiven, read_word, AllowsWord}
 use Rattle.swreq_readings.proofs.ReadingLemmas.{is_still, term_still, word_still, equal_as, equal_still, given_still}
-use Rattle.swreq_births.specs.Systems.{rules_at}
-use Rattle.swreq_births.specs.Types.{IsStepShown, placed}
-use Rattle.swreq_births.proofs.Equations.{asked_still, proto_said}
-use Rattle.swreq_births.proofs.Headed.{all_at, all_there}
-use Rattle.swreq_births.proofs.Readings.{part_given, part_read}
-use Rattle.swreq_derivation.proofs.DerivationLemmas.{continues_anyway, continues_if, continues_then, grows_then}
-use Rattle.swreq_complete.specs.swreq_path.Paths.{HasTarget}
-use Rattle.swreq_complete.proofs.swreq_path.Leading.{one_end}
-use Rattle.std.proofs.lemmas.List.{take_all}
-use Rattle.swreq_param.specs.declared.ids.Step.TheVariants.{Name}
-use Rattle.swreq_param.specs.Terms.{with_steps}
-use Rattle.swreq_param.specs.Terms.Term.{Generic, Member}
-use Rattle.swreq_correspondence.specs.swreq_derive.Derivation.TermRequirement.{Conforms}
-use Rattle.swreq_correspondence.specs.swreq_derive.Derivation.TermStatement.{Requires}
-use Rattle.swreq_correspondence.specs.swreq_word.declared.symbols.Symbol.TheVariants.{Proto}
-use Rattle.swreq_derivation.specs.UnderWay.{States}
+use Rattle.swreq_births.{specs.{Systems.{rules_at}, Types.{IsStepShown}}, proofs.Equations.{asked_still, proto_said}}
+use Rattle.swreq_births.proofs.{Headed.{all_at, all_there}, Readings.{part_given, part_read}}
 use Rattle.swreq_births.proofs.ShownSteps.{begins_read, begins_said, placed_member, shown_length, step_at, step_on, with_one}
+use Rattle.swreq_derivation.specs.{Origins.{placed}, UnderWay.{States}}
+use Rattle.swreq_derivation.proofs.DerivationLemmas.{continues_anyway, continues_if, continues_then, grows_then}
+use Rattle.swreq_complete.{specs.swreq_path.Paths.{HasTarget}, proofs.swreq_path.Leading.{one_end}}
+use Rattle.swreq_correspondence.specs.swreq_derive.Derivation.{TermRequirement.{Conforms}, TermStatement.{Requires}}
+use Rattle.swreq_correspondence.specs.swreq_word.declared.symbols.Symbol.TheVariants.{Proto}
 use Rattle.swreq_births.proofs.unfolding.+lines_of_rule.Goals as goal
 
 -- ---- type parameters

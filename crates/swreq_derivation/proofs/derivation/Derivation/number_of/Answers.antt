@@ -1,8 +1,6 @@
 use Rattle.std.proofs.Common.{MatchOption, subst, sym}
-use Rattle.swreq_derive.specs.Facts.{statement_of}
-use Rattle.swreq_derive.specs.Instances.{HasNumber}
-use Rattle.swreq_derivation.specs.declared.derivation.Derivation.{Derivation}
-use Rattle.swreq_derivation.specs.UnderWay.{AreIdsIn, States, statements_in}
+use Rattle.swreq_derive.specs.{Facts.{statement_of}, Instances.{HasNumber}}
+use Rattle.swreq_derivation.specs.{declared.derivation.Derivation.{Derivation}, UnderWay.{AreIdsIn, States, statements_in}}
 use Rattle.swreq_derivation.proofs.DerivationLemmas.{number_told}
 use Rattle.swreq_derivation.proofs.derivation.Derivation.number_of.Goals as goal
 

@@ -1,7 +1,5 @@
 use Rattle.std.proofs.Common.{◌≡◌, subst}
-use Rattle.swreq_derivation.specs.declared.derivation.Derivation.{Derivation}
-use Rattle.swreq_derivation.specs.Inside.{view_of}
-use Rattle.swreq_derivation.specs.UnderWay.{Continues, statements_in}
+use Rattle.swreq_derivation.specs.{declared.derivation.Derivation.{Derivation}, Inside.{view_of}, UnderWay.{Continues, statements_in}}
 use Rattle.swreq_derivation.proofs.DerivationLemmas.{continues_by_terms, said_by_terms, view}
 use Rattle.swreq_derivation.proofs.derivation.Derivation.param.Goals as goal
 

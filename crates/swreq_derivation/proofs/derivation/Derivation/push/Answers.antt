@@ -1,7 +1,6 @@
 use Rattle.std.proofs.Common.{subst, sym}
 use Rattle.swreq_derive.specs.Facts.{statement_of}
-use Rattle.swreq_derivation.specs.declared.derivation.Derivation.{Derivation}
-use Rattle.swreq_derivation.specs.UnderWay.{AreIdsIn, States}
+use Rattle.swreq_derivation.specs.{declared.derivation.Derivation.{Derivation}, UnderWay.{AreIdsIn, States}}
 use Rattle.swreq_derivation.proofs.DerivationLemmas.{continues_by_line, line_put, says_by_line, under_way_more, unsaid}
 use Rattle.swreq_derivation.proofs.derivation.Derivation.push.Goals as goal
 

@@ -1,7 +1,6 @@
 use Rattle.std.proofs.Common.{◌∙◌, ◌++◌, [], ◌∷◌, ap, map}
-use Rattle.swreq_derivation.specs.Keys.{statement_by}
-use Rattle.swreq_derivation.proofs.KeyLemmas.{put_last}
 use Rattle.swreq_derivation.proofs.stated.Stated.push.Goals as goal
+use Rattle.swreq_derivation.{specs.Keys.{statement_by}, proofs.KeyLemmas.{put_last}}
 
 pub returns-clause-ok : goal.returns-clause-ok
 returns-clause-ok c =
