@@ -1,6 +1,6 @@
 //! What the queries of a text ask, and why they hold.
 ghost use Rattle.std.specs.Prelude.{OnOk};
-ghost use Rattle.swreq_machine.specs.{swreq_param.Tables.{Extends}, swreq_symbols.Known.{IsQueryIn, IsTextOver}, swreq_world.Short.{IsShort}};
+ghost use Rattle.swreq_machine.specs.{swreq_param.Tables.{Extends}, swreq_symbols.Known.{IsQueryIn, IsTextOver}};
 ghost use Rattle.swreq_calling.specs.Ready.{IsReady};
 
 use crate::failing::Failed;
@@ -52,12 +52,16 @@ fn put_answer(
     Ok(())
 }
 
-/// The answers to the queries of a text with this world.
-fn answers_over(alloc: Global, world: &World, table: &mut ParamTable) -> Result<Vec<u8>, Failed>
+/// The answers to the queries of a text with this world, where the rules of its protocols are completed within these limits.
+fn answers_over(
+    alloc: Global,
+    world: &World,
+    table: &mut ParamTable,
+    limits: Limits,
+) -> Result<Vec<u8>, Failed>
     requires text { IsTextOver table.old world.now }
-    requires short { IsShort world.now }
 {
-    let built = Protocols::build(alloc, world, table, LIMITS, &mut Quiet)?;
+    let built = Protocols::build(alloc, world, table, limits, &mut Quiet)?;
     let protocols = &built;
     let mut out = Vec::new(alloc);
     let queries = world.queries();
@@ -74,5 +78,5 @@ pub(crate) fn answers<S: Source>(alloc: Global, src: &mut S) -> Result<Vec<u8>, 
     let skeleton = parse(alloc, text)?;
     let mut table = ParamTable::new(alloc);
     let world = World::resolve(alloc, text, &skeleton, &mut table)?;
-    answers_over(alloc, &world, &mut table)
+    answers_over(alloc, &world, &mut table, LIMITS)
 }

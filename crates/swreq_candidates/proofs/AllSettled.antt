@@ -37,7 +37,8 @@ use Rattle.swreq_candidates.specs.Completed.{HasLeastWords, IsWordOfText}
 use Rattle.swreq_candidates.proofs.Ends.{single_factors}
 use Rattle.swreq_candidates.proofs.Parts.{conformance}
 use Rattle.swreq_candidates.proofs.SameTypes.{first_settled}
-use Rattle.swreq_candidates.proofs.Searches.{assocs_decided, both_decided, least_below, names_decided}
+use Rattle.swreq_canonical.proofs.swreq_param.DecidedIds.{names_decided}
+use Rattle.swreq_candidates.proofs.Searches.{assocs_decided, both_decided, least_below}
 use Rattle.swreq_candidates.proofs.Settled.{IsOverText, IsSettled, conformance_settled, equal_spells, layout_settled, least_word, not_least, one_reduced, reduce, stands_for}
 use Rattle.swreq_candidates.proofs.ShorterTypes.{principal_follows}
 

@@ -27,7 +27,8 @@ use Rattle.swreq_candidates.specs.Completed.{IsCompleted, IsSymbolOfText, IsWord
 use Rattle.swreq_candidates.proofs.AllSettled.{generator_is_candidate, settled}
 use Rattle.swreq_candidates.proofs.Deciding.{derivable, firsts, least_of_self, reads}
 use Rattle.swreq_candidates.proofs.ReadOff.{candidate_is_canonical, candidates_are_enough}
-use Rattle.swreq_candidates.proofs.Searches.{params_decided, some_member}
+use Rattle.swreq_canonical.proofs.swreq_param.DecidedIds.{params_decided}
+use Rattle.swreq_candidates.proofs.Searches.{some_member}
 use Rattle.swreq_candidates.proofs.Settled.{IsOverText, reduce}
 
 module _ (m : Symbols) (f : TermFacts) (ps : List ParamId) (list : List TermRequirement) (ended : IsCompleted m f ps list) where

@@ -28,7 +28,8 @@ use Rattle.swreq_canonical.proofs.swreq_correspondence.Readings.{sides_of, valid
 use Rattle.swreq_canonical.proofs.swreq_correspondence.Shown.{linking_to}
 use Rattle.swreq_rounds.specs.Presents.{ProtocolEquation}
 use Rattle.swreq_candidates.specs.Completed.{HasLeastWords}
-use Rattle.swreq_candidates.proofs.Searches.{assocs_decided, both_decided, least_member, names_decided, params_decided, some_member}
+use Rattle.swreq_canonical.proofs.swreq_param.DecidedIds.{names_decided, params_decided}
+use Rattle.swreq_candidates.proofs.Searches.{assocs_decided, both_decided, least_member, some_member}
 
 -- ---- congruence
 

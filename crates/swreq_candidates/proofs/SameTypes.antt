@@ -47,7 +47,7 @@ use Rattle.swreq_candidates.proofs.Ends.{minimal_end}
 use Rattle.swreq_candidates.proofs.LessParts.{SymbolsLess, less_at, symbols_in_parts}
 use Rattle.swreq_candidates.proofs.Parts.{HasTypeAt, Leads, conformance, last_read, leads_longer, part_reduced, read_on-for_self, read_on-push, reads_as, type_of_part}
 use Rattle.swreq_candidates.proofs.ReadOver.{chain_over, read_behind}
-use Rattle.swreq_candidates.proofs.Searches.{same_name_id}
+use Rattle.swreq_canonical.proofs.swreq_param.DecidedIds.{same_name_id}
 use Rattle.swreq_candidates.proofs.Settled.{IsOverText, IsSettled, equal_spells, leads_of_text, least_word, leasts, member_of_text, minimal_read, not_least, one_reduced, push_of_text, reduce, stands_for}
 use Rattle.swreq_candidates.proofs.ShorterTypes.{principal_follows, shorter_reduces}
 

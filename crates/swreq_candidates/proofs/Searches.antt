@@ -3,8 +3,6 @@ use Rattle.std.proofs.Common.{◌≡◌, ◌⊎◌, ◌<◌, ◌≤◌, ℕ, zer
 use Rattle.std.proofs.Math.Decide.{dec_lt, ℕ_discrete}
 use Rattle.swreq_canonical.proofs.swreq_correspondence.OneType.{one_assoc}
 use Rattle.swreq_canonical.specs.swreq_param.declared.ids.AssocId.{AssocId}
-use Rattle.swreq_canonical.specs.swreq_param.declared.ids.NameId.{NameId}
-use Rattle.swreq_canonical.specs.swreq_param.declared.ids.ParamId.{ParamId}
 use Rattle.swreq_canonical.proofs.swreq_lemmas.Members.{first_member, later_member, member_cases, no_member}
 
 pub both_decided : {A B : Type 0} → Dec A → Dec B → Dec (A × B)
@@ -14,23 +12,8 @@ both_decided (no n) b = no (λ h. n h.0)
 
 -- ---- ids
 
-pub same_name_id : {a b : NameId} → a.rank ≡ b.rank → a ≡ b
-same_name_id e = λ i. record { rank = e i }
-
-pub same_param_id : {g h : ParamId} → g.depth ≡ h.depth → g.index ≡ h.index → g ≡ h
-same_param_id d i = λ j. record { depth = d j; index = i j }
-
-pub names_decided : (a b : NameId) → Dec (a ≡ b)
-names_decided a b = elim (ℕ_discrete a.rank b.rank) [ yes e ↦ yes (same_name_id e) | no n ↦ no (λ e. n (ap (λ (z : NameId). z.rank) e)) ]
-
 pub assocs_decided : (d e : AssocId) → Dec (d ≡ e)
 assocs_decided d e = elim (ℕ_discrete d.rank e.rank) [ yes h ↦ yes (one_assoc h) | no n ↦ no (λ h. n (ap (λ (z : AssocId). z.rank) h)) ]
-
-pub params_decided : (g h : ParamId) → Dec (g ≡ h)
-params_decided g h = elim (ℕ_discrete g.depth h.depth) [
-  | no n ↦ no (λ e. n (ap (λ (z : ParamId). z.depth) e))
-  | yes d ↦ elim (ℕ_discrete g.index h.index) [ no n ↦ no (λ e. n (ap (λ (z : ParamId). z.index) e)) | yes i ↦ yes (same_param_id d i) ]
-]
 
 -- ---- numbers and lists
 

@@ -49,12 +49,10 @@ module _ (old new : List Term) (s : Setting) (more : Extends old new) (ready : I
   pub ready_on : IsReady new s
   ready_on = record {
     text = text_stays old new more s.world.now ready.text;
-    short = ready.short;
     formed = on (λ w. AreProtocolsWellFormed (facts_of w)) ready.formed;
     rules = on (λ w. AreRulesOf w (last_rules s.protocols.now.rounds)) ready.rules;
     rounds = on (λ w. AreRounds s.limits (protocols_of w) s.protocols.now.rounds) ready.rounds;
     places = ready.places;
-    limits = ready.limits;
     base = base_on s.base.now ready.base;
     endings = ready.endings;
   }

@@ -2,7 +2,6 @@
 use Rattle.std.specs.Prelude.{ℕ, Bool, List, length}
 use Rattle.swreq_machine.specs.swreq_param.Terms.{Term}
 use Rattle.swreq_machine.specs.swreq_rule.declared.rules.Rule.{Rule}
-use Rattle.swreq_machine.specs.swreq_complete.Limits.{AreInRange}
 use Rattle.swreq_machine.specs.swreq_valid.Rounds.{last_rules}
 use Rattle.swreq_machine.specs.swreq_world.ByTable.{world_by}
 use Rattle.swreq_machine.specs.swreq_world.Worlds.{TextWorld}
@@ -24,4 +23,3 @@ wants l = wants_list l.content l.world.now.queries
 pub record AreReady (terms : List Term) (l : Minimising) : Type 0 where
   pub passed : HavePassed l.limits (world_of terms l) (rules_of l)
   pub wanted : AreFlags (wants l) (length l.world.now.signatures) l.wanted.now
-  pub limits : AreInRange l.limits

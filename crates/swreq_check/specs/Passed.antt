@@ -2,7 +2,6 @@
 use Rattle.std.specs.Prelude.{List}
 use Rattle.swreq_machine.specs.swreq_param.Terms.{Term}
 use Rattle.swreq_machine.specs.swreq_rule.declared.rules.Rule.{Rule}
-use Rattle.swreq_machine.specs.swreq_complete.Limits.{AreInRange}
 use Rattle.swreq_machine.specs.swreq_valid.Rounds.{last_rules}
 use Rattle.swreq_machine.specs.swreq_world.ByTable.{world_by}
 use Rattle.swreq_machine.specs.swreq_world.Worlds.{TextWorld}
@@ -18,4 +17,3 @@ rules_of p = last_rules p.protocols.now.rounds
 -- The check came to these rules of the protocols, and refused nothing.
 pub record HasPassed (terms : List Term) (p : Passed) : Type 0 where
   pub passed : HavePassed p.limits (world_of terms p) (rules_of p)
-  pub limits : AreInRange p.limits

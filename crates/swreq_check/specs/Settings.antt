@@ -3,11 +3,9 @@ use Rattle.std.specs.Prelude.{◌≡◌, ◌<◌, ℕ, List, Option, Some, None,
 use Rattle.std.specs.Option.{option_copied}
 use Rattle.swreq_machine.specs.swreq_param.Terms.{Term}
 use Rattle.swreq_machine.specs.swreq_derive.WellFormed.{AreProtocolsWellFormed}
-use Rattle.swreq_machine.specs.swreq_complete.Limits.{AreInRange}
 use Rattle.swreq_machine.specs.swreq_lowering.declared.ids.FuncId.{FuncId}
 use Rattle.swreq_machine.specs.swreq_world.ByTable.{world_by}
 use Rattle.swreq_machine.specs.swreq_world.FactsAt.{written_list}
-use Rattle.swreq_machine.specs.swreq_world.Short.{IsShort}
 use Rattle.swreq_machine.specs.swreq_world.Worlds.{IdWorld, TextWorld, signature_at}
 use Rattle.swreq_machine.specs.swreq_symbols.Known.{IsTextOver}
 use Rattle.swreq_machine.specs.swreq_symbols.Meaning.{facts_of}
@@ -50,12 +48,10 @@ HaveEndings w p (Some endings) = AreEndingsOf (length w.lexicon.protocols) (last
 -- the pieces that it makes, what the histories have in common is there where it is read, and endings are those of the rules.
 pub record IsReady (terms : List Term) (s : Setting) : Type 0 where
   pub text : IsTextOver terms s.world.now
-  pub short : IsShort s.world.now
   pub formed : AreProtocolsWellFormed (facts_of (world_in terms s))
   pub rules : AreRulesOf (world_in terms s) (last_rules s.protocols.now.rounds)
   pub rounds : AreRounds s.limits (protocols_of (world_in terms s)) s.protocols.now.rounds
   pub places : ArePlaces (maker s.world.now s.content) (length s.world.now.signatures) (count_of s.world.now s.content) s.places.now
-  pub limits : AreInRange s.limits
   pub base : HasBase terms s.world.now s.protocols.now s.content s.base.now
   pub endings : HaveEndings s.world.now s.protocols.now s.endings.now
 
@@ -81,7 +77,6 @@ IsLast terms s (Some kept) = IsKeptFor terms s kept
 -- Of each signature of the text the places are those of the pieces that its machine makes.
 pub record IsAskedOf (terms : List Term) (w : IdWorld) (a : Asked) : Type 0 where
   pub places : ArePlaces (maker w a.content) (length w.signatures) (count_of w a.content) a.places.now
-  pub limits : AreInRange a.limits
 
 -- The query is one of the text, and asks this signature.
 pub record IsQueryFor (terms : List Term) (s : Setting) (f : FuncId) (q : Query) : Type 0 where

@@ -2,7 +2,7 @@
 ghost use Rattle.std.specs.Prelude.{◌≡◌, ◌+◌, ◌<◌, ℕ, All, IfOk, List, OnOk, Some, length, map, set, slice_get};
 ghost use Rattle.swreq_machine.specs.swreq_param.Tables.{Extends};
 ghost use Rattle.swreq_machine.specs.swreq_symbols.Known.{IsTextOver};
-ghost use Rattle.swreq_machine.specs.swreq_world.{Short.{IsShort}, Worlds.{TextWorld}};
+ghost use Rattle.swreq_machine.specs.swreq_world.Worlds.{TextWorld};
 ghost use Rattle.swreq_subst.specs.{declared.calls.Call.{Call as CallView}, Calls.{IsCallIn, IsMachineOn, TermCall, call_by}, Lines.{IsLineOf}};
 ghost use Rattle.swreq_check.specs.{declared.piece.Piece.{Piece as PieceView}, CallLines.{AnswersCalls, AreCallLines, ArePlacesOf, IsLineThere, caller_at}, Passed.{HasPassed, world_of}, Made.{text_at}, Wanted.{ArePlaces}};
 
@@ -39,7 +39,6 @@ fn put_line(
     lines: &mut Vec<Option<Piece>>,
 ) -> Result<(), AllocError>
     requires text { IsTextOver table.old p.now.world.now }
-    requires short { IsShort p.now.world.now }
     requires calls { All (IsCallIn table.old p.now.world.now) calls.now }
     requires place { place < length calls.now }
     requires lines { length lines.old.items ≡ length calls.now }
@@ -76,7 +75,6 @@ fn put_all(
     lines: &mut Vec<Option<Piece>>,
 ) -> Result<(), AllocError>
     requires text { IsTextOver table.old p.now.world.now }
-    requires short { IsShort p.now.world.now }
     requires machine { IsMachineOn (world_of table.old p.now) of.f machine.now }
     requires calls { All (IsCallIn table.old p.now.world.now) of.calls.now }
     requires places { ArePlacesOf of.calls.now of.f of.places.now }
@@ -100,7 +98,6 @@ fn put_lines(
     lines: &mut Vec<Option<Piece>>,
 ) -> Result<(), AllocError>
     requires text { IsTextOver table.old p.now.world.now }
-    requires short { IsShort p.now.world.now }
     requires passed { HasPassed table.old p.now }
     requires f { of.f.place < length p.now.world.now.signatures }
     requires calls { All (IsCallIn table.old p.now.world.now) of.calls.now }
@@ -127,7 +124,6 @@ fn all_lines(
     places: &[Vec<usize>],
 ) -> Result<Vec<Option<Piece>>, AllocError>
     requires text { IsTextOver table.old p.now.world.now }
-    requires short { IsShort p.now.world.now }
     requires passed { HasPassed table.old p.now }
     requires calls { All (IsCallIn table.old p.now.world.now) calls.now }
     requires places { ArePlaces (caller_at calls.now) (length p.now.world.now.signatures)
@@ -168,7 +164,6 @@ pub fn lines_of_calls(
     calls: &[Call],
 ) -> Result<Vec<u8>, AllocError>
     requires text { IsTextOver table.old p.now.world.now }
-    requires short { IsShort p.now.world.now }
     requires passed { HasPassed table.old p.now }
     requires calls { All (IsCallIn table.old p.now.world.now) calls.now }
     ensures { IfOk result

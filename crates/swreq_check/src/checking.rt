@@ -4,7 +4,7 @@ ghost use Rattle.swreq_machine.specs.swreq_param.Tables.{Extends};
 ghost use Rattle.swreq_machine.specs.swreq_symbols.Known.{IsTextOver};
 ghost use Rattle.swreq_machine.specs.swreq_complete.declared.limit.Limits.{Limits as LimitsView};
 ghost use Rattle.swreq_machine.specs.swreq_valid.{Protocols.{protocols_of}, Rounds.{AreRounds, last_rules}};
-ghost use Rattle.swreq_machine.specs.swreq_world.{Additions.{AddsNothing}, ByTable.{world_by}, Short.{IsShort}};
+ghost use Rattle.swreq_machine.specs.swreq_world.{Additions.{AddsNothing}, ByTable.{world_by}};
 ghost use Rattle.swreq_check.specs.{Checks.{Checks, ChecksAll, ChecksAt, IsCheckedFor, ending}, Made.{AreNone}, Settings.{AreMadeIn, HasBase, HaveEndings, IsAskedOf, IsKeptFor, IsLast, IsMachineFor, IsReady, world_in}};
 
 use crate::content::{Backing, Content, Made, backing_of};
@@ -242,7 +242,6 @@ fn base_for<'b>(
     content: Content,
 ) -> Result<Option<TextHistory<'b>>, AllocError>
     requires text { IsTextOver table.now world.now }
-    requires short { IsShort world.now }
     requires rounds { (limits : LimitsView) × AreRounds limits
         (protocols_of (world_by table.now world.now)) protocols.now.rounds }
     ensures { IfOk result (HasBase table.now world.now protocols.now content) }
@@ -291,7 +290,6 @@ pub fn check<W: Watch>(
     watch: &mut W,
 ) -> Result<Checked, Refused>
     requires text { IsTextOver table.old world.now }
-    requires short { IsShort world.now }
     requires asked { IsAskedOf table.old world.now asked.now }
     ensures check { Checks asked.now.limits (world_by table.old world.now) (W.told watch.old)
         (W.told watch.new) result }

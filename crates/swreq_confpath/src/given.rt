@@ -2,7 +2,7 @@
 ghost use Rattle.std.specs.Prelude.{◌≡◌, ◌<◌, IfOk, length};
 ghost use Rattle.swreq_machine.specs.swreq_param.Tables.{term_at};
 ghost use Rattle.swreq_machine.specs.swreq_derive.{declared.requirements.Requirement.TheVariants.{Conf}, Derivation.{Derivable}, Derivation.TermRequirement.{Conforms}, Derivation.TermStatement.{Requires}, Facts.{generic_params}, Paths.{IsGivenPath}};
-ghost use Rattle.swreq_machine.specs.swreq_world.{ByTable.{world_by}, FactsAt.{facts_of, source_of, written_list}, Short.{IsShort}, Worlds.{signature_at}};
+ghost use Rattle.swreq_machine.specs.swreq_world.{ByTable.{world_by}, FactsAt.{facts_of, source_of, written_list}, Worlds.{signature_at}};
 ghost use Rattle.swreq_machine.specs.swreq_symbols.Known.{IsRequirementIn, IsTextOver};
 ghost use Rattle.swreq_confpath.specs.{declared.places.Place.TheVariants.{Start}, Searches.{IsGiven, IsKnown, IsMachineFor, StandsFor, sought_in}};
 
@@ -54,7 +54,6 @@ pub fn shortest(
     p: ProtoId,
 ) -> Result<ConfPath, AllocError>
     requires text { IsTextOver table.now world.now }
-    requires short { IsShort world.now }
     requires machine { IsMachineFor table.now world.now f machine.now }
     requires asked { IsRequirementIn table.now world.now.lexicon (Conf t p) }
     requires derivable { Derivable (facts_of (world_by table.now world.now))

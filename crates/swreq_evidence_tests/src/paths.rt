@@ -3,7 +3,7 @@ ghost use Rattle.std.specs.Prelude.{◌<◌, length};
 ghost use Rattle.swreq_machine.specs.swreq_derive.{declared.requirements.Requirement.TheVariants.{Conf}, WellFormed.{AreProtocolsWellFormed}};
 ghost use Rattle.swreq_machine.specs.swreq_symbols.{Known.{IsQueryIn, IsRequirementIn, IsTextOver}, Meaning.{facts_of}};
 ghost use Rattle.swreq_machine.specs.swreq_valid.{Protocols.{AreRulesOf}, Rounds.{last_rules}};
-ghost use Rattle.swreq_machine.specs.swreq_world.{ByTable.{world_by}, Short.{IsShort}};
+ghost use Rattle.swreq_machine.specs.swreq_world.ByTable.{world_by};
 ghost use Rattle.swreq_confpath.specs.Searches.{IsMachineFor};
 
 use crate::worlds::{machine_of, protocols_of, world_of};
@@ -38,7 +38,6 @@ fn put_given(
     out: &mut String,
 ) -> Result<(), Fail>
     requires text { IsTextOver table.now world.now }
-    requires short { IsShort world.now }
     requires machine { IsMachineFor table.now world.now asked.0 machine.now }
     requires asked { IsRequirementIn table.now world.now.lexicon (Conf asked.1 asked.2) }
 {
@@ -61,7 +60,6 @@ fn put_asked(
     out: &mut String,
 ) -> Result<(), Fail>
     requires text { IsTextOver table.now world.now }
-    requires short { IsShort world.now }
     requires formed { AreProtocolsWellFormed (facts_of (world_by table.now world.now)) }
     requires rules { AreRulesOf (world_by table.now world.now) (last_rules protocols.now.rounds) }
     requires query { IsQueryIn table.now world.now query }
@@ -94,7 +92,6 @@ fn put_all(
     out: &mut String,
 ) -> Result<(), Fail>
     requires text { IsTextOver table.now world.now }
-    requires short { IsShort world.now }
     requires formed { AreProtocolsWellFormed (facts_of (world_by table.now world.now)) }
     requires rules { AreRulesOf (world_by table.now world.now) (last_rules protocols.now.rounds) }
 {
@@ -108,7 +105,6 @@ fn put_all(
 /// Writes the numbers for the queries of a world.
 fn put_over(alloc: Global, world: &World, table: &ParamTable, out: &mut String) -> Result<(), Fail>
     requires text { IsTextOver table.now world.now }
-    requires short { IsShort world.now }
 {
     let protocols = protocols_of(alloc, world, table)?;
     put_all(alloc, world, table, &protocols, out)

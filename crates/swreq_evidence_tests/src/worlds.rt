@@ -3,7 +3,7 @@ ghost use Rattle.std.specs.Prelude.{◌<◌, IfOk, length};
 ghost use Rattle.swreq_machine.specs.swreq_derive.WellFormed.{AreProtocolsWellFormed};
 ghost use Rattle.swreq_machine.specs.swreq_symbols.{Known.{IsTextOver}, Meaning.{facts_of}};
 ghost use Rattle.swreq_machine.specs.swreq_valid.{Protocols.{AreRulesOf}, Rounds.{last_rules}};
-ghost use Rattle.swreq_machine.specs.swreq_world.{ByTable.{world_by}, Short.{IsShort}};
+ghost use Rattle.swreq_machine.specs.swreq_world.ByTable.{world_by};
 ghost use Rattle.swreq_confpath.specs.Searches.{IsMachineFor};
 ghost use Rattle.swreq_subst.specs.Saying.{HaveIds};
 
@@ -30,7 +30,6 @@ pub(crate) const LIMITS: Limits = Limits {
 /// The world of a text that is not too long, over the table.
 pub(crate) fn world_of(alloc: Global, text: &str, table: &mut ParamTable) -> Result<World, Fail>
     ensures text { IfOk result (IsTextOver table.new) }
-    ensures short { IfOk result IsShort }
     ensures ids { IfOk result HaveIds }
 {
     let bytes = text.as_bytes();

@@ -5,7 +5,7 @@ ghost use Rattle.swreq_machine.specs.swreq_derive.{declared.lines.Line.{Line as 
 ghost use Rattle.swreq_lines.specs.LineTexts.{HasLineIds};
 ghost use Rattle.swreq_derivation.specs.Needed.{EndIn};
 ghost use Rattle.swreq_machine.specs.swreq_symbols.Known.{IsRequirementIn, IsTextOver};
-ghost use Rattle.swreq_machine.specs.swreq_world.{ByTable.{world_by}, FactsAt.{facts_at}, Short.{IsShort}};
+ghost use Rattle.swreq_machine.specs.swreq_world.{ByTable.{world_by}, FactsAt.{facts_at}};
 ghost use Rattle.swreq_explain.specs.{Asked.{AreRoundsFor, IsYes}, Histories.{IsHistoryFor}};
 
 use crate::equations::owned;
@@ -71,7 +71,6 @@ pub fn explain(
     r: Requirement,
 ) -> Result<Vec<Line>, AllocError>
     requires text { IsTextOver table.old world.now }
-    requires short { IsShort world.now }
     requires rounds { AreRoundsFor table.old world.now f protocols.now machine.now }
     requires yes { IsYes table.old world.now f r }
     ensures derived { IfOk result (λ v. AreDerived table.new (facts_at world.now f) v.items) }
@@ -99,7 +98,6 @@ pub fn derivation_of(
     r: Requirement,
 ) -> Result<Option<Vec<Line>>, AllocError>
     requires text { IsTextOver table.old world.now }
-    requires short { IsShort world.now }
     requires rounds { AreRoundsFor table.old world.now f protocols.now machine.now }
     requires r { IsRequirementIn table.old world.now.lexicon r }
     ensures none { IfOk result (λ o. o ≡ None → IsYes table.old world.now f r → ⊥) }

@@ -3,7 +3,7 @@ ghost use Rattle.std.specs.Prelude.{◌≡◌, IfOk, ◌+◌, ◌<◌, ◌^◌, 
 ghost use Rattle.swreq_machine.specs.swreq_complete.declared.limit.Limits.{Limits};
 ghost use Rattle.swreq_machine.specs.swreq_symbols.{Known.{IsTextOver}, Meaning.{symbols_of}};
 ghost use Rattle.swreq_machine.specs.swreq_valid.{Protocols.{protocols_of}, Rounds.{AreRounds}};
-ghost use Rattle.swreq_machine.specs.swreq_world.{ByTable.{world_by}, Short.{IsShort}};
+ghost use Rattle.swreq_machine.specs.swreq_world.{ByTable.{world_by}};
 ghost use Rattle.swreq_explain.specs.{Histories.{IsTextHistory, protocols_origin, IsHistoryFor, list_origin}, Rounds.{AreSystemsOf}, Asked.{AreRoundsFor}};
 
 use crate::numbered::{Makings, add_numbered, protocols_numbered};
@@ -38,7 +38,6 @@ fn protocols_systems(
     protocols: &Protocols,
 ) -> Result<Vec<System>, AllocError>
     requires text { IsTextOver table.now world.now }
-    requires short { IsShort world.now }
     requires rounds { (limits : Limits) × AreRounds limits
         (protocols_of (world_by table.now world.now)) protocols.now.rounds }
     ensures { IfOk result (λ v. AreSystemsOf (symbols_of world.now.lexicon) table.now
@@ -67,7 +66,6 @@ pub fn text_history_of<'b>(
     protocols: &Protocols,
 ) -> Result<TextHistory<'b>, AllocError>
     requires text { IsTextOver table.now world.now }
-    requires short { IsShort world.now }
     requires rounds { (limits : Limits) × AreRounds limits
         (protocols_of (world_by table.now world.now)) protocols.now.rounds }
     ensures { IfOk result (IsTextHistory table.now world.now protocols.now) }
@@ -90,7 +88,6 @@ fn own_systems(
     first: usize,
 ) -> Result<Vec<System>, AllocError>
     requires text { IsTextOver text.now.table.now text.now.world.now }
-    requires short { IsShort text.now.world.now }
     requires rounds { AreRoundsFor text.now.table.now text.now.world.now f protocols.now
         machine.now }
     requires first { first ≡ length protocols.now.rounds }
@@ -126,7 +123,6 @@ pub fn history_of<'b>(
     f: FuncId,
 ) -> Result<History<'b>, AllocError>
     requires text { IsTextOver text.now.table.now text.now.world.now }
-    requires short { IsShort text.now.world.now }
     requires base { IsTextHistory text.now.table.now text.now.world.now protocols.now base.now }
     requires rounds { AreRoundsFor text.now.table.now text.now.world.now f protocols.now
         machine.now }

@@ -3,3 +3,4 @@ pub mod Elements
 pub mod Members
 pub mod Numbers
 pub mod Orderings
+pub mod Stable

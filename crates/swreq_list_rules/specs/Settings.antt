@@ -5,7 +5,6 @@ use Rattle.swreq_machine.specs.swreq_derive.declared.requirements.Requirement.{R
 use Rattle.swreq_machine.specs.swreq_derive.Derivation.{Source, TermFacts, TermRequirement}
 use Rattle.swreq_machine.specs.swreq_derive.Derivation.Source.{Written}
 use Rattle.swreq_machine.specs.swreq_derive.Facts.{generic_params}
-use Rattle.swreq_machine.specs.swreq_complete.Limits.{AreInRange}
 use Rattle.swreq_machine.specs.swreq_correspondence.Symbols.{Symbols}
 use Rattle.swreq_machine.specs.swreq_rounds.Plan.{Plan}
 use Rattle.swreq_machine.specs.swreq_symbols.Known.{IsTextOver}
@@ -50,8 +49,7 @@ said_in s list = listed s.table.now list
 abbrev pub AreKnownIn : Setting → List Requirement → Type 0
 AreKnownIn s list = AreKnown s.table.now s.world.now.lexicon list
 
--- The table is that of the text, the rules are those of its protocols, and the limits are in range.
+-- The table is that of the text, and the rules are those of its protocols.
 pub record IsSetting (s : Setting) : Type 0 where
   pub text : IsTextOver s.table.now s.world.now
   pub protocols : AreRulesOf (text_in s) (last_rules s.protocols.now.rounds)
-  pub limits : AreInRange s.limits

@@ -1,8 +1,9 @@
 //! The answers of a machine, which take no memory but for the room of a scratch.
+
 ghost use Rattle.std.specs.{Prelude.{◌≡◌, ◌↔◌, ◌+◌, ◌*◌, ◌≤◌, IfOk, IsTrue, List, vec_capacity, vec_len}, Bool.{OnTrue}};
 ghost use Rattle.swreq_valid.specs.swreq_param.{Tables.{term_at}, Terms.{member_count}};
 ghost use Rattle.swreq_valid.specs.swreq_derive.{Derivation.{TermRequirement}, Derivation.TermRequirement.{Conforms, Equals, IsAnyObject}, Derivation.TermStatement.{IsValid, Requires}, Facts.{requirement_of}};
-ghost use Rattle.swreq_valid.specs.swreq_symbols.{Known.{IsRequirementIn, IsTextOver, IsTypeIn}, Texts.{BelongTogether, world_of}};
+ghost use Rattle.swreq_valid.specs.swreq_symbols.{Known.{IsRequirementIn, IsTextOver, IsTypeIn}, Texts.{world_of, term_of, IsTypeOfText}};
 ghost use Rattle.swreq_valid.specs.swreq_world.ByTable.{world_by};
 ghost use Rattle.swreq_machine.specs.{Asked.{IsBehind, IsDerivable, IsLeastWord, IsShownBy}, Having.{TellsIfEqual}, Machines.{IsMachineOf}};
 
@@ -20,28 +21,25 @@ impl Machine<'_> {
     /// Whether the rules show that a type is valid. Where they do, `word` becomes its least word. Both lists of symbols keep their room.
     pub(crate) fn walk(
         &self,
-        world: &World,
-        table: &ParamTable,
+        text: &Text<'_>,
         subject: TermId,
         word: &mut Vec<Symbol>,
         test: &mut Vec<Symbol>,
     ) -> bool
-        requires text { IsTextOver table.now world.now }
-        requires t { IsTypeIn table.now world.now.lexicon subject }
-        requires fits { member_count (term_at table.now subject) + 2 ≤ vec_capacity word.old }
-        requires fits_test { member_count (term_at table.now subject) + 2 ≤ vec_capacity test.old }
+        requires t { IsTypeOfText text.now subject }
+        requires fits { member_count (term_of text.now subject) + 2 ≤ vec_capacity word.old }
+        requires fits_test { member_count (term_of text.now subject) + 2 ≤ vec_capacity test.old }
         ensures valid { IsTrue result
-            ↔ IsShownBy (world_by table.now world.now) self.now (term_at table.now subject) }
-        ensures least { OnTrue result (IsLeastWord (world_by table.now world.now) self.now
-            (term_at table.now subject) word.new.items) }
+            ↔ IsShownBy (world_of text.now) self.now (term_of text.now subject) }
+        ensures least { OnTrue result (IsLeastWord (world_of text.now) self.now
+            (term_of text.now subject) word.new.items) }
         ensures short { OnTrue result
-            (vec_len word.new ≤ member_count (term_at table.now subject) + 1) }
+            (vec_len word.new ≤ member_count (term_of text.now subject) + 1) }
         ensures room { vec_capacity word.old ≤ vec_capacity word.new }
         ensures room_test { vec_capacity test.old ≤ vec_capacity test.new }
     {
         let reading = Reading {
-            world,
-            table,
+            text: *text,
             rules: self.rules(),
             over: Over::Signature(self.params()),
         };
@@ -65,7 +63,8 @@ impl Machine<'_> {
             (IsValid (term_at table.now subject)) }
         ensures room { scratch.new.room ≡ scratch.old.room }
     {
-        self.walk(world, table, subject, &mut scratch.word, &mut scratch.test)
+        let text = Text { world, table };
+        self.walk(&text, subject, &mut scratch.word, &mut scratch.test)
     }
 
     /// Whether a type is valid, and this symbol vanishes after its word.
@@ -84,7 +83,8 @@ impl Machine<'_> {
             ↔ IsBehind (world_by table.now world.now) self.now (term_at table.now subject) symbol }
         ensures room { scratch.new.room ≡ scratch.old.room }
     {
-        if self.walk(world, table, subject, &mut scratch.word, &mut scratch.test) {
+        let text = Text { world, table };
+        if self.walk(&text, subject, &mut scratch.word, &mut scratch.test) {
             vanishes(self.rules(), &scratch.word, symbol, &mut scratch.test)
         } else {
             false
@@ -140,7 +140,6 @@ impl Machine<'_> {
         right: TermId,
         scratch: &mut Scratch,
     ) -> Option<bool>
-        requires text { BelongTogether text.now }
         requires a { IsTypeIn text.now.table.now text.now.world.now.lexicon left }
         requires b { IsTypeIn text.now.table.now text.now.world.now.lexicon right }
         requires room_a { 4 * (member_count (term_at text.now.table.now left) + 2)
@@ -154,22 +153,10 @@ impl Machine<'_> {
             (term_at text.now.table.now right) result }
         ensures room { scratch.new.room ≡ scratch.old.room }
     {
-        if !self.walk(
-            text.world,
-            text.table,
-            left,
-            &mut scratch.word,
-            &mut scratch.test,
-        ) {
+        if !self.walk(text, left, &mut scratch.word, &mut scratch.test) {
             return None;
         }
-        if !self.walk(
-            text.world,
-            text.table,
-            right,
-            &mut scratch.other,
-            &mut scratch.test,
-        ) {
+        if !self.walk(text, right, &mut scratch.other, &mut scratch.test) {
             return None;
         }
         Some(scratch.word == scratch.other)
@@ -210,7 +197,6 @@ impl Machine<'_> {
         text: &Text<'_>,
         requirement: Requirement,
     ) -> Result<bool, AllocError>
-        requires text { BelongTogether text.now }
         requires r { IsRequirementIn text.now.table.now text.now.world.now.lexicon requirement }
         ensures { IfOk result
             (λ b. (list : List TermRequirement) → IsMachineOf (world_of text.now) list self.now

@@ -1,7 +1,6 @@
 //! The machine of a written list, where all that is written is a type parameter.
 ghost use Rattle.std.specs.Prelude.{◌≡◌, IfOk, List};
 ghost use Rattle.swreq_valid.specs.swreq_derive.{Derivation.{TermRequirement}, Derivation.Source.{Written as WrittenList}, Facts.{generic_params}};
-ghost use Rattle.swreq_map.specs.swreq_complete.Limits.{AreInRange};
 ghost use Rattle.swreq_valid.specs.swreq_symbols.{Known.{IsTextOver}, Meaning.{facts_of}};
 ghost use Rattle.swreq_valid.specs.swreq_world.ByTable.{world_by};
 ghost use Rattle.swreq_valid.specs.swreq_lowering.ByTable.{placed};
@@ -14,7 +13,7 @@ use swreq_valid::complete::Limits;
 use swreq_valid::derive::{Params, Requirement};
 use swreq_valid::lowering::Written;
 use swreq_valid::param::ParamTable;
-use swreq_valid::symbols::Over;
+use swreq_valid::symbols::{Over, Text};
 use swreq_valid::watch::Watch;
 use swreq_valid::world::World;
 use swreq_valid::{Protocols, Refused, first_invalid};
@@ -49,7 +48,13 @@ fn judge_machine<'b>(
     ensures same { IfOk result (λ m. m ≡ machine.entry) }
 {
     let over = Over::Signature(machine.params());
-    let found = first_invalid(alloc, world, table, machine.rules(), over, written)?;
+    let found = first_invalid(
+        alloc,
+        &Text { world, table },
+        machine.rules(),
+        over,
+        written,
+    )?;
     match found {
         Some(at) => Err(Refused::NotATypeParameter { at }),
         None => Ok(machine),
@@ -76,7 +81,6 @@ impl<'b> Machine<'b> {
         requires protocols { AreRulesOf (world_by table.now world.now)
             (last_rules protocols.now.rounds) }
         requires written { AreWritten table.now world.now.lexicon written.now }
-        requires limits { AreInRange limits }
         ensures answer { Builds limits (machine_plan table.now world.now
             (last_rules protocols.entry.now.rounds) params (bare written.now))
             (facts_of (world_by table.now world.now))

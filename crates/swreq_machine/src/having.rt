@@ -1,9 +1,10 @@
 //! What the property map of the rules of a machine answers of a type parameter, without memory.
+
 ghost use Rattle.std.specs.Prelude.{◌≡◌, ◌↔◌, ◌+◌, ◌*◌, ◌≤◌, IsTrue, List, MatchOption};
 ghost use Rattle.swreq_valid.specs.swreq_param.{Tables.{term_at}, Terms.{member_count}};
 ghost use Rattle.swreq_valid.specs.swreq_derive.Derivation.{TermRequirement};
 ghost use Rattle.swreq_map.specs.{Follows.{IsMapOf}, Properties.{IsProperty}};
-ghost use Rattle.swreq_valid.specs.swreq_symbols.Known.{IsTextOver, IsTypeIn};
+ghost use Rattle.swreq_valid.specs.swreq_symbols.Known.{IsTypeIn};
 ghost use Rattle.swreq_valid.specs.swreq_world.ByTable.{world_by};
 ghost use Rattle.swreq_machine.specs.{Asked.{IsBehind, IsDerivable, IsShownBy}, Having.{IsBelow, TellsIfHas, symbol_of}, Machines.{IsMachineOf}};
 ghost use Rattle.swreq_valid.specs.Rounds.{last_rules};
@@ -46,7 +47,6 @@ impl Machine<'_> {
         x: Symbol,
         scratch: &mut Scratch,
     ) -> Option<bool>
-        requires text { IsTextOver text.now.table.now text.now.world.now }
         requires t { IsTypeIn text.now.table.now text.now.world.now.lexicon t }
         requires map { IsMapOf (last_rules self.now.rounds) map.now }
         requires property { IsProperty map.now.protocols x }
@@ -60,13 +60,7 @@ impl Machine<'_> {
             (term_at text.now.table.now t) x)) }
         ensures room { scratch.new.room ≡ scratch.old.room }
     {
-        if self.walk(
-            text.world,
-            text.table,
-            t,
-            &mut scratch.word,
-            &mut scratch.test,
-        ) {
+        if self.walk(text, t, &mut scratch.word, &mut scratch.test) {
             Some(map.has(self.rules(), &scratch.word, x, &mut scratch.test))
         } else {
             None
@@ -82,7 +76,6 @@ impl Machine<'_> {
         property: Property,
         scratch: &mut Scratch,
     ) -> Option<bool>
-        requires text { IsTextOver text.now.table.now text.now.world.now }
         requires t { IsTypeIn text.now.table.now text.now.world.now.lexicon t }
         requires map { IsMapOf (last_rules self.now.rounds) map.now }
         requires property { IsBelow map.now.protocols property }

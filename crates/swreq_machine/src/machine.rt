@@ -1,6 +1,5 @@
 //! Machines of lists.
 ghost use Rattle.std.specs.Prelude.{◌≡◌, map, IfOk};
-ghost use Rattle.swreq_map.specs.swreq_complete.Limits.{AreInRange};
 ghost use Rattle.swreq_valid.specs.swreq_symbols.Known.{IsTextOver};
 ghost use Rattle.swreq_valid.specs.swreq_world.ByTable.{world_by};
 ghost use Rattle.swreq_valid.specs.{Answers.{Answers, IsOnlyOutcome}, Protocols.{AreRulesOf}, Plans.{AreKnown, in_signature, listed}, Rounds.{AreRounds, last_rules}};
@@ -98,7 +97,6 @@ pub fn core<'b, W: Watch>(
     requires protocols { AreRulesOf (world_by table.now world.now)
         (last_rules protocols.now.rounds) }
     requires list { AreKnown table.now world.now.lexicon list.now }
-    requires limits { AreInRange limits }
     ensures answer { Answers limits
         (machine_plan table.now world.now (last_rules protocols.entry.now.rounds) params list.now)
         (W.told watch.old) (W.told watch.new) (machine_rules result) }

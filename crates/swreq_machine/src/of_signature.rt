@@ -1,7 +1,7 @@
 //! The machine of a signature.
+
 ghost use Rattle.std.specs.Prelude.{◌≡◌, ◌<◌, IfOk, length};
-ghost use Rattle.swreq_map.specs.swreq_complete.Limits.{AreInRange};
-ghost use Rattle.swreq_valid.specs.swreq_symbols.{Meaning.{facts_of}, Texts.{BelongTogether, world_of}};
+ghost use Rattle.swreq_valid.specs.swreq_symbols.{Meaning.{facts_of}, Texts.{world_of}};
 ghost use Rattle.swreq_valid.specs.swreq_world.{FactsAt.{written_list}, Worlds.{signature_at}};
 ghost use Rattle.swreq_valid.specs.{Built.{Builds, IsOnlyBuilt}, Protocols.{AreRulesOf}, Rounds.{AreRounds, last_rules}};
 ghost use Rattle.swreq_machine.specs.{Machines.{IsMachineOf, built_rules}, OfSignatures.{signature_plan, signature_sides}};
@@ -26,10 +26,8 @@ impl<'b> Machine<'b> {
         limits: Limits,
         watch: &mut W,
     ) -> Result<Machine<'b>, Refused>
-        requires text { BelongTogether text.now }
         requires protocols { AreRulesOf (world_of text.now) (last_rules protocols.now.rounds) }
         requires f { signature.place < length text.now.world.now.signatures }
-        requires limits { AreInRange limits }
         ensures answer { Builds limits
             (signature_plan (world_of text.now) (last_rules protocols.entry.now.rounds)
             (signature_at (world_of text.now) signature))

@@ -1,11 +1,12 @@
 //! The reduced type of a type parameter, without memory.
+
 ghost use Rattle.std.specs.Prelude.{◌≡◌, ◌↔◌, ◌+◌, ◌*◌, ◌≤◌, ◌<◌, ◌++◌, ◌∷◌, [], ℕ, IsTrue, List, length, vec_capacity, vec_len, MatchOption};
 ghost use Rattle.swreq_valid.specs.swreq_param.{declared.ids.AssocId.{AssocId}, declared.ids.Step.TheVariants.{Bound}, Tables.{term_at}, Terms.{Term, head, member_count, with_steps}, Terms.Term.{Generic}};
 ghost use Rattle.swreq_valid.specs.swreq_derive.{Derivation.{TermRequirement}, Derivation.TermStatement.{IsValid}};
 ghost use Rattle.swreq_map.specs.swreq_word.{declared.symbols.Symbol.{Symbol}, declared.symbols.Symbol.TheVariants.{Member as MemberSymbol, Param}};
 ghost use Rattle.swreq_valid.specs.swreq_correspondence.Symbols.{IsRank, name_of};
 ghost use Rattle.swreq_valid.specs.swreq_world.ByTable.{world_by};
-ghost use Rattle.swreq_valid.specs.swreq_symbols.{Known.{IsTextOver, IsTypeIn}, Meaning.{symbols_of}, Texts.{BelongTogether, world_of}, Vanishing.{IsFirstBehind, IsLeastBy}};
+ghost use Rattle.swreq_valid.specs.swreq_symbols.{Known.{IsTextOver, IsTypeIn}, Meaning.{symbols_of}, Texts.{world_of}, Vanishing.{IsFirstBehind, IsLeastBy}};
 ghost use Rattle.swreq_machine.specs.{Asked.{IsDerivable, IsLeastOf, IsReducedIn}, LeastTypes.{BeginsBy}, Machines.{IsMachineOf}};
 
 use crate::machine::Machine;
@@ -130,7 +131,6 @@ fn head_of(word: &[Symbol]) -> ParamId
 impl Machine<'_> {
     /// Whether a type is valid. Where it is, its reduced type and the least word congruent to its word are left in the scratch.
     pub fn reduce(&self, text: &Text<'_>, subject: TermId, scratch: &mut Scratch) -> bool
-        requires text { BelongTogether text.now }
         requires t { IsTypeIn text.now.table.now text.now.world.now.lexicon subject }
         requires room { 4 * (member_count (term_at text.now.table.now subject) + 2)
             ≤ scratch.old.room }
@@ -153,13 +153,7 @@ impl Machine<'_> {
     {
         let rules = self.rules();
         let _complete = rules.count();
-        let valid = self.walk(
-            text.world,
-            text.table,
-            subject,
-            &mut scratch.word,
-            &mut scratch.test,
-        );
+        let valid = self.walk(text, subject, &mut scratch.word, &mut scratch.test);
         if valid {
             scratch.head = head_of(&scratch.word);
             read_steps(

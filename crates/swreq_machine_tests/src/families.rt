@@ -1,6 +1,5 @@
 //! The limits that requirement signatures have of their own.
 ghost use Rattle.std.specs.Prelude.{OnOk};
-ghost use Rattle.swreq_machine.specs.swreq_complete.Limits.{AreInRange};
 ghost use Rattle.swreq_machine.specs.swreq_derive.WellFormed.{AreProtocolsWellFormed};
 ghost use Rattle.swreq_machine.specs.swreq_symbols.{Known.{IsTextOver}, Meaning.{facts_of}};
 ghost use Rattle.swreq_machine.specs.swreq_world.ByTable.{world_by};
@@ -36,7 +35,6 @@ fn put_family(
 ) -> Result<(), AllocError>
     requires text { IsTextOver table.now world.now }
     requires well_formed { AreProtocolsWellFormed (facts_of (world_by table.now world.now)) }
-    requires limits { AreInRange limits }
 {
     match kept_family(alloc, world, table, limits, &mut Quiet) {
         Ok(family) => family_text(alloc, world, table, &family, out),
@@ -54,7 +52,6 @@ fn put_lines(
     out: &mut Vec<u8>,
 ) -> Result<(), Fail>
     requires text { IsTextOver table.now world.now }
-    requires limits { AreInRange limits }
 {
     are_well_formed(alloc, world, table)?;
     put_family(alloc, world, table, limits, out)?;
@@ -68,9 +65,7 @@ fn put_in(
     table: &mut ParamTable,
     limits: Limits,
     out: &mut Vec<u8>,
-) -> Result<(), Fail>
-    requires { AreInRange limits }
-{
+) -> Result<(), Fail> {
     let world = world_of(alloc, text, table)?;
     put_lines(alloc, &world, table, limits, out)
 }

@@ -1,6 +1,5 @@
 //! What minimising a signature takes.
 ghost use Rattle.std.specs.Prelude.{◌<◌, length};
-ghost use Rattle.swreq_machine.specs.swreq_complete.Limits.{AreInRange};
 ghost use Rattle.swreq_machine.specs.swreq_symbols.Known.{IsTextOver};
 ghost use Rattle.swreq_machine.specs.swreq_world.ByTable.{world_by};
 ghost use Rattle.swreq_machine.specs.swreq_valid.{Protocols.{AreRulesOf}, Rounds.{last_rules}};
@@ -41,7 +40,6 @@ fn count_over(
     requires protocols { AreRulesOf (world_by table.old world.now)
         (last_rules protocols.now.rounds) }
     requires some { 0 < length world.now.signatures }
-    requires limits { AreInRange limits }
 {
     let text = Text { world, table };
     let f = FuncId { place: 0 };
@@ -58,7 +56,6 @@ fn count_of_first(
     watch: &mut Recorder,
 ) -> Result<Option<usize>, Fail>
     requires text { IsTextOver table.old world.now }
-    requires limits { AreInRange limits }
 {
     if world.functions() == 0 {
         return Err("no signature".into());
@@ -74,9 +71,7 @@ fn count_in(
     table: &mut ParamTable,
     limits: Limits,
     watch: &mut Recorder,
-) -> Result<Option<usize>, Fail>
-    requires { AreInRange limits }
-{
+) -> Result<Option<usize>, Fail> {
     let world = world_of(alloc, text, table)?;
     count_of_first(alloc, &world, table, limits, watch)
 }

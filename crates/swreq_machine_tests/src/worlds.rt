@@ -1,6 +1,5 @@
 //! The worlds of texts, and the limits of completions.
 ghost use Rattle.std.specs.Prelude.{IfOk};
-ghost use Rattle.swreq_machine.specs.swreq_complete.Limits.{AreInRange};
 ghost use Rattle.swreq_machine.specs.swreq_symbols.Known.{IsTextOver};
 
 use std::alloc::Global;
@@ -17,9 +16,7 @@ pub(crate) const LIMITS: Limits = Limits {
 };
 
 /// The limits with this many rules.
-pub(crate) fn limits_of(max_rules: u32) -> Result<Limits, Fail>
-    ensures { IfOk result AreInRange }
-{
+pub(crate) fn limits_of(max_rules: u32) -> Result<Limits, Fail> {
     if 1 <= max_rules && max_rules <= 100_000 {
         Ok(Limits {
             max_rules,

@@ -2,7 +2,6 @@
 ghost use Rattle.std.specs.Prelude.{◌≡◌, List, Contains, IfErr, IfOk};
 ghost use Rattle.swreq_machine.specs.swreq_param.Tables.{Extends};
 ghost use Rattle.swreq_machine.specs.swreq_derive.{Derivation.{TermRequirement}, Derivation.Source.{Written}, Equivalence.{AreEquivalent}, Facts.{generic_params}};
-ghost use Rattle.swreq_machine.specs.swreq_complete.Limits.{AreInRange};
 ghost use Rattle.swreq_candidates.specs.swreq_canonical.{Canonical.{IsCanonical}, CanonicalOrder.{IsStrictlySorted}, Minimised.{IsIndependent, IsMinimised}};
 ghost use Rattle.swreq_machine.specs.swreq_symbols.{Known.{IsTextOver}, Meaning.{facts_of, symbols_of}};
 ghost use Rattle.swreq_machine.specs.swreq_world.ByTable.{world_by};
@@ -64,7 +63,6 @@ pub fn minimise<W: Watch>(
     requires text { IsTextOver table.old world.now }
     requires protocols { AreRulesOf (world_by table.old world.now)
         (last_rules protocols.now.rounds) }
-    requires limits { AreInRange limits }
     ensures minimised { (list : List TermRequirement)
         → IsMachineOf (world_by table.old world.now) list machine.now
         → IfOk result (λ v. IsMinimised (facts_of (world_by table.old world.now))

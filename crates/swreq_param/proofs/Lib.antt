@@ -8,3 +8,4 @@ pub mod TermsOfEntries
 pub mod DistinctEntries
 pub mod Interning
 pub mod Growing
+pub mod DecidedIds

@@ -2,7 +2,7 @@
 ghost use Rattle.std.specs.Prelude.{◌≡◌, ◌≢◌, List, length, IfOk, OnErr, OnOk};
 ghost use Rattle.swreq_print.specs.swreq_derive.Derivation.{TermRequirement};
 ghost use Rattle.swreq_machine.specs.swreq_map.Follows.{IsMapOf};
-ghost use Rattle.swreq_machine.specs.swreq_symbols.{Known.{IsAskedIn}, Texts.{BelongTogether, world_of}};
+ghost use Rattle.swreq_machine.specs.swreq_symbols.{Known.{IsAskedIn}, Texts.{world_of}};
 ghost use Rattle.swreq_machine.specs.{Asked.{IsDerivable}, Machines.{IsMachineOf}};
 ghost use Rattle.swreq_machine.specs.swreq_valid.Rounds.{last_rules};
 ghost use Rattle.swreq_print.specs.swreq_lowering.{ByTable.{asks_by}, declared.ids.Asks.TheVariants.{Signature}};
@@ -50,7 +50,6 @@ pub fn answer(
     scratch: &mut Scratch,
     out: &mut Vec<u8>,
 ) -> Result<Option<Verdict>, AllocError>
-    requires text { BelongTogether text.now }
     requires asks { IsAskedIn text.now.table.now text.now.world.now.lexicon asks }
     requires no_signature { asks ≢ Signature }
     requires map { IsMapOf (last_rules machine.now.rounds) map.now }

@@ -3,7 +3,7 @@ ghost use Rattle.std.specs.Prelude.{◌≡◌, ◌≢◌, ◌⊎◌, ◌<◌, �
 ghost use Rattle.swreq_print.specs.swreq_param.Tables.{Extends};
 ghost use Rattle.swreq_text.specs.Joined.{GrewByPart};
 ghost use Rattle.swreq_print.specs.swreq_derive.Facts.{generic_params};
-ghost use Rattle.swreq_machine.specs.swreq_complete.{declared.limit.Failed.TheVariants.{Memory}, Limits.{AreInRange}};
+ghost use Rattle.swreq_machine.specs.swreq_complete.declared.limit.Failed.TheVariants.{Memory};
 ghost use Rattle.swreq_machine.specs.swreq_symbols.Known.{IsTextOver};
 ghost use Rattle.swreq_machine.specs.swreq_valid.{Protocols.{AreRulesOf}, Plans.{AreKnown, listed}, Rounds.{last_rules}};
 ghost use Rattle.swreq_machine.specs.Machines.{IsMachineOf};
@@ -92,7 +92,6 @@ pub fn minimised_line<W: Watch>(
     requires machine { IsMachineOf (world_by table.old world.now)
         (written_list (signature_at (world_by table.old world.now) f)) machine.now }
     requires params { machine.now.params ≡ (signature_at (world_by table.old world.now) f).params }
-    requires limits { AreInRange limits }
     ensures line { OnOk result ((line : List ℕ) × IsMinimisedLine (world_by table.old world.now)
         (signature_at (world_by table.old world.now) f) line
         × (out.new.items ≡ out.old.items ++ line)) }

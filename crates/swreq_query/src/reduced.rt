@@ -3,7 +3,7 @@ ghost use Rattle.std.specs.Prelude.{◌≡◌, ◌+◌, ◌*◌, ◌≤◌, ◌+
 ghost use Rattle.swreq_print.specs.swreq_param.{Tables.{term_at}, Terms.{member_count, with_steps}, Terms.Term.{Generic}};
 ghost use Rattle.swreq_print.specs.swreq_derive.Derivation.{TermRequirement};
 ghost use Rattle.swreq_print.specs.Types.{type_text};
-ghost use Rattle.swreq_machine.specs.swreq_symbols.{Known.{IsTypeIn}, Texts.{BelongTogether, world_of}};
+ghost use Rattle.swreq_machine.specs.swreq_symbols.{Known.{IsTypeIn}, Texts.{world_of}};
 ghost use Rattle.swreq_machine.specs.{Asked.{IsDerivable}, Machines.{IsMachineOf}};
 ghost use Rattle.swreq_print.specs.swreq_lowering.Queries.TermAsks.{AsksReduced};
 ghost use Rattle.swreq_query.specs.Asked.{AppendsAnswer, IsVerdictOf};
@@ -45,7 +45,6 @@ pub(crate) fn reduced_line(
     scratch: &mut Scratch,
     out: &mut Vec<u8>,
 ) -> Result<Option<Verdict>, AllocError>
-    requires text { BelongTogether text.now }
     requires t { IsTypeIn text.now.table.now text.now.world.now.lexicon t }
     requires room { 4 * (member_count (term_at text.now.table.now t) + 2) ≤ scratch.old.room }
     ensures ok { OnOk result ((list : List TermRequirement)

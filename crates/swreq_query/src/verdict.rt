@@ -4,7 +4,7 @@ ghost use Rattle.swreq_print.specs.swreq_param.{Tables.{term_at}, Terms.{member_
 ghost use Rattle.swreq_print.specs.swreq_derive.{Derivation.{TermRequirement}, Derivation.TermRequirement.{Equals}, Facts.{requirement_of}};
 ghost use Rattle.swreq_machine.specs.swreq_map.Follows.{IsMapOf};
 ghost use Rattle.swreq_print.specs.swreq_lexicon.Views.{LexiconView};
-ghost use Rattle.swreq_machine.specs.swreq_symbols.{Known.{IsRequirementIn, IsTypeIn}, Texts.{BelongTogether, world_of}};
+ghost use Rattle.swreq_machine.specs.swreq_symbols.{Known.{IsRequirementIn, IsTypeIn}, Texts.{world_of}};
 ghost use Rattle.swreq_machine.specs.{Asked.{IsDerivable}, Having.{IsBelow, has}, Machines.{IsMachineOf}};
 ghost use Rattle.swreq_machine.specs.swreq_valid.Rounds.{last_rules};
 ghost use Rattle.swreq_query.specs.{Answers.{IsAnswered, answer_line}, Asked.{IsRoomForSides, answer_of, verdict_of}};
@@ -59,7 +59,6 @@ fn judge_property(
     property: Property,
     scratch: &mut Scratch,
 ) -> Verdict
-    requires text { BelongTogether text.now }
     requires t { IsTypeIn text.now.table.now text.now.world.now.lexicon t }
     requires map { IsMapOf (last_rules machine.now.rounds) map.now }
     requires property { IsBelow map.now.protocols property }
@@ -81,7 +80,6 @@ fn judge_equality(
     b: TermId,
     scratch: &mut Scratch,
 ) -> Verdict
-    requires text { BelongTogether text.now }
     requires a { IsTypeIn text.now.table.now text.now.world.now.lexicon a }
     requires b { IsTypeIn text.now.table.now text.now.world.now.lexicon b }
     requires room_a { 4 * (member_count (term_at text.now.table.now a) + 2) ≤ scratch.old.room }
@@ -106,7 +104,6 @@ pub fn judge(
     requirement: Requirement,
     scratch: &mut Scratch,
 ) -> Verdict
-    requires text { BelongTogether text.now }
     requires requirement { IsRequirementIn text.now.table.now text.now.world.now.lexicon
         requirement }
     requires map { IsMapOf (last_rules machine.now.rounds) map.now }

@@ -1,5 +1,4 @@
 -- A command, and the parts of the input that it reads.
-use Rattle.swreq_valid.specs.swreq_complete.Limits.{AreInRange}
 use Rattle.swreq_valid.specs.swreq_complete.declared.limit.Limits.{Limits}
 use Rattle.swreq_words.specs.declared.command.CommandLine.{CommandLine}
 use Rattle.swreq_check.specs.declared.content.Content.{Content}
@@ -30,8 +29,7 @@ printed_of r = content_of (line_of r)
 abbrev pub HasCount : CommandLine → Type 0
 HasCount line = (1 ≤ line.count) × (line.count ≤ 100)
 
--- These are the parts of the input, and the numbers of the command line are in their ranges.
+-- These are the parts of the input, and the number of the command is in its range.
 pub record IsRequest (r : Request) : Type 0 where
   pub parts : AreParts (line_of r).command (parts_of r).input (parts_of r)
-  pub limits : AreInRange (limits_in r)
   pub count : HasCount (line_of r)

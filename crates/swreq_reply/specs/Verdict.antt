@@ -51,7 +51,7 @@ use Rattle.swreq_reply.specs.Told.{TellsBehind}
 
 -- the most rules of a completion, and the most symbols on a left side
 abbrev pub limits_of : CommandLine → Limits
-limits_of line = record { max_rules = line.max_rules; max_length = line.max_length }
+limits_of line = record { max_rules = line.max_rules; max_length = line.max_length; in_range = line.in_range }
 
 -- The input that is answered: where a command reads nothing, as `gen`, the generated text of its number, and otherwise that of the source.
 abbrev pub text_for : Input → ℕ → Text → Text

@@ -1,14 +1,13 @@
 //! What a command answers by the machines of a text.
 ghost use Rattle.std.specs.Prelude.{◌≡◌, All, List, Option, map, IfOk, true};
-ghost use Rattle.swreq_valid.specs.swreq_complete.Limits.{AreInRange};
 ghost use Rattle.swreq_subst.specs.Calls.{IsCallIn, call_by};
 ghost use Rattle.swreq_valid.specs.swreq_symbols.Known.{IsTextOver};
 ghost use Rattle.swreq_valid.specs.Rounds.{last_rules};
 ghost use Rattle.swreq_valid.specs.swreq_watch.declared.events.Event.{Event};
-ghost use Rattle.swreq_valid.specs.swreq_world.{ByTable.{world_by}, Short.{IsShort}};
+ghost use Rattle.swreq_valid.specs.swreq_world.ByTable.{world_by};
 ghost use Rattle.swreq_query.specs.Ended.{IsWorldOfText};
 ghost use Rattle.swreq_check.specs.{Contents.{AreCalls, AreFamilies, PrintsPieces}, CallLines.{AnswersCalls}, Checks.{IsCheckedFor}};
-ghost use Rattle.swreq_reply.specs.{Commands.{content_of}, Outputs.{IsOutput}, Pieces.{IsWhole}, Replies.{Finishes, Replies}, Requests.{IsRequest, line_of, limits_in, parts_of, printed_of}, Verdict.{ChecksMachines, limits_of}};
+ghost use Rattle.swreq_reply.specs.{Commands.{content_of}, Outputs.{IsOutput}, Pieces.{IsWhole}, Replies.{Finishes, Replies}, Requests.{IsRequest, line_of, limits_in, parts_of, printed_of}, Verdict.{ChecksMachines}};
 
 use crate::commands::content_of;
 use crate::outcome::{Outcome, cut_short, limits_of, unchecked, unread, unresolved};
@@ -38,7 +37,6 @@ pub(crate) fn checked<W: Watch>(
     requires request { IsRequest r.now }
     requires world { IsWorldOfText (parts_of r.now).source (world_by table.old world.now) }
     requires text { IsTextOver table.old world.now }
-    requires short { IsShort world.now }
     requires checks { ChecksMachines (line_of r.now) }
     ensures { Replies (line_of r.now) (parts_of r.now).input (W.told watch.old)
         (W.told watch.new) result }
@@ -67,7 +65,6 @@ fn finish<W: Watch>(
     requires request { IsRequest r.now }
     requires world { IsWorldOfText (parts_of r.now).source (world_by table.old world.now) }
     requires text { IsTextOver table.old world.now }
-    requires short { IsShort world.now }
     requires checks { ChecksMachines (line_of r.now) }
     requires checked { IsCheckedFor (limits_in r.now) (world_by table.old world.now) world.now
         (printed_of r.now) checked.now }
@@ -124,7 +121,6 @@ fn called(
     requires request { IsRequest r.now }
     requires world { IsWorldOfText (parts_of r.now).source (world_by table.old world.now) }
     requires text { IsTextOver table.old world.now }
-    requires short { IsShort world.now }
     requires calls { AreCalls (printed_of r.now) }
     requires checked { IsCheckedFor (limits_in r.now) (world_by table.old world.now) world.now
         (printed_of r.now) checked.now }
@@ -152,8 +148,6 @@ fn answered_calls(
     calls: &[Call],
 ) -> Result<Outcome, AllocError>
     requires text { IsTextOver table.old world.now }
-    requires short { IsShort world.now }
-    requires limits { AreInRange (limits_in r.now) }
     requires checked { IsCheckedFor (limits_in r.now) (world_by table.old world.now) world.now
         (printed_of r.now) checked.now }
     requires calls { All (IsCallIn table.old world.now) calls.now }

@@ -1,12 +1,11 @@
 //! What a command answers of an input.
 ghost use Rattle.std.specs.Prelude.{◌≡◌, List, IfOk, OnErr};
-ghost use Rattle.swreq_valid.specs.swreq_complete.Limits.{AreInRange};
 ghost use Rattle.swreq_print.specs.swreq_decl.Skeletons.{StandsFor};
 ghost use Rattle.swreq_valid.specs.swreq_symbols.Known.{IsTextOver};
 ghost use Rattle.swreq_valid.specs.swreq_watch.declared.events.Event.{Event};
-ghost use Rattle.swreq_valid.specs.swreq_world.{ByTable.{world_by}, Short.{IsShort}};
+ghost use Rattle.swreq_valid.specs.swreq_world.ByTable.{world_by};
 ghost use Rattle.swreq_query.specs.Ended.{IsWorldOfText};
-ghost use Rattle.swreq_reply.specs.{declared.outcome.Outcome.{Outcome}, Commands.{content_of}, Replies.{IsToldVerdict, IsVerdictAlone, Replies, WasToldPart}, Requests.{HasCount, IsRequest, line_of, parts_of, printed_of}, Verdict.{IsRefused, answered_text, limits_of}};
+ghost use Rattle.swreq_reply.specs.{declared.outcome.Outcome.{Outcome}, Commands.{content_of}, Replies.{IsToldVerdict, IsVerdictAlone, Replies, WasToldPart}, Requests.{HasCount, IsRequest, line_of, parts_of, printed_of}, Verdict.{IsRefused, answered_text}};
 ghost use Rattle.swreq_check.specs.Contents.{AreJudgements};
 
 use crate::commands::content_of;
@@ -41,7 +40,6 @@ pub fn reply<W: Watch>(
     text: &[u8],
     watch: &mut W,
 ) -> Result<Outcome, AllocError>
-    requires limits { AreInRange (limits_of line.now) }
     requires count { HasCount line.now }
     ensures verdict { IfOk result (IsToldVerdict line.now (answered_text line.now text.now)
         (W.told watch.old) (W.told watch.new)) }
@@ -67,7 +65,6 @@ fn read<W: Watch>(
     input: &[u8],
     watch: &mut W,
 ) -> Result<Outcome, AllocError>
-    requires limits { AreInRange (limits_of line.now) }
     requires count { HasCount line.now }
     ensures reply { Replies line.now input.now (W.told watch.old) (W.told watch.new) result }
     ensures refused { (o : Outcome) (told : List Event) → IsRefused line.now input.now o told
@@ -142,7 +139,6 @@ fn with_world<W: Watch>(
     requires request { IsRequest r.now }
     requires world { IsWorldOfText (parts_of r.now).source (world_by table.old world.now) }
     requires text { IsTextOver table.old world.now }
-    requires short { IsShort world.now }
     ensures { Replies (line_of r.now) (parts_of r.now).input (W.told watch.old)
         (W.told watch.new) result }
 {

@@ -1,7 +1,6 @@
 -- What families are asked over.
 use Rattle.std.specs.Prelude.{◌≡◌}
 use Rattle.swreq_valid.specs.swreq_derive.WellFormed.{AreProtocolsWellFormed}
-use Rattle.swreq_valid.specs.swreq_complete.Limits.{AreInRange}
 use Rattle.swreq_valid.specs.swreq_symbols.Known.{IsTextOver}
 use Rattle.swreq_valid.specs.swreq_symbols.Meaning.{facts_of}
 use Rattle.swreq_valid.specs.swreq_world.ByTable.{world_by}
@@ -15,11 +14,9 @@ use Rattle.swreq_reqsig.specs.Outlines.{outlines_of}
 abbrev pub text_in : Setting → TextWorld
 text_in s = world_by s.table.now s.world.now
 
--- The table is that of the text, its protocols are well formed, the outlines are of what they require and have their places by name, and
--- the limits are in range.
+-- The table is that of the text, its protocols are well formed, and the outlines are of what they require and have their places by name.
 pub record IsSetting (s : Setting) : Type 0 where
   pub text : IsTextOver s.table.now s.world.now
   pub well_formed : AreProtocolsWellFormed (facts_of (text_in s))
   pub outlines : s.outlines.now ≡ outlines_of s.world.now.lexicon (owned (text_in s))
   pub named : AreNamed s.outlines.now s.named.now
-  pub limits : AreInRange s.limits

@@ -1,7 +1,6 @@
 //! The family of requirement signatures that is given.
 ghost use Rattle.std.specs.Prelude.{◌≡◌, IfOk, length};
 ghost use Rattle.swreq_valid.specs.swreq_derive.WellFormed.{AreProtocolsWellFormed};
-ghost use Rattle.swreq_valid.specs.swreq_complete.Limits.{AreInRange};
 ghost use Rattle.swreq_valid.specs.swreq_symbols.{Known.{IsTextOver}, Meaning.{facts_of}};
 ghost use Rattle.swreq_valid.specs.swreq_world.ByTable.{world_by};
 ghost use Rattle.swreq_reqsig.specs.{Families.{AreRequirementSignatures, IsGivenFamily, members}, Told.{AnswersFamily, IsOnlyFamily}};
@@ -43,7 +42,6 @@ pub fn kept_family<W: Watch>(
 ) -> Result<Family, Failed>
     requires text { IsTextOver table.now world.now }
     requires well_formed { AreProtocolsWellFormed (facts_of (world_by table.now world.now)) }
-    requires limits { AreInRange limits }
     ensures answer { AnswersFamily limits (world_by table.now world.now)
         (W.told watch.old) (W.told watch.new) result }
     ensures only { IsOnlyFamily limits (world_by table.now world.now) result }

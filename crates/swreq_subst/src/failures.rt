@@ -6,7 +6,7 @@ ghost use Rattle.swreq_machine.specs.swreq_lowering.Heads.{IsOver};
 ghost use Rattle.swreq_machine.specs.swreq_symbols.Known.{IsRequirementIn, IsTextOver, IsTypeIn};
 ghost use Rattle.swreq_machine.specs.{Asked.{IsDerivable}, Machines.{IsMachineOf}};
 ghost use Rattle.swreq_machine.specs.swreq_valid.Plans.{listed};
-ghost use Rattle.swreq_machine.specs.swreq_world.{ByTable.{world_by}, FactsAt.{facts_of}, Short.{IsShort}};
+ghost use Rattle.swreq_machine.specs.swreq_world.{ByTable.{world_by}, FactsAt.{facts_of}};
 ghost use Rattle.swreq_subst.specs.{Arguments.{place_of, requirement_with}, Calls.{AreThere, IsCallIn, IsMachineOn, call_by}, Failing.{AreFailing, AreFailingIn}};
 
 use crate::arguments::requirement_with;
@@ -118,7 +118,6 @@ pub fn failing(
     c: &Call,
 ) -> Result<Vec<u32>, AllocError>
     requires text { IsTextOver table.old world.now }
-    requires short { IsShort world.now }
     requires call { IsCallIn table.old world.now c.now }
     requires there { AreThere c.now.args }
     requires machine { IsMachineOn (world_by table.old world.now) c.now.f machine.now }

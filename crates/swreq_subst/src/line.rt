@@ -5,7 +5,7 @@ ghost use Rattle.swreq_machine.specs.swreq_derive.{Derivation.{TermRequirement},
 ghost use Rattle.swreq_machine.specs.swreq_lowering.ByTable.{HasIdsOf};
 ghost use Rattle.swreq_machine.specs.swreq_symbols.Known.{IsTextOver, IsTypeIn};
 ghost use Rattle.swreq_machine.specs.{Asked.{IsDerivable}, Machines.{IsMachineOf}};
-ghost use Rattle.swreq_machine.specs.swreq_world.{ByTable.{world_by}, Short.{IsShort}};
+ghost use Rattle.swreq_machine.specs.swreq_world.ByTable.{world_by};
 ghost use Rattle.swreq_subst.specs.{Calls.{AreAllValid, IsArgumentIn, IsCallIn, IsMachineOn, IsOneInvalid, IsValidThere, call_by}, Lines.{AppendsLine, text_at, verdict_text}};
 
 use crate::calls::Call;
@@ -154,7 +154,6 @@ pub fn call_text(
     out: &mut Vec<u8>,
 ) -> Result<(), AllocError>
     requires text { IsTextOver table.old world.now }
-    requires short { IsShort world.now }
     requires call { IsCallIn table.old world.now c.now }
     requires machine { IsMachineOn (world_by table.old world.now) c.now.f machine.now }
     ensures line { OnOk result (AppendsLine (world_by table.old world.now)

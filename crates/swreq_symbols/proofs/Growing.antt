@@ -52,4 +52,8 @@ module _ (old new : List Term) (more : Extends old new) where
     }
 
   pub text_stays : (w : IdWorld) → IsTextOver old w → IsTextOver new w
-  text_stays w text = record { table = over_stays w text.table; closed = subst IsClosed (sym (world_stays w text.table)) text.closed }
+  text_stays w text = record {
+    table = over_stays w text.table;
+    closed = subst IsClosed (sym (world_stays w text.table)) text.closed;
+    short = text.short;
+  }

@@ -6,3 +6,4 @@ pub mod Fronts
 pub mod LeastWords
 pub mod OfText
 pub mod Growing
+pub mod OfTexts

@@ -1,14 +1,17 @@
 //! Whether rules show that a type parameter is valid, and its least word, without memory.
+#![tactic(auto, using(crate::proofs::OfTexts::text_over, crate::proofs::OfTexts::ids_over))]
+
 ghost use Rattle.std.specs.{Prelude.{◌≡◌, ◌↔◌, ◌+◌, ◌≤◌, ◌<◌, [], ◌∷◌, ◌++◌, length, vec_len, vec_capacity, IsTrue}, Bool.{OnTrue}};
 ghost use Rattle.swreq_correspondence.specs.swreq_param.{declared.ids.Step.TheVariants.{Bound, Name}, Tables.{IsOf, term_at}, Terms.{member_count}};
 ghost use Rattle.swreq_correspondence.specs.swreq_derive.Derivation.{HasParam};
 ghost use Rattle.swreq_correspondence.specs.{Shown.{ShowsValid}, Symbols.{start}};
-ghost use Rattle.swreq_world.specs.{ByTable.{world_by}, Closed.{AreIds, IsStepOf}};
-ghost use Rattle.swreq_symbols.specs.{Fronts.{without}, Known.{IsTextOver, IsTypeIn}, Meaning.{facts_of, symbols_of}, Overs.{source_over}, Readings.{IsReadAs}, Vanishing.{HasStep, IsLeastBy, Links}};
+ghost use Rattle.swreq_world.specs.Closed.{IsStepOf};
+ghost use Rattle.swreq_symbols.specs.{Fronts.{without}, Meaning.{facts_of, symbols_of}, Overs.{source_over}, Readings.{IsReadAs}, Texts.{IsTypeOfText, world_of, term_of}, Vanishing.{HasStep, IsLeastBy, Links}};
 
 use crate::behind::first_behind;
 use crate::over::Over;
 use crate::reading::Reading;
+use crate::text::Text;
 use crate::words::{start_of, symbol_of};
 use swreq_complete::CompleteRules;
 use swreq_complete::word::Symbol;
@@ -46,41 +49,40 @@ fn has_name(
 
 /// Whether the protocol of the associated type vanishes after the word.
 fn has_assoc(
-    world: &World,
+    text: &Text<'_>,
     rules: &CompleteRules<'_>,
     word: &[Symbol],
     d: AssocId,
     test: &mut Vec<Symbol>,
 ) -> bool
-    requires ids { AreIds world.now.lexicon }
-    requires assoc { d.rank < length world.now.lexicon.associated }
+    requires assoc { d.rank < length text.now.world.now.lexicon.associated }
     requires least { IsLeastBy rules.now word.now }
     requires fits { length word.now + 1 ≤ vec_capacity test.old }
-    ensures answer { IsTrue result ↔ HasStep world.now.lexicon rules.now word.now (Bound d) }
+    ensures answer { IsTrue result ↔ HasStep text.now.world.now.lexicon rules.now word.now
+        (Bound d) }
     ensures room { vec_capacity test.old ≤ vec_capacity test.new }
 {
-    let declared = world.assoc(d);
+    let declared = text.world.assoc(d);
     vanishes(rules, word, Symbol::Proto(declared.proto.rank), test)
 }
 
 /// Whether the step can follow the word.
 fn has_step(
-    world: &World,
+    text: &Text<'_>,
     rules: &CompleteRules<'_>,
     word: &[Symbol],
     step: Step,
     test: &mut Vec<Symbol>,
 ) -> bool
-    requires ids { AreIds world.now.lexicon }
-    requires step { IsStepOf world.now.lexicon step }
+    requires step { IsStepOf text.now.world.now.lexicon step }
     requires least { IsLeastBy rules.now word.now }
     requires fits { length word.now + 1 ≤ vec_capacity test.old }
-    ensures answer { IsTrue result ↔ HasStep world.now.lexicon rules.now word.now step }
+    ensures answer { IsTrue result ↔ HasStep text.now.world.now.lexicon rules.now word.now step }
     ensures room { vec_capacity test.old ≤ vec_capacity test.new }
 {
     match step {
-        Step::Bound(d) => has_assoc(world, rules, word, d, test),
-        Step::Name(a) => has_name(world, rules, word, a, test),
+        Step::Bound(d) => has_assoc(text, rules, word, d, test),
+        Step::Name(a) => has_name(text.world, rules, word, a, test),
     }
 }
 
@@ -124,30 +126,29 @@ fn add_member(
     word: &mut Vec<Symbol>,
     test: &mut Vec<Symbol>,
 ) -> bool
-    requires text { IsTextOver reading.now.table.now reading.now.world.now }
-    requires t { IsTypeIn reading.now.table.now reading.now.world.now.lexicon t }
-    requires member { 0 < member_count (term_at reading.now.table.now t) }
+    requires t { IsTypeOfText reading.now.text t }
+    requires member { 0 < member_count (term_of reading.now.text t) }
     requires base { IsReadAs reading.now
-        (without 1 (term_at reading.now.table.now t)) word.old.items }
+        (without 1 (term_of reading.now.text t)) word.old.items }
     requires fits { (vec_len word.old + 1 ≤ vec_capacity word.old)
         × (vec_len word.old + 1 ≤ vec_capacity test.old) }
-    ensures valid { IsTrue result ↔ ShowsValid (symbols_of reading.now.world.now.lexicon)
-        (facts_of (world_by reading.now.table.now reading.now.world.now))
+    ensures valid { IsTrue result ↔ ShowsValid (symbols_of reading.now.text.world.now.lexicon)
+        (facts_of (world_of reading.now.text))
         (source_over reading.now.over) (Links reading.now.rules.now)
-        (term_at reading.now.table.now t) }
+        (term_of reading.now.text t) }
     ensures read { OnTrue result
-        (IsReadAs reading.now (term_at reading.now.table.now t) word.new.items) }
+        (IsReadAs reading.now (term_of reading.now.text t) word.new.items) }
     ensures short { OnTrue result (vec_len word.new ≤ vec_len word.old + 1) }
     ensures room { vec_capacity word.old ≤ vec_capacity word.new }
     ensures room_test { vec_capacity test.old ≤ vec_capacity test.new }
 {
-    match reading.table.split(t) {
+    match reading.text.table.split(t) {
         None => unreachable!(),
         Some((_, step)) => {
-            if !has_step(reading.world, reading.rules, word, step, test) {
+            if !has_step(&reading.text, reading.rules, word, step, test) {
                 return false;
             }
-            append(reading.rules, word, symbol_of(reading.world, step));
+            append(reading.rules, word, symbol_of(reading.text.world, step));
             true
         }
     }
@@ -165,19 +166,18 @@ fn add_members(
     word: &mut Vec<Symbol>,
     test: &mut Vec<Symbol>,
 ) -> bool
-    requires text { IsTextOver reading.now.table.now reading.now.world.now }
-    requires t { IsTypeIn reading.now.table.now reading.now.world.now.lexicon t }
-    requires count { count ≤ member_count (term_at reading.now.table.now t) }
+    requires t { IsTypeOfText reading.now.text t }
+    requires count { count ≤ member_count (term_of reading.now.text t) }
     requires base { IsReadAs reading.now
-        (without count (term_at reading.now.table.now t)) word.old.items }
+        (without count (term_of reading.now.text t)) word.old.items }
     requires fits { (vec_len word.old + count ≤ vec_capacity word.old)
         × (vec_len word.old + count ≤ vec_capacity test.old) }
-    ensures valid { IsTrue result ↔ ShowsValid (symbols_of reading.now.world.now.lexicon)
-        (facts_of (world_by reading.now.table.now reading.now.world.now))
+    ensures valid { IsTrue result ↔ ShowsValid (symbols_of reading.now.text.world.now.lexicon)
+        (facts_of (world_of reading.now.text))
         (source_over reading.now.over) (Links reading.now.rules.now)
-        (term_at reading.now.table.now t) }
+        (term_of reading.now.text t) }
     ensures read { OnTrue result
-        (IsReadAs reading.now (term_at reading.now.table.now t) word.new.items) }
+        (IsReadAs reading.now (term_of reading.now.text t) word.new.items) }
     ensures short { OnTrue result (vec_len word.new ≤ vec_len word.old + count) }
     ensures room { vec_capacity word.old ≤ vec_capacity word.new }
     ensures room_test { vec_capacity test.old ≤ vec_capacity test.new }
@@ -189,7 +189,7 @@ fn add_members(
         return add_member(reading, t, word, test);
     }
     let half = count / 2;
-    let front = without(reading.table, t, half);
+    let front = without(reading.text.table, t, half);
     if !add_members(reading, front, count - half, word, test) {
         return false;
     }
@@ -204,24 +204,28 @@ pub fn least_word(
     word: &mut Vec<Symbol>,
     test: &mut Vec<Symbol>,
 ) -> bool
-    requires text { IsTextOver reading.now.table.now reading.now.world.now }
-    requires t { IsTypeIn reading.now.table.now reading.now.world.now.lexicon t }
-    requires fits { member_count (term_at reading.now.table.now t) + 2 ≤ vec_capacity word.old }
-    requires fits_test { member_count (term_at reading.now.table.now t) + 2
+    requires t { IsTypeOfText reading.now.text t }
+    requires fits { member_count (term_of reading.now.text t) + 2 ≤ vec_capacity word.old }
+    requires fits_test { member_count (term_of reading.now.text t) + 2
         ≤ vec_capacity test.old }
-    ensures valid { IsTrue result ↔ ShowsValid (symbols_of reading.now.world.now.lexicon)
-        (facts_of (world_by reading.now.table.now reading.now.world.now))
+    ensures valid { IsTrue result ↔ ShowsValid (symbols_of reading.now.text.world.now.lexicon)
+        (facts_of (world_of reading.now.text))
         (source_over reading.now.over) (Links reading.now.rules.now)
-        (term_at reading.now.table.now t) }
+        (term_of reading.now.text t) }
     ensures read { OnTrue result
-        (IsReadAs reading.now (term_at reading.now.table.now t) word.new.items) }
+        (IsReadAs reading.now (term_of reading.now.text t) word.new.items) }
     ensures short { OnTrue result
-        (vec_len word.new ≤ member_count (term_at reading.now.table.now t) + 1) }
+        (vec_len word.new ≤ member_count (term_of reading.now.text t) + 1) }
     ensures room { vec_capacity word.old ≤ vec_capacity word.new }
     ensures room_test { vec_capacity test.old ≤ vec_capacity test.new }
 {
-    if !begins(reading.rules, reading.over, reading.table.head(t), word) {
+    if !begins(
+        reading.rules,
+        reading.over,
+        reading.text.table.head(t),
+        word,
+    ) {
         return false;
     }
-    add_members(reading, t, reading.table.members(t), word, test)
+    add_members(reading, t, reading.text.table.members(t), word, test)
 }

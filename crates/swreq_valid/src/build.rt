@@ -1,7 +1,8 @@
 //! The rules of the protocols, where all that is written is a type parameter.
+#![tactic(auto, using(swreq_symbols::proofs::OfTexts::text_over))]
+
 ghost use Rattle.std.specs.Prelude.{◌≡◌, IfOk, length};
-ghost use Rattle.swreq_complete.specs.Limits.{AreInRange};
-ghost use Rattle.swreq_symbols.specs.{Known.{IsTextOver}, Meaning.{facts_of, symbols_of}};
+ghost use Rattle.swreq_symbols.specs.{Known.{IsTextOver}, Meaning.{facts_of, symbols_of}, Texts.{world_of}};
 ghost use Rattle.swreq_world.specs.ByTable.{world_by};
 ghost use Rattle.swreq_rounds.specs.Presents.{AreProtocolRules};
 ghost use Rattle.swreq_valid.specs.{Answers.{Answers, IsOnlyOutcome}, Keeping.{AreFlags, TellEach, TellUsable, kept_answer, kept_facts, kept_plan}, Built.{Builds, IsOnlyBuilt, Judges, protocol_rules}, Protocols.{AreRulesOf, protocols_of}, Rounds.{AreRounds, last_rules}, Sides.{IsShownIn, protocol_sides}};
@@ -14,47 +15,44 @@ use crate::sides::first_in_protocols;
 use std::alloc::{AllocError, Global};
 use swreq_complete::watch::Watch;
 use swreq_complete::{Failed, Limits};
+use swreq_symbols::Text;
 use swreq_world::World;
 use swreq_world::param::ParamTable;
 
 /// The rules of the protocols that these rounds found, with the requirements that they show usable.
 fn with_usable(
     alloc: Global,
-    world: &World,
-    table: &ParamTable,
+    text: &Text<'_>,
     rounds: Rounds<'static>,
 ) -> Result<Protocols, AllocError>
-    requires { IsTextOver table.now world.now }
     ensures same { IfOk result (λ p. p.rounds ≡ rounds.entry) }
     ensures usable { IfOk result
-        (λ p. TellEach (world_by table.now world.now) (last_rules rounds.entry) p.usable
-        (length world.now.lexicon.protocols)) }
+        (λ p. TellEach (world_of text.now) (last_rules rounds.entry) p.usable
+        (length text.now.world.now.lexicon.protocols)) }
 {
-    let usable = usable_lists(alloc, world, table, rounds.last())?;
+    let usable = usable_lists(alloc, text, rounds.last())?;
     Ok(Protocols::new(rounds, usable))
 }
 
 /// The rules of the protocols that these rounds found, if they show each side valid.
 fn judge_protocols(
     alloc: Global,
-    world: &World,
-    table: &ParamTable,
+    text: &Text<'_>,
     rounds: Rounds<'static>,
 ) -> Result<Protocols, Refused>
-    requires { IsTextOver table.now world.now }
-    ensures judged { Judges (IsShownIn (world_by table.now world.now) (last_rules rounds.entry))
-        (protocol_sides (world_by table.now world.now))
+    ensures judged { Judges (IsShownIn (world_of text.now) (last_rules rounds.entry))
+        (protocol_sides (world_of text.now))
         (last_rules rounds.entry) (protocol_rules result) }
     ensures same { IfOk result (λ p. p.rounds ≡ rounds.entry) }
     ensures usable { IfOk result
-        (λ p. TellEach (world_by table.now world.now) (last_rules rounds.entry) p.usable
-        (length world.now.lexicon.protocols)) }
+        (λ p. TellEach (world_of text.now) (last_rules rounds.entry) p.usable
+        (length text.now.world.now.lexicon.protocols)) }
 {
-    let found = first_in_protocols(alloc, world, table, rounds.last())?;
+    let found = first_in_protocols(alloc, text, rounds.last())?;
     match found {
         Some(at) => Err(Refused::NotATypeParameter { at }),
         None => {
-            let protocols = with_usable(alloc, world, table, rounds)?;
+            let protocols = with_usable(alloc, text, rounds)?;
             Ok(protocols)
         }
     }
@@ -74,7 +72,6 @@ impl Protocols {
         watch: &mut W,
     ) -> Result<Protocols, Refused>
         requires text { IsTextOver table.now world.now }
-        requires limits { AreInRange limits }
         ensures answer { Builds limits (protocols_of (world_by table.now world.now))
             (facts_of (world_by table.now world.now))
             (protocol_sides (world_by table.now world.now))
@@ -90,8 +87,9 @@ impl Protocols {
         ensures usable { IfOk result (λ p. TellUsable (world_by table.now world.now)
             (facts_of (world_by table.now world.now)) p.usable) }
     {
-        let rounds = complete_protocols(alloc, world, table, limits, watch)?;
-        judge_protocols(alloc, world, table, rounds)
+        let text = Text { world, table };
+        let rounds = complete_protocols(alloc, &text, limits, watch)?;
+        judge_protocols(alloc, &text, rounds)
     }
 }
 
@@ -110,7 +108,6 @@ impl Protocols {
     ) -> Result<Protocols, Failed>
         requires text { IsTextOver table.now world.now }
         requires keep { AreFlags world.now keep.now.lists }
-        requires limits { AreInRange limits }
         ensures answer { Answers limits (kept_plan (world_by table.now world.now) keep.now.lists)
             (W.told watch.old) (W.told watch.new)
             (kept_answer result) }
@@ -124,8 +121,9 @@ impl Protocols {
         ensures usable { IfOk result (λ p. TellUsable (world_by table.now world.now) (kept_facts
             (world_by table.now world.now) keep.now.lists) p.usable) }
     {
-        let rounds = complete_kept(alloc, world, table, keep, limits, watch)?;
-        let protocols = with_usable(alloc, world, table, rounds)?;
+        let text = Text { world, table };
+        let rounds = complete_kept(alloc, &text, keep, limits, watch)?;
+        let protocols = with_usable(alloc, &text, rounds)?;
         Ok(protocols)
     }
 }

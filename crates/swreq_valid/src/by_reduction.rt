@@ -1,26 +1,27 @@
 //! What reduction by rules shows of type parameters, where the rules need not be complete.
+#![tactic(auto, using(swreq_symbols::proofs::OfTexts::text_over))]
+
 ghost use Rattle.std.specs.Prelude.{◌≡◌, ◌↔◌, ◌<◌, length, IfOk, IsTrue};
-ghost use Rattle.swreq_rounds.specs.swreq_param.{Tables.{term_at}, declared.ids.AssocId.{AssocId}, declared.ids.NameId.{NameId}, declared.ids.Step.TheVariants.{Bound, Name}};
+ghost use Rattle.swreq_rounds.specs.swreq_param.{declared.ids.AssocId.{AssocId}, declared.ids.NameId.{NameId}, declared.ids.Step.TheVariants.{Bound, Name}};
 ghost use Rattle.swreq_rounds.specs.swreq_derive.Facts.{requirement_of};
 ghost use Rattle.swreq_complete.specs.swreq_rule.Reduction.{Reduces};
 ghost use Rattle.swreq_complete.specs.Alike.{ReduceAlike};
-ghost use Rattle.swreq_symbols.specs.Known.{IsRequirementIn, IsTextOver, IsTypeIn};
-ghost use Rattle.swreq_world.specs.{ByTable.{world_by}, Closed.{IsStepOf}};
+ghost use Rattle.swreq_symbols.specs.Texts.{world_of, IsTypeOfText, IsRequirementOfText, term_of};
+ghost use Rattle.swreq_world.specs.Closed.{IsStepOf};
 ghost use Rattle.swreq_valid.specs.ByReduction.{HasStepOf, IsGivenOf, ReducesConformance, ReducesUsable, ReducesValid};
 
 use std::alloc::{AllocError, Global};
 use swreq_complete::RewritingSystem;
 use swreq_complete::word::{Symbol, are_same};
-use swreq_symbols::{Over, equation};
+use swreq_symbols::{Over, Text, equation};
 use swreq_world::World;
 use swreq_world::derive::Requirement;
-use swreq_world::param::{AssocId, NameId, ParamTable, ProtoId, Step, TermId};
+use swreq_world::param::{AssocId, NameId, ProtoId, Step, TermId};
 
 /// Over what type parameters are read, and the rules by which their words are reduced.
 #[derive(Clone, Copy)]
 pub(crate) struct ByReduction<'a, 'b> {
-    pub world: &'a World,
-    pub table: &'a ParamTable,
+    pub text: Text<'a>,
     pub rules: &'a RewritingSystem<'b>,
     pub over: Over,
 }
@@ -59,16 +60,16 @@ fn conforms(
     subject: TermId,
     proto: ProtoId,
 ) -> Result<bool, AllocError>
-    requires text { IsTextOver by.now.table.now by.now.world.now }
-    requires t { IsTypeIn by.now.table.now by.now.world.now.lexicon subject }
-    requires proto { proto.rank < length by.now.world.now.lexicon.protocols }
+    requires t { IsTypeOfText by.now.text subject }
+    requires proto { proto.rank < length by.now.text.world.now.lexicon.protocols }
     ensures { IfOk result
-        (λ b. IsTrue b ↔ ReducesConformance by.now.world.now.lexicon by.now.rules.now by.now.over
-        (term_at by.now.table.now subject) proto) }
+        (λ b. IsTrue b ↔ ReducesConformance by.now.text.world.now.lexicon by.now.rules.now
+        by.now.over
+        (term_of by.now.text subject) proto) }
 {
     let requirement = Requirement::Conf { subject, proto };
     let owner = by.over.owner();
-    let (left, right) = equation(alloc, by.world, by.table, owner, &requirement)?;
+    let (left, right) = equation(alloc, by.text.world, by.text.table, owner, &requirement)?;
     reduce_alike(alloc, by.rules, left.symbols(), right.symbols())
 }
 
@@ -79,14 +80,13 @@ fn has_assoc(
     subject: TermId,
     assoc: AssocId,
 ) -> Result<bool, AllocError>
-    requires text { IsTextOver by.now.table.now by.now.world.now }
-    requires t { IsTypeIn by.now.table.now by.now.world.now.lexicon subject }
-    requires d { assoc.rank < length by.now.world.now.lexicon.associated }
+    requires t { IsTypeOfText by.now.text subject }
+    requires d { assoc.rank < length by.now.text.world.now.lexicon.associated }
     ensures { IfOk result
-        (λ b. IsTrue b ↔ HasStepOf by.now.world.now.lexicon by.now.rules.now by.now.over
-        (term_at by.now.table.now subject) (Bound assoc)) }
+        (λ b. IsTrue b ↔ HasStepOf by.now.text.world.now.lexicon by.now.rules.now by.now.over
+        (term_of by.now.text subject) (Bound assoc)) }
 {
-    let declared = by.world.assoc(assoc);
+    let declared = by.text.world.assoc(assoc);
     conforms(alloc, by, subject, declared.proto)
 }
 
@@ -98,14 +98,13 @@ fn is_given(
     name: NameId,
     assoc: AssocId,
 ) -> Result<bool, AllocError>
-    requires text { IsTextOver by.now.table.now by.now.world.now }
-    requires t { IsTypeIn by.now.table.now by.now.world.now.lexicon subject }
-    requires d { assoc.rank < length by.now.world.now.lexicon.associated }
+    requires t { IsTypeOfText by.now.text subject }
+    requires d { assoc.rank < length by.now.text.world.now.lexicon.associated }
     ensures { IfOk result
-        (λ b. IsTrue b ↔ IsGivenOf by.now.world.now.lexicon by.now.rules.now by.now.over
-        (term_at by.now.table.now subject) name assoc) }
+        (λ b. IsTrue b ↔ IsGivenOf by.now.text.world.now.lexicon by.now.rules.now by.now.over
+        (term_of by.now.text subject) name assoc) }
 {
-    let declared = by.world.assoc(assoc);
+    let declared = by.text.world.assoc(assoc);
     if declared.name.rank == name.rank {
         conforms(alloc, by, subject, declared.proto)
     } else {
@@ -127,13 +126,12 @@ fn has_name(
     subject: TermId,
     name: NameId,
 ) -> Result<bool, AllocError>
-    requires text { IsTextOver by.now.table.now by.now.world.now }
-    requires t { IsTypeIn by.now.table.now by.now.world.now.lexicon subject }
+    requires t { IsTypeOfText by.now.text subject }
     ensures { IfOk result
-        (λ b. IsTrue b ↔ HasStepOf by.now.world.now.lexicon by.now.rules.now by.now.over
-        (term_at by.now.table.now subject) (Name name)) }
+        (λ b. IsTrue b ↔ HasStepOf by.now.text.world.now.lexicon by.now.rules.now by.now.over
+        (term_of by.now.text subject) (Name name)) }
 {
-    for rank in 0..associated(by.world) {
+    for rank in 0..associated(by.text.world) {
         if is_given(alloc, by, subject, name, AssocId { rank })? {
             return Ok(true);
         }
@@ -148,12 +146,11 @@ fn has_step(
     subject: TermId,
     step: Step,
 ) -> Result<bool, AllocError>
-    requires text { IsTextOver by.now.table.now by.now.world.now }
-    requires t { IsTypeIn by.now.table.now by.now.world.now.lexicon subject }
-    requires step { IsStepOf by.now.world.now.lexicon step }
+    requires t { IsTypeOfText by.now.text subject }
+    requires step { IsStepOf by.now.text.world.now.lexicon step }
     ensures { IfOk result
-        (λ b. IsTrue b ↔ HasStepOf by.now.world.now.lexicon by.now.rules.now by.now.over
-        (term_at by.now.table.now subject) step) }
+        (λ b. IsTrue b ↔ HasStepOf by.now.text.world.now.lexicon by.now.rules.now by.now.over
+        (term_of by.now.text subject) step) }
 {
     match step {
         Step::Bound(d) => has_assoc(alloc, by, subject, d),
@@ -163,14 +160,13 @@ fn has_step(
 
 /// Whether reduction shows that a type parameter is valid.
 fn is_valid(alloc: Global, by: &ByReduction<'_, '_>, subject: TermId) -> Result<bool, AllocError>
-    requires text { IsTextOver by.now.table.now by.now.world.now }
-    requires t { IsTypeIn by.now.table.now by.now.world.now.lexicon subject }
+    requires t { IsTypeOfText by.now.text subject }
     ensures { IfOk result (λ b. IsTrue b
-        ↔ ReducesValid (world_by by.now.table.now by.now.world.now) by.now.rules.now by.now.over
-        (term_at by.now.table.now subject)) }
+        ↔ ReducesValid (world_of by.now.text) by.now.rules.now by.now.over
+        (term_of by.now.text subject)) }
 {
-    match by.table.split(subject) {
-        None => Ok(by.over.has(by.table.head(subject))),
+    match by.text.table.split(subject) {
+        None => Ok(by.over.has(by.text.table.head(subject))),
         Some((base, step)) => {
             if is_valid(alloc, by, base)? {
                 has_step(alloc, by, base, step)
@@ -187,11 +183,10 @@ pub(crate) fn is_usable(
     by: &ByReduction<'_, '_>,
     requirement: Requirement,
 ) -> Result<bool, AllocError>
-    requires text { IsTextOver by.now.table.now by.now.world.now }
-    requires want { IsRequirementIn by.now.table.now by.now.world.now.lexicon requirement }
+    requires want { IsRequirementOfText by.now.text requirement }
     ensures { IfOk result (λ b. IsTrue b
-        ↔ ReducesUsable (world_by by.now.table.now by.now.world.now) by.now.rules.now by.now.over
-        (requirement_of by.now.table.now requirement)) }
+        ↔ ReducesUsable (world_of by.now.text) by.now.rules.now by.now.over
+        (requirement_of by.now.text.table.now requirement)) }
 {
     match requirement {
         Requirement::Conf { subject, .. } => is_valid(alloc, by, subject),

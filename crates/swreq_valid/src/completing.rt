@@ -1,10 +1,12 @@
 //! The equations of a round, and the rules to which they complete.
+#![tactic(auto, using(swreq_symbols::proofs::OfTexts::text_over))]
+
 ghost use Rattle.std.specs.{Prelude.{◌≡◌, List, [], ◌∷◌, ◌++◌, length, IfOk, OnOk, vec_len}, Bool.{if◌then◌else◌}};
 ghost use Rattle.swreq_rounds.specs.swreq_derive.Derivation.{TermRequirement};
 ghost use Rattle.swreq_complete.specs.swreq_rule.declared.rules.Rule.{Rule};
-ghost use Rattle.swreq_complete.specs.{Answers.{IsAnswer}, Events.{TellsEvents}, Limits.{AreInRange}};
+ghost use Rattle.swreq_complete.specs.{Answers.{IsAnswer}, Events.{TellsEvents}};
 ghost use Rattle.swreq_rounds.specs.Plan.{equation_of, given};
-ghost use Rattle.swreq_symbols.specs.{Known.{IsRequirementIn, IsTextOver}, Meaning.{symbols_of}};
+ghost use Rattle.swreq_symbols.specs.{Meaning.{symbols_of}, Texts.{IsRequirementOfText}};
 ghost use Rattle.swreq_valid.specs.{Flags.{chosen}, Plans.{AreWanted, item_of, items_of, plan_of}, Rounds.{first_rules}};
 
 use crate::wanted::{RoundRequirement, RoundStart};
@@ -13,8 +15,6 @@ use swreq_complete::watch::Watch;
 use swreq_complete::word::Word;
 use swreq_complete::{CompleteRules, Failed, extend};
 use swreq_symbols::{Text, equation};
-use swreq_world::World;
-use swreq_world::param::ParamTable;
 
 /// Copies of the equations, in order.
 fn copies(alloc: Global, equations: &[(Word, Word)]) -> Result<Vec<(Word, Word)>, AllocError>
@@ -32,20 +32,24 @@ fn copies(alloc: Global, equations: &[(Word, Word)]) -> Result<Vec<(Word, Word)>
 /// Puts the equation of the requirement last, where its flag is set.
 fn join(
     alloc: Global,
-    world: &World,
-    table: &ParamTable,
+    text: &Text<'_>,
     want: &RoundRequirement,
     used: bool,
     equations: &mut Vec<(Word, Word)>,
 ) -> Result<(), AllocError>
-    requires text { IsTextOver table.now world.now }
-    requires want { IsRequirementIn table.now world.now.lexicon want.now.requirement }
+    requires want { IsRequirementOfText text.now want.now.requirement }
     ensures { OnOk result ((rs : List TermRequirement) → equations.new.items
-        ≡ equations.old.items ++ (if used then equation_of (symbols_of world.now.lexicon)
-        (item_of table.now rs want.now) ∷ [] else [])) }
+        ≡ equations.old.items ++ (if used then equation_of (symbols_of text.now.world.now.lexicon)
+        (item_of text.now.table.now rs want.now) ∷ [] else [])) }
 {
     if used {
-        let e = equation(alloc, world, table, want.over.owner(), &want.requirement)?;
+        let e = equation(
+            alloc,
+            text.world,
+            text.table,
+            want.over.owner(),
+            &want.requirement,
+        )?;
         equations.push(e)?;
     }
     Ok(())
@@ -54,22 +58,21 @@ fn join(
 /// The equations of the round that uses the requirements whose flags are set.
 pub(crate) fn given_by(
     alloc: Global,
-    world: &World,
-    table: &ParamTable,
+    text: &Text<'_>,
     start: &RoundStart,
     used: &[bool],
 ) -> Result<Vec<(Word, Word)>, AllocError>
-    requires text { IsTextOver table.now world.now }
-    requires wanted { AreWanted table.now world.now.lexicon start.now.all.items }
+    requires wanted { AreWanted text.now.table.now text.now.world.now.lexicon start.now.all.items }
     requires flags { length used.now ≡ vec_len start.now.all }
     ensures { (base : List Rule)
-        → IfOk result (λ v. v.items ≡ given (plan_of world.now table.now base start.now) (chosen
-        (items_of table.now start.now.all.items) used.now)) }
+        → IfOk result (λ v. v.items ≡ given (plan_of text.now.world.now text.now.table.now base
+        start.now) (chosen
+        (items_of text.now.table.now start.now.all.items) used.now)) }
 {
     let mut v = copies(alloc, &start.basic)?;
     for k in 0..start.all.len() {
         let want = &start.all[k];
-        join(alloc, world, table, want, used[k], &mut v)?;
+        join(alloc, text, want, used[k], &mut v)?;
     }
     Ok(v)
 }
@@ -96,8 +99,6 @@ pub(crate) fn complete<'b, W: Watch>(
     used: &[bool],
     watch: &mut W,
 ) -> Result<CompleteRules<'b>, Failed>
-    requires text { IsTextOver text.now.table.now text.now.world.now }
-    requires limits { AreInRange start.now.limits }
     requires wanted { AreWanted text.now.table.now text.now.world.now.lexicon start.now.all.items }
     requires flags { length used.now ≡ vec_len start.now.all }
     ensures answer { IsAnswer start.now.limits (first_rules below.entry)
@@ -108,7 +109,7 @@ pub(crate) fn complete<'b, W: Watch>(
         (chosen (items_of text.now.table.now start.now.all.items) used.now))
         (W.told watch.old) (W.told watch.new) result }
 {
-    let equations = given_by(alloc, text.world, text.table, start, used)?;
+    let equations = given_by(alloc, text, start, used)?;
     let first = first_rules(alloc, below)?;
     extend(alloc, first, &equations, start.limits, watch)
 }

@@ -1,9 +1,9 @@
 //! Which requirements the next round uses.
+#![tactic(auto, using(swreq_symbols::proofs::OfTexts::text_over))]
+
 ghost use Rattle.std.specs.Prelude.{◌≡◌, List, [], length, Contains, IfOk, MatchOption, vec_len};
 ghost use Rattle.swreq_complete.specs.swreq_rule.declared.rules.Rule.{Rule};
-ghost use Rattle.swreq_complete.specs.Limits.{AreInRange};
 ghost use Rattle.swreq_rounds.specs.{Plan.{AreShown, AreShownByReduction, Item}, Rounds.{IsClosed}};
-ghost use Rattle.swreq_symbols.specs.Known.{IsTextOver};
 ghost use Rattle.swreq_valid.specs.{Flags.{Tells, TellsMore, chosen}, Plans.{AreWanted, items_of, plan_of}, Rounds.{AreJoined, first_rules}, Underway.{AreByItem}};
 
 use crate::by_reduction;
@@ -16,35 +16,33 @@ use crate::wanted::RoundStart;
 use std::alloc::{AllocError, Global};
 use swreq_complete::{CompleteRules, Failed, RewritingSystem, bear};
 use swreq_symbols::Text;
-use swreq_world::World;
-use swreq_world::param::ParamTable;
 
 /// The flags of the next round after one that used these requirements and ended with these rules, or None where there is no next
 /// round, since the rules show no other requirements usable. A round that uses all requirements shows all usable, and is the last.
 pub(crate) fn next_used(
     alloc: Global,
-    world: &World,
-    table: &ParamTable,
+    text: &Text<'_>,
     start: &RoundStart,
     used: &[bool],
     rules: &CompleteRules<'_>,
 ) -> Result<Option<Vec<bool>>, AllocError>
-    requires text { IsTextOver table.now world.now }
-    requires wanted { AreWanted table.now world.now.lexicon start.now.all.items }
+    requires wanted { AreWanted text.now.table.now text.now.world.now.lexicon start.now.all.items }
     requires flags { length used.now ≡ vec_len start.now.all }
     requires shown { (x : Item)
-        → Contains (chosen (items_of table.now start.now.all.items) used.now) x → AreShown
-        (plan_of world.now table.now [] start.now) rules.now x }
+        → Contains (chosen (items_of text.now.table.now start.now.all.items) used.now) x → AreShown
+        (plan_of text.now.world.now text.now.table.now [] start.now) rules.now x }
     ensures { IfOk result (λ next. MatchOption next
-        (Tells (AreShown (plan_of world.now table.now [] start.now) rules.now)
-        (items_of table.now start.now.all.items) used.now)
-        (λ flags. Tells (AreShown (plan_of world.now table.now [] start.now) rules.now)
-        (items_of table.now start.now.all.items) flags.items × (flags.items ≡ used.now → ⊥))) }
+        (Tells (AreShown (plan_of text.now.world.now text.now.table.now [] start.now) rules.now)
+        (items_of text.now.table.now start.now.all.items) used.now)
+        (λ flags. Tells (AreShown (plan_of text.now.world.now text.now.table.now [] start.now)
+        rules.now)
+        (items_of text.now.table.now start.now.all.items) flags.items ×
+        (flags.items ≡ used.now → ⊥))) }
 {
     if are_set(used) {
         return Ok(None);
     }
-    let flags = usable(alloc, world, table, start, rules)?;
+    let flags = usable(alloc, text, start, rules)?;
     if are_same(&flags, used) {
         Ok(None)
     } else {
@@ -59,7 +57,6 @@ fn shown_by_reduction(
     start: &RoundStart,
     rules: &RewritingSystem<'_>,
 ) -> Result<Vec<bool>, AllocError>
-    requires text { IsTextOver text.now.table.now text.now.world.now }
     requires wanted { AreWanted text.now.table.now text.now.world.now.lexicon start.now.all.items }
     ensures { (base : List Rule) → IfOk result (λ v. Tells (AreShownByReduction
         (plan_of text.now.world.now text.now.table.now base start.now) rules.now)
@@ -69,8 +66,7 @@ fn shown_by_reduction(
     for k in 0..start.all.len() {
         let want = &start.all[k];
         let by = ByReduction {
-            world: text.world,
-            table: text.table,
+            text: *text,
             rules,
             over: want.over,
         };
@@ -88,7 +84,6 @@ fn joined_by<'b>(
     used: &[bool],
     rules: RewritingSystem<'b>,
 ) -> Result<Option<Joined<'b>>, AllocError>
-    requires text { IsTextOver text.now.table.now text.now.world.now }
     requires wanted { AreWanted text.now.table.now text.now.world.now.lexicon start.now.all.items }
     requires flags { length used.now ≡ vec_len start.now.all }
     ensures { (base : List Rule) → IfOk result (λ o. MatchOption o
@@ -118,8 +113,6 @@ pub(crate) fn joined<'b>(
     start: &RoundStart,
     used: &[bool],
 ) -> Result<Option<Joined<'b>>, AllocError>
-    requires text { IsTextOver text.now.table.now text.now.world.now }
-    requires limits { AreInRange start.now.limits }
     requires wanted { AreWanted text.now.table.now text.now.world.now.lexicon start.now.all.items }
     requires flags { AreByItem (items_of text.now.table.now start.now.all.items) used.now }
     ensures { IfOk result (λ o. MatchOption o
@@ -129,7 +122,7 @@ pub(crate) fn joined<'b>(
         (λ j. AreJoined start.now.limits (plan_of text.now.world.now text.now.table.now
         (first_rules below.entry) start.now) used.now j.rules j.more.items)) }
 {
-    let equations = given_by(alloc, text.world, text.table, start, used)?;
+    let equations = given_by(alloc, text, start, used)?;
     let first = first_rules(alloc, below)?;
     match bear(alloc, first, &equations, start.limits) {
         Ok(rules) => joined_by(alloc, text, start, used, rules),

@@ -1,9 +1,10 @@
 //! The rules of the protocols by a part of their requirements, and which requirements are usable by them.
+#![tactic(auto, using(swreq_symbols::proofs::OfTexts::text_over))]
+
 ghost use Rattle.std.specs.{Prelude.{◌≡◌, ◌<◌, ◌++◌, ◌∷◌, [], IfOk, OnOk, length, map}, Bool.{if◌then◌else◌}};
-ghost use Rattle.swreq_complete.specs.Limits.{AreInRange};
 ghost use Rattle.swreq_rounds.specs.Presents.{AreProtocolRules};
-ghost use Rattle.swreq_symbols.specs.{Known.{IsTextOver}, Meaning.{facts_of, symbols_of}};
-ghost use Rattle.swreq_world.specs.{ByTable.{world_by}, Closed.{AreIds}};
+ghost use Rattle.swreq_symbols.specs.{Meaning.{facts_of, symbols_of}, Texts.{world_of}};
+ghost use Rattle.swreq_world.specs.Closed.{AreIds};
 ghost use Rattle.swreq_valid.specs.{Answers.{Answers, IsOnlyOutcome}, Flags.{Tells, chosen}, Keeping.{AreFlags, IsUsableBy, TellEach, kept_facts, kept_in, kept_plan}, Plans.{in_protocol}, Rounds.{AreRounds, last_rules, rules_of}};
 
 use crate::basic::basic;
@@ -15,11 +16,11 @@ use crate::wanted::{RoundRequirement, RoundStart};
 use std::alloc::{AllocError, Global};
 use swreq_complete::watch::Watch;
 use swreq_complete::{CompleteRules, Failed, Limits};
-use swreq_symbols::Over;
+use swreq_symbols::{Over, Text};
 use swreq_text::Seq;
 use swreq_world::World;
 use swreq_world::derive::Requirement;
-use swreq_world::param::{ParamTable, ProtoId};
+use swreq_world::param::ProtoId;
 
 /// Which requirements of the protocols are kept: for each protocol, in written order, a flag for each of its requirements.
 #[derive(Drop)]
@@ -91,83 +92,75 @@ fn kept_requirements(
 /// Runs the rounds of the protocols with the kept requirements and all basic equations.
 fn run_kept<W: Watch>(
     alloc: Global,
-    world: &World,
-    table: &ParamTable,
+    text: &Text<'_>,
     keep: &Kept,
     limits: Limits,
     watch: &mut W,
 ) -> Result<Rounds<'static>, Failed>
-    requires text { IsTextOver table.now world.now }
-    requires keep { AreFlags world.now keep.now.lists }
-    requires limits { AreInRange limits }
-    ensures answer { Answers limits (kept_plan (world_by table.now world.now) keep.now.lists)
+    requires keep { AreFlags text.now.world.now keep.now.lists }
+    ensures answer { Answers limits (kept_plan (world_of text.now) keep.now.lists)
         (W.told watch.old) (W.told watch.new)
         (rules_of result) }
     ensures only { IsOnlyOutcome limits
-        (kept_plan (world_by table.now world.now) keep.now.lists) (rules_of result) }
+        (kept_plan (world_of text.now) keep.now.lists) (rules_of result) }
     ensures rounds { IfOk result
-        (AreRounds limits (kept_plan (world_by table.now world.now) keep.now.lists)) }
+        (AreRounds limits (kept_plan (world_of text.now) keep.now.lists)) }
     ensures rules { IfOk result
-        (λ rounds. AreProtocolRules (symbols_of world.now.lexicon) (kept_facts
-        (world_by table.now world.now) keep.now.lists) (last_rules rounds)) }
+        (λ rounds. AreProtocolRules (symbols_of text.now.world.now.lexicon) (kept_facts
+        (world_of text.now) keep.now.lists) (last_rules rounds)) }
 {
-    let basic = basic(alloc, world)?;
-    let all = kept_requirements(alloc, world, keep)?;
+    let basic = basic(alloc, text.world)?;
+    let all = kept_requirements(alloc, text.world, keep)?;
     let start = RoundStart { basic, all, limits };
-    run_rounds(alloc, world, table, None, &start, watch)
+    run_rounds(alloc, text.world, text.table, None, &start, watch)
 }
 
 /// Runs the rounds of the protocols with the kept requirements.
 pub(crate) fn complete_kept<W: Watch>(
     alloc: Global,
-    world: &World,
-    table: &ParamTable,
+    text: &Text<'_>,
     keep: &Kept,
     limits: Limits,
     watch: &mut W,
 ) -> Result<Rounds<'static>, Failed>
-    requires text { IsTextOver table.now world.now }
-    requires keep { AreFlags world.now keep.now.lists }
-    requires limits { AreInRange limits }
-    ensures answer { Answers limits (kept_plan (world_by table.now world.now) keep.now.lists)
+    requires keep { AreFlags text.now.world.now keep.now.lists }
+    ensures answer { Answers limits (kept_plan (world_of text.now) keep.now.lists)
         (W.told watch.old) (W.told watch.new)
         (rules_of result) }
     ensures only { IsOnlyOutcome limits
-        (kept_plan (world_by table.now world.now) keep.now.lists) (rules_of result) }
+        (kept_plan (world_of text.now) keep.now.lists) (rules_of result) }
     ensures rounds { IfOk result
-        (AreRounds limits (kept_plan (world_by table.now world.now) keep.now.lists)) }
+        (AreRounds limits (kept_plan (world_of text.now) keep.now.lists)) }
     ensures rules { IfOk result
-        (λ rounds. AreProtocolRules (symbols_of world.now.lexicon) (kept_facts
-        (world_by table.now world.now) keep.now.lists) (last_rules rounds)) }
+        (λ rounds. AreProtocolRules (symbols_of text.now.world.now.lexicon) (kept_facts
+        (world_of text.now) keep.now.lists) (last_rules rounds)) }
 {
-    match limit_of_basic(alloc, world, limits, watch) {
+    match limit_of_basic(alloc, text.world, limits, watch) {
         Some(failed) => Err(failed),
-        None => run_kept(alloc, world, table, keep, limits, watch),
+        None => run_kept(alloc, text, keep, limits, watch),
     }
 }
 
 /// Which requirements of the protocol the rules show usable, by a flag for each.
 fn usable_of(
     alloc: Global,
-    world: &World,
-    table: &ParamTable,
+    text: &Text<'_>,
     rules: &CompleteRules<'_>,
     protocol: ProtoId,
 ) -> Result<Vec<bool>, AllocError>
-    requires text { IsTextOver table.now world.now }
-    requires p { protocol.rank < length world.now.lexicon.protocols }
+    requires p { protocol.rank < length text.now.world.now.lexicon.protocols }
     ensures { IfOk result
-        (λ v. Tells (IsUsableBy (world_by table.now world.now) rules.now protocol) ((facts_of
-        (world_by table.now world.now)).of_protocol protocol) v.items) }
+        (λ v. Tells (IsUsableBy (world_of text.now) rules.now protocol) ((facts_of
+        (world_of text.now)).of_protocol protocol) v.items) }
 {
     let mut flags = Vec::new(alloc);
-    let list = world.bare_requirements(protocol);
+    let list = text.world.bare_requirements(protocol);
     for k in 0..list.len() {
         let requirement = list[k];
         let shown = is_usable(
             alloc,
-            world,
-            table,
+            text.world,
+            text.table,
             rules,
             Over::Protocol(protocol),
             requirement,
@@ -180,17 +173,15 @@ fn usable_of(
 /// Which requirements of each protocol are usable, by rank of the protocol.
 pub(crate) fn usable_lists(
     alloc: Global,
-    world: &World,
-    table: &ParamTable,
+    text: &Text<'_>,
     rules: &CompleteRules<'_>,
 ) -> Result<Vec<Seq<bool>>, AllocError>
-    requires { IsTextOver table.now world.now }
-    ensures { IfOk result (λ v. TellEach (world_by table.now world.now) rules.now v.items
-        (length world.now.lexicon.protocols)) }
+    ensures { IfOk result (λ v. TellEach (world_of text.now) rules.now v.items
+        (length text.now.world.now.lexicon.protocols)) }
 {
     let mut lists: Vec<Seq<bool>> = Vec::new(alloc);
-    for rank in 0..world.protocols() {
-        let flags = usable_of(alloc, world, table, rules, ProtoId { rank })?;
+    for rank in 0..text.world.protocols() {
+        let flags = usable_of(alloc, text, rules, ProtoId { rank })?;
         let list = Seq::new(flags);
         lists.push(list)?;
     }

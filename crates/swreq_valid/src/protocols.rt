@@ -1,9 +1,10 @@
 //! The rules of the protocols of a text.
+#![tactic(auto, using(swreq_symbols::proofs::OfTexts::text_over))]
+
 ghost use Rattle.std.specs.Prelude.{◌≡◌, ◌↔◌, IfOk, IsTrue, false, slice_index_or};
 ghost use Rattle.swreq_rounds.specs.swreq_derive.{Derivation.{TermFacts, TermRequirement}, Derivation.Source.{SelfOf}, WellFormed.{HasValidSides}};
-ghost use Rattle.swreq_complete.specs.Limits.{AreInRange};
-ghost use Rattle.swreq_symbols.specs.Known.{IsTextOver};
-ghost use Rattle.swreq_world.specs.{ByTable.{world_by}, Worlds.{TextWorld}};
+ghost use Rattle.swreq_symbols.specs.Texts.{world_of};
+ghost use Rattle.swreq_world.specs.Worlds.{TextWorld};
 ghost use Rattle.swreq_valid.specs.{Answers.{Answers, IsOnlyOutcome}, Keeping.{HasNumber, TellUsable, flag_at, flag_with}, Protocols.{AreRulesOf, protocols_of}, Rounds.{AreRounds, last_rules, rules_of}};
 
 use crate::basic::{basic, requirements};
@@ -15,9 +16,9 @@ use std::alloc::{AllocError, Global};
 use std::marker::Model;
 use swreq_complete::watch::Watch;
 use swreq_complete::{CompleteRules, Failed, Limits};
+use swreq_symbols::Text;
 use swreq_text::Seq;
-use swreq_world::World;
-use swreq_world::param::{ParamTable, ProtoId};
+use swreq_world::param::ProtoId;
 
 /// The rules of the protocols of a text, and the rounds that found them.
 #[derive(Drop)]
@@ -97,47 +98,41 @@ fn flag_at_place(flags: &[bool], place: usize) -> bool
 /// Runs the rounds of the protocols with all basic equations.
 fn run_protocols<W: Watch>(
     alloc: Global,
-    world: &World,
-    table: &ParamTable,
+    text: &Text<'_>,
     limits: Limits,
     watch: &mut W,
 ) -> Result<Rounds<'static>, Failed>
-    requires text { IsTextOver table.now world.now }
-    requires limits { AreInRange limits }
-    ensures answer { Answers limits (protocols_of (world_by table.now world.now)) (W.told watch.old)
+    ensures answer { Answers limits (protocols_of (world_of text.now)) (W.told watch.old)
         (W.told watch.new) (rules_of result) }
     ensures only { IsOnlyOutcome limits
-        (protocols_of (world_by table.now world.now)) (rules_of result) }
-    ensures rounds { IfOk result (AreRounds limits (protocols_of (world_by table.now world.now))) }
+        (protocols_of (world_of text.now)) (rules_of result) }
+    ensures rounds { IfOk result (AreRounds limits (protocols_of (world_of text.now))) }
     ensures rules { IfOk result
-        (λ rounds. AreRulesOf (world_by table.now world.now) (last_rules rounds)) }
+        (λ rounds. AreRulesOf (world_of text.now) (last_rules rounds)) }
 {
-    let basic = basic(alloc, world)?;
-    let all = requirements(alloc, world)?;
+    let basic = basic(alloc, text.world)?;
+    let all = requirements(alloc, text.world)?;
     let start = RoundStart { basic, all, limits };
-    run_rounds(alloc, world, table, None, &start, watch)
+    run_rounds(alloc, text.world, text.table, None, &start, watch)
 }
 
 /// Runs the rounds of the protocols.
 pub(crate) fn complete_protocols<W: Watch>(
     alloc: Global,
-    world: &World,
-    table: &ParamTable,
+    text: &Text<'_>,
     limits: Limits,
     watch: &mut W,
 ) -> Result<Rounds<'static>, Failed>
-    requires text { IsTextOver table.now world.now }
-    requires limits { AreInRange limits }
-    ensures answer { Answers limits (protocols_of (world_by table.now world.now)) (W.told watch.old)
+    ensures answer { Answers limits (protocols_of (world_of text.now)) (W.told watch.old)
         (W.told watch.new) (rules_of result) }
     ensures only { IsOnlyOutcome limits
-        (protocols_of (world_by table.now world.now)) (rules_of result) }
-    ensures rounds { IfOk result (AreRounds limits (protocols_of (world_by table.now world.now))) }
+        (protocols_of (world_of text.now)) (rules_of result) }
+    ensures rounds { IfOk result (AreRounds limits (protocols_of (world_of text.now))) }
     ensures rules { IfOk result
-        (λ rounds. AreRulesOf (world_by table.now world.now) (last_rules rounds)) }
+        (λ rounds. AreRulesOf (world_of text.now) (last_rules rounds)) }
 {
-    match limit_of_basic(alloc, world, limits, watch) {
+    match limit_of_basic(alloc, text.world, limits, watch) {
         Some(failed) => Err(failed),
-        None => run_protocols(alloc, world, table, limits, watch),
+        None => run_protocols(alloc, text, limits, watch),
     }
 }

@@ -21,7 +21,11 @@ impl<'b> Model for Round<'b> {
 
     ghost Value = { RoundView };
 
-    ghost view = { λ r. record { used = r.used; told = told_by r.course; rules = rules_by r.course } };
+    ghost view = { λ r. record {
+      used = r.used;
+      told = told_by r.course;
+      rules = rules_by r.course;
+    } };
 }
 
 impl<'b> Round<'b> {

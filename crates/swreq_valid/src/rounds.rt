@@ -1,6 +1,7 @@
 //! The run of rounds.
+#![tactic(auto, using(swreq_symbols::proofs::OfTexts::text_over))]
+
 ghost use Rattle.std.specs.Prelude.{List, IfOk};
-ghost use Rattle.swreq_complete.specs.Limits.{AreInRange};
 ghost use Rattle.swreq_complete.specs.swreq_watch.declared.events.Event.{Event};
 ghost use Rattle.swreq_symbols.specs.Known.{IsTextOver};
 ghost use Rattle.swreq_valid.specs.{Answers.{Answers, IsOnlyOutcome}, Plans.{AreWanted, plan_of}, Rounds.{AreRounds, first_rules, rules_of}, Underway.{IsDueNow, IsTaken, IsUnderway}};
@@ -28,8 +29,6 @@ fn completed<'b, W: Watch>(
     state: Underway<'b>,
     watch: &mut W,
 ) -> Result<Turn<'b>, Failed>
-    requires text { IsTextOver text.now.table.now text.now.world.now }
-    requires limits { AreInRange start.now.limits }
     requires wanted { AreWanted text.now.table.now text.now.world.now.lexicon start.now.all.items }
     requires underway { (told : List Event)
         × IsUnderway start.now.limits
@@ -61,8 +60,6 @@ fn turn<'b, W: Watch>(
     state: Underway<'b>,
     watch: &mut W,
 ) -> Result<Turn<'b>, Failed>
-    requires text { IsTextOver text.now.table.now text.now.world.now }
-    requires limits { AreInRange start.now.limits }
     requires wanted { AreWanted text.now.table.now text.now.world.now.lexicon start.now.all.items }
     requires underway { (told : List Event)
         × IsUnderway start.now.limits
@@ -96,7 +93,6 @@ pub fn run_rounds<'b, W: Watch>(
     watch: &mut W,
 ) -> Result<Rounds<'b>, Failed>
     requires text { IsTextOver table.now world.now }
-    requires limits { AreInRange start.now.limits }
     requires wanted { AreWanted table.now world.now.lexicon start.now.all.items }
     ensures answer { Answers start.now.limits (plan_of world.now table.now
         (first_rules below.entry) start.now) (W.told watch.old) (W.told watch.new)

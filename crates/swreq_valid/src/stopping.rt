@@ -1,6 +1,6 @@
 //! Where the basic equations alone pass a limit, so that the first of them are enough to tell which.
 ghost use Rattle.std.specs.{Prelude.{◌≡◌, ◌+◌, [], Err, IsTrue, MatchOption}, List.{list_all}};
-ghost use Rattle.swreq_complete.specs.{declared.limit.Failed.TheVariants.{Limit}, Answers.{IsAnswer}, Events.{TellsEvents}, Limits.{AreInRange}};
+ghost use Rattle.swreq_complete.specs.{declared.limit.Failed.TheVariants.{Limit}, Answers.{IsAnswer}, Events.{TellsEvents}};
 ghost use Rattle.swreq_rounds.specs.{Given.{basic_equations}, Plan.{Plan}};
 ghost use Rattle.swreq_symbols.specs.Meaning.{symbols_of};
 ghost use Rattle.swreq_world.specs.Closed.{AreIds};
@@ -43,7 +43,6 @@ fn is_limit_among(failed: &Failed) -> bool
 
 /// Whether completing these equations passes a limit before it comes to a pair. It may be false if memory runs out.
 fn stops_among(alloc: Global, equations: &[(Word, Word)], limits: Limits) -> bool
-    requires { AreInRange limits }
     ensures { IsTrue result → StopsAmong limits equations.now }
 {
     match extend(
@@ -65,7 +64,6 @@ fn stop<W: Watch>(
     limits: Limits,
     watch: &mut W,
 ) -> Failed
-    requires limits { AreInRange limits }
     requires stops { StopsAmong limits equations.now }
     ensures answer { IsAnswer limits [] equations.now (Err result) }
     ensures told { TellsEvents limits [] equations.now (W.told watch.old)
@@ -89,7 +87,6 @@ fn stop_among<W: Watch>(
     limits: Limits,
     watch: &mut W,
 ) -> Option<Failed>
-    requires { AreInRange limits }
     ensures { MatchOption result
         (W.told watch.new ≡ W.told watch.old)
         (λ failed. StopsAmong limits equations.now × IsAnswer limits [] equations.now (Err failed)
@@ -112,7 +109,6 @@ pub(crate) fn limit_of_basic<W: Watch>(
     watch: &mut W,
 ) -> Option<Failed>
     requires ids { AreIds world.now.lexicon }
-    requires limits { AreInRange limits }
     ensures { MatchOption result
         (W.told watch.new ≡ W.told watch.old)
         (λ failed.

@@ -1,9 +1,10 @@
 //! What comes after a round: the next one, the end, or the limit at which rounds stop.
+#![tactic(auto, using(swreq_symbols::proofs::OfTexts::text_over))]
+
 ghost use Rattle.std.specs.Prelude.{◌≡◌, List, [], ◌∷◌, ◌++◌, length, Contains, Some, None, IfOk, MatchOption, MatchResult};
 ghost use Rattle.swreq_complete.specs.swreq_rule.declared.rules.Rule.{Rule};
-ghost use Rattle.swreq_complete.specs.{declared.limit.Failed.TheVariants.{Limit}, declared.limit.Limits.{Limits}, Events.{events}, Limits.{AreInRange}};
+ghost use Rattle.swreq_complete.specs.{declared.limit.Failed.TheVariants.{Limit}, declared.limit.Limits.{Limits}, Events.{events}};
 ghost use Rattle.swreq_rounds.specs.{Plan.{AreShown, Item, Plan}, Rounds.{Ends, Passed as PassedLimit, Stops}};
-ghost use Rattle.swreq_symbols.specs.Known.{IsTextOver};
 ghost use Rattle.swreq_valid.specs.{Flags.{chosen}, Plans.{AreWanted, items_of, plan_of}, Rounds.{AreJoined, first_rules}, Underway.{AreByItem, FailsWith, IsDueNow, TurnsTo, first_of, used_by}};
 
 use crate::joining::{joined, next_used};
@@ -33,7 +34,6 @@ pub(crate) fn after_end<'b>(
     state: Underway<'b>,
     rules: CompleteRules<'b>,
 ) -> Result<Turn<'b>, AllocError>
-    requires text { IsTextOver text.now.table.now text.now.world.now }
     requires wanted { AreWanted text.now.table.now text.now.world.now.lexicon start.now.all.items }
     requires flags { AreByItem (items_of text.now.table.now start.now.all.items) state.used.items }
     requires shown { (x : Item) → Contains (chosen (items_of text.now.table.now start.now.all.items)
@@ -49,7 +49,7 @@ pub(crate) fn after_end<'b>(
         (plan_of text.now.world.now text.now.table.now base start.now) state.entry
         (events (length base) rules.entry)) }
 {
-    let next = next_used(alloc, text.world, text.table, start, &state.used, &rules)?;
+    let next = next_used(alloc, text, start, &state.used, &rules)?;
     match next {
         None => Ok(Turn::Lasts(Rounds::new(state.before, state.used, rules))),
         Some(used) => {
@@ -121,8 +121,6 @@ fn after_first_limit<'b>(
     state: Underway<'b>,
     passed: Passed,
 ) -> Result<Turn<'b>, Failed>
-    requires text { IsTextOver text.now.table.now text.now.world.now }
-    requires limits { AreInRange start.now.limits }
     requires wanted { AreWanted text.now.table.now text.now.world.now.lexicon start.now.all.items }
     requires flags { AreByItem (items_of text.now.table.now start.now.all.items) state.used.items }
     requires first { state.first ≡ None }
@@ -173,8 +171,6 @@ pub(crate) fn after_limit<'b>(
     state: Underway<'b>,
     passed: Passed,
 ) -> Result<Turn<'b>, Failed>
-    requires text { IsTextOver text.now.table.now text.now.world.now }
-    requires limits { AreInRange start.now.limits }
     requires wanted { AreWanted text.now.table.now text.now.world.now.lexicon start.now.all.items }
     requires flags { AreByItem (items_of text.now.table.now start.now.all.items) state.used.items }
     requires due { IsDueNow start.now.limits

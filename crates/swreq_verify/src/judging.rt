@@ -1,8 +1,10 @@
 // What is said of derivations.
+#![tactic(auto, using(swreq_symbols::proofs::OfTexts::text_over))]
+
 ghost use Rattle.std.specs.{Prelude.{◌≡◌, ◌<◌, ◌↔◌, ◌++◌, ◌∷◌, [], IfOk, IfSome, IsTrue, List, MatchOption, length, map}, List.{AllByRecursion}};
 ghost use Rattle.swreq_world.specs.swreq_derive.{declared.lines.Line.{Line}, Derivation.TermStatement.{Requires}, Facts.{requirement_of}};
 ghost use Rattle.swreq_world.specs.swreq_lowering.ByTable.{query_by};
-ghost use Rattle.swreq_symbols.specs.{Known.{IsQueryIn, IsRequirementIn}, Texts.{BelongTogether, world_of}};
+ghost use Rattle.swreq_symbols.specs.{Known.{IsQueryIn, IsRequirementIn}, Texts.{world_of}};
 ghost use Rattle.swreq_world.specs.Worlds.{signature_at};
 ghost use Rattle.swreq_verify.specs.{Found.{IsFound}, Judgements.{EndsIn, IsJudged}, Laying.{IsSectionOver, section_of}, Listing.{IsListOf}, Outputs.{AreJudged, IsSaidAt}};
 
@@ -49,7 +51,6 @@ fn is_same(a: Statement, b: Statement) -> bool
 
 /// Whether there is a last line, and its statement is that the requirement holds.
 fn ends_in(text: &Text<'_>, r: Requirement, section: &Section) -> bool
-    requires text { BelongTogether text.now }
     requires r { IsRequirementIn text.now.table.now text.now.world.now.lexicon r }
     requires section { IsSectionOver text.now.world.now.lexicon text.now.table.now section.now }
     ensures { IsTrue result ↔ EndsIn (section_of text.now.table.now section.now).derivation
@@ -71,7 +72,6 @@ fn judge(
     r: Requirement,
     section: &Section,
 ) -> Judgement
-    requires text { BelongTogether text.now }
     requires f { f.place < length text.now.world.now.signatures }
     requires r { IsRequirementIn text.now.table.now text.now.world.now.lexicon r }
     requires list { list.now
@@ -109,7 +109,6 @@ fn answer(
     section: &Section,
     kept: Option<Listed>,
 ) -> Result<Said, AllocError>
-    requires text { BelongTogether text.now }
     requires f { f.place < length text.now.world.now.signatures }
     requires r { IsRequirementIn text.now.table.now text.now.world.now.lexicon r }
     requires section { IsSectionOver text.now.world.now.lexicon text.now.table.now section.now }
@@ -135,7 +134,6 @@ fn judgement_of(
     section: &Section,
     kept: Option<Listed>,
 ) -> Result<Said, AllocError>
-    requires text { BelongTogether text.now }
     requires query { IsQueryIn text.now.table.now text.now.world.now query }
     requires section { IsSectionOver text.now.world.now.lexicon text.now.table.now section.now }
     requires kept { IfSome kept (IsListOf text.now.world.now) }
@@ -170,7 +168,6 @@ fn judgement_at(
     k: usize,
     kept: Option<Listed>,
 ) -> Result<Said, AllocError>
-    requires text { BelongTogether text.now }
     requires count { length sections.now ≡ length text.now.world.now.queries }
     requires each { AllByRecursion (IsSectionOver text.now.world.now.lexicon text.now.table.now)
         sections.now }
@@ -192,7 +189,6 @@ pub(crate) fn judgements(
     text: &Text<'_>,
     sections: &[Section],
 ) -> Result<Vec<Judgement>, AllocError>
-    requires text { BelongTogether text.now }
     requires count { length sections.now ≡ length text.now.world.now.queries }
     requires each { AllByRecursion (IsSectionOver text.now.world.now.lexicon text.now.table.now)
         sections.now }

@@ -1,10 +1,12 @@
 // The second part of an input, read and judged.
+#![tactic(auto, using(swreq_symbols::proofs::OfTexts::text_over))]
+
 ghost use Rattle.std.specs.{Prelude.{◌≡◌, ◌≤◌, ℕ, OnErr, OnOk, length, map}, List.{AllByRecursion}};
 ghost use Rattle.swreq_lines.specs.declared.lines.LinesErr.TheVariants.{Syntax};
 ghost use Rattle.swreq_world.specs.swreq_param.Tables.{Extends};
 ghost use Rattle.swreq_text.specs.Lines.{lines};
 ghost use Rattle.swreq_lines.specs.swreq_print.Reading.{TellsApart};
-ghost use Rattle.swreq_symbols.specs.{Known.{IsTextOver}, Texts.{BelongTogether, world_of}};
+ghost use Rattle.swreq_symbols.specs.{Known.{IsTextOver}, Texts.{world_of}};
 ghost use Rattle.swreq_world.specs.ByTable.{world_by};
 ghost use Rattle.swreq_verify.specs.{Laying.{IsSectionOver, section_of}, Outputs.{AppendsJudgements, AppendsOutput}, SecondParts.{IsFirstMisfit}};
 
@@ -25,7 +27,6 @@ fn append_judgements(
     sections: &[Section],
     out: &mut Vec<u8>,
 ) -> Result<(), AllocError>
-    requires text { BelongTogether text.now }
     requires count { length sections.now ≡ length text.now.world.now.queries }
     requires each { AllByRecursion (IsSectionOver text.now.world.now.lexicon text.now.table.now)
         sections.now }

@@ -43,3 +43,4 @@ pub mod Saying
 pub mod SayingQueries
 pub mod Counting
 pub mod Adding
+pub mod TextStable

@@ -80,9 +80,7 @@ impl World {
         requires stands { StandsFor text.now skeleton.now }
         ensures world { IfOk result
             (λ w. IsWorldOf text.now skeleton.now (world_by table.new w)) }
-        ensures over { IfOk result (IsOverTable table.new) }
         ensures text { IfOk result (IsTextOver table.new) }
-        ensures short { IfOk result IsShort }
         ensures extends { Extends table.old table.new }
         ensures ok { IsOk result → Resolve text.now skeleton.now }
         ensures resolves { Resolve text.now skeleton.now → IsOk result ⊎ (result ≡ Err Memory) }

@@ -77,7 +77,6 @@ loop-k-preserved c =
       passed = record {
         passed = subst (λ (v : TextWorld). HavePassed c.args.p.now.limits v (rules_of c.args.p.now))
             (sym (world_stays mid new more w i.text.table)) i.passed.passed;
-        limits = i.passed.limits;
       };
       lines = lines_under old mid i.extends c.args.p.now c.args.calls.now (c.loop-k.k + 1) c.put_lines.new.lines.items c.requires.text
           c.requires.calls c.in_ok-put_lines.ensures.lines;

@@ -37,12 +37,10 @@ returns-in_err-endings-clause-check g c =
 pub check_all-requires-clause-ready : goal.check_all-requires-clause-ready
 check_all-requires-clause-ready g c = record {
   text = c.requires.text;
-  short = c.requires.short;
   formed = protocols_formed (world_by c.args.table.now c.args.world.now) c.requires.text.closed c.in_ok-protocols.ensures.answer.1.1;
   rules = c.in_ok-protocols.ensures.rules;
   rounds = c.in_ok-protocols.ensures.rounds;
   places = c.requires.asked.places;
-  limits = c.requires.asked.limits;
   base = c.in_ok-base.ensures;
   endings = c.in_ok-endings.ensures;
 }

@@ -9,4 +9,4 @@ returns-in_err-machine-clause-failed g c =
     rw (err_is c.from_residual.result _ c.from_residual.ensures.1) ([], inl no_part, grew_none (g.W.Watch.told c.args.watch.now))
 
 pub machine_of-requires-clause-passed : goal.machine_of-requires-clause-passed
-machine_of-requires-clause-passed g c = record { passed = c.requires.lists.passed; limits = c.requires.lists.limits }
+machine_of-requires-clause-passed g c = record { passed = c.requires.lists.passed }

@@ -87,7 +87,7 @@ loop-k-preserved g c =
     let longer : c.push.new.self.items ≡ c.loop-k.all.items ++ c.in_ok-entry.entry ∷ [] = search rules in (
       onward c.args.table.now c.loop-k.table c.line_if_wanted.new.table more onwards,
       text_stays c.loop-k.table c.line_if_wanted.new.table onwards l.world.now text,
-      record { passed = subst (λ w. HavePassed l.limits w (rules_of l)) now ready.passed; wanted = ready.wanted; limits = ready.limits },
+      record { passed = subst (λ w. HavePassed l.limits w (rules_of l)) now ready.passed; wanted = ready.wanted },
       told_more _ _ _ stays _ _ (record { place = c.loop-k.k }) _ _ _ told c.in_ok-entry.ensures.told,
       rw longer (kept_more _ _ _ _ _ count kept
           (subst (λ w. IsLineKept w (wants l) (record { place = c.loop-k.k }) c.in_ok-entry.entry) stays c.in_ok-entry.ensures.line)),

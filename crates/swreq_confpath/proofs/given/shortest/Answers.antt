@@ -28,7 +28,7 @@ find-requires-clause-known c =
     let complete : IsComplete rules = subst IsComplete c.rules.ensures c.in_ok-changed.ensures.complete in
     let others : AllSpareOthers rules c.in_ok-changed.changed.items
     = subst (λ z. AllSpareOthers z c.in_ok-changed.changed.items) c.rules.ensures c.in_ok-changed.ensures.others in
-    known_of s c.args.f c.requires.text c.requires.short c.requires.machine (c.deref.ensures.value ∙ c.in_ok-list.ensures) complete
+    known_of s c.args.f c.requires.text c.requires.text.short c.requires.machine (c.deref.ensures.value ∙ c.in_ok-list.ensures) complete
     (subst (AllSpareOthers rules) (sym c.deref-2.ensures.value) others) c.requires.derivable
 
 pub find-requires-clause-target : goal.find-requires-clause-target
@@ -44,6 +44,6 @@ returns c =
     = record { alloc = a.alloc; world = a.world; table = a.table; machine = a.machine; list = l; changed = h; subject = t; proto = a.p } in
     record {
       path = IfOk-weaker c.find.result _ _
-          (λ path h. given_of s c.args.f c.requires.text c.requires.short c.requires.machine
+          (λ path h. given_of s c.args.f c.requires.text c.requires.text.short c.requires.machine
           (c.deref.ensures.value ∙ c.in_ok-list.ensures) path h) c.find.ensures;
     }

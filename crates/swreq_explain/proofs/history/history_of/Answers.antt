@@ -34,4 +34,4 @@ returns c =
           c.requires.base.systems;
       of_list = subst (AreSystemsOf (symbols_of w.lexicon) terms (list_origin w c.args.f p m)) (sym c.new.ensures)
           c.in_ok-systems.ensures.systems;
-    }) (rounds_read terms w c.args.f p m c.requires.rounds) c.requires.text c.requires.short
+    }) (rounds_read terms w c.args.f p m c.requires.rounds) c.requires.text c.requires.text.short

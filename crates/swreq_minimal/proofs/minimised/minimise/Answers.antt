@@ -45,7 +45,6 @@ minimised_candidates-requires-clause-setting g c =
       text = text_stays old new c.candidates.ensures.extends w c.requires.text;
       protocols = subst (λ (z : TextWorld). AreRulesOf z (last_rules c.args.protocols.now.rounds))
           (sym (world_stays old new c.candidates.ensures.extends w c.requires.text.table)) c.requires.protocols;
-      limits = c.requires.limits;
     }
 
 pub minimised_candidates-requires-clause-candidates : goal.minimised_candidates-requires-clause-candidates

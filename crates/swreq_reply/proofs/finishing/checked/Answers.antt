@@ -14,7 +14,6 @@ places-requires-clause-queries g c q member = (query_in c.args.world.now c.args.
 pub check-requires-clause-asked : goal.check-requires-clause-asked
 check-requires-clause-asked g c = record {
   places = rw c.deref.ensures.value c.in_ok-places.ensures;
-  limits = rw c.limits_of.ensures c.requires.request.limits;
 }
 
 pub finish-requires-clause-world : goal.finish-requires-clause-world

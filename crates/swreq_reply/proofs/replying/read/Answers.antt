@@ -43,7 +43,6 @@ with_source-requires g c = record {
     within = rw c.in-Some.ensures.input (omega (arith, c.if-input-gt-TEXT_LIMIT.false));
     divided = c.in-Some.ensures.parts;
   };
-  limits = c.requires.limits;
   count = c.requires.count;
 }
 

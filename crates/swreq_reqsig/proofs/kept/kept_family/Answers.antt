@@ -41,7 +41,6 @@ drop_derivable-requires-clause-setting g c = record {
   outlines = c.deref-3.ensures.value ∙ c.in_ok-outlines.ensures;
   named = subst (λ (z : List Outline). AreNamed z c.in_ok-named.named) (c.deref-2.ensures.value ∙ sym c.deref-3.ensures.value)
       c.in_ok-named.ensures;
-  limits = c.requires.limits;
 }
 
 pub returns-in_err-flags-clause-only : goal.returns-in_err-flags-clause-only

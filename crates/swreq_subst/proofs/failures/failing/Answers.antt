@@ -1,4 +1,4 @@
-use Rattle.std.proofs.Common.{◌≡◌, ◌<◌, ◌∙◌, Some, List, map, length, sym, ap, subst}
+use Rattle.std.proofs.Common.{◌≡◌, ◌<◌, ◌^◌, ◌∙◌, Some, List, map, length, sym, ap, subst}
 use Rattle.std.specs.Prelude.{All}
 use Rattle.std.specs.Option.{option_map}
 use Rattle.std.proofs.lemmas.List.{length-map}
@@ -19,7 +19,7 @@ use Rattle.swreq_machine.specs.swreq_world.FactsAt.{facts_of, written_list}
 use Rattle.swreq_machine.specs.swreq_world.Worlds.{SignatureOver, signature_at}
 use Rattle.swreq_subst.specs.Arguments.{param_count, place_of}
 use Rattle.swreq_subst.specs.Calls.{IsArgumentIn}
-use Rattle.swreq_subst.proofs.Calling.{all_of_text, list_is, named, of_callee, same_types}
+use Rattle.swreq_subst.proofs.Calling.{all_of_text, is_short, list_is, named, of_callee, same_types}
 use Rattle.swreq_subst.proofs.Numbering.{same_failing}
 use Rattle.swreq_subst.proofs.Replacing.{over_places}
 use Rattle.swreq_subst.proofs.failures.failing.Goals as goal
@@ -58,6 +58,12 @@ numbers_of-requires-clause-over c =
     (sym c.deref-2.ensures.value)
     (subst (λ (q : Params). All (λ (r : Requirement). IsOver (λ h. place_of q h < n) (requirement_of old r)) c.in_ok-list.list.items)
     (sym c.params.ensures) over)
+
+pub numbers_of-requires-clause-few : goal.numbers_of-requires-clause-few
+numbers_of-requires-clause-few c =
+    subst (λ (rs : List Requirement). length rs < 2 ^ 32) (sym c.deref-2.ensures.value)
+    (is_short c.args.table.now c.args.world.now c.args.c.now.g c.in_ok-list.list.items c.in_ok-list.ensures c.requires.text.short
+    c.requires.call.callee)
 
 pub returns-clause-failing : goal.returns-clause-failing
 returns-clause-failing c =

@@ -11,19 +11,23 @@ use Rattle.swreq_machine.proofs.swreq_symbols.Growing.{text_stays, world_stays}
 use Rattle.swreq_subst.proofs.Replacing.{requirement_of_text}
 use Rattle.swreq_subst.proofs.failures.holds.Goals as goal
 
-pub derives-requires-clause-text : goal.derives-requires-clause-text
-derives-requires-clause-text c =
-    text_stays c.args.table.now c.requirement_with.new.table c.requirement_with.ensures.extends c.args.by.now.world.now c.requires.text
+pub invariant_of-text : goal.invariant_of-text
+invariant_of-text c = record {
+  belong = ∣ text_stays c.args.table.now c.requirement_with.new.table c.requirement_with.ensures.extends c.args.by.now.world.now
+      c.requires.text ∣₁;
+}
 
-pub derives-requires-clause-r : goal.derives-requires-clause-r
-derives-requires-clause-r c =
+pub derives-requires : goal.derives-requires
+derives-requires c =
     let old = c.args.table.now in
     let by = c.args.by.now in
-    let x = by.world.now.lexicon in (
-      c.in_ok-requirement.ensures.ids,
-      subst (IsRequirementOf x) (sym c.in_ok-requirement.ensures.stands)
-          (requirement_of_text x old by.args.now c.requires.args by.params (requirement_of old c.args.r) c.requires.r.1),
-    )
+    let x = by.world.now.lexicon in record {
+      r = (
+        c.in_ok-requirement.ensures.ids,
+        subst (IsRequirementOf x) (sym c.in_ok-requirement.ensures.stands)
+            (requirement_of_text x old by.args.now c.requires.args by.params (requirement_of old c.args.r) c.requires.r.1),
+      );
+    }
 
 pub returns-clause-holds : goal.returns-clause-holds
 returns-clause-holds c =

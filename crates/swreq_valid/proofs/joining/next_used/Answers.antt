@@ -8,15 +8,15 @@ use Rattle.swreq_valid.proofs.joining.next_used.Goals as goal
 
 pub returns-then-are_set : goal.returns-then-are_set
 returns-then-are_set c =
-    all_set_tell (items_of c.args.table.now c.args.start.now.all.items) c.args.used.now (sym c.are_set.ensures ∙ c.if-are_set.true)
+    all_set_tell (items_of c.args.text.now.table.now c.args.start.now.all.items) c.args.used.now (sym c.are_set.ensures ∙ c.if-are_set.true)
     (let a = c.requires.flags in let o = c.args.start.now.all.ok in
-    let q = items_length c.args.table.now c.args.start.now.all.items in omega (arith, a, o, q))
+    let q = items_length c.args.text.now.table.now c.args.start.now.all.items in omega (arith, a, o, q))
     c.requires.shown
 
 pub returns-then-are_same : goal.returns-then-are_same
 returns-then-are_same c =
-    subst (Tells (AreShown (plan_of c.args.world.now c.args.table.now [] c.args.start.now) c.args.rules.now)
-    (items_of c.args.table.now c.args.start.now.all.items))
+    subst (Tells (AreShown (plan_of c.args.text.now.world.now c.args.text.now.table.now [] c.args.start.now) c.args.rules.now)
+    (items_of c.args.text.now.table.now c.args.start.now.all.items))
     (sym c.deref.ensures.value ∙ c.are_same.ensures.0 c.if-are_same.true) (c.in_ok-flags.ensures [])
 
 pub returns-else-are_same : goal.returns-else-are_same

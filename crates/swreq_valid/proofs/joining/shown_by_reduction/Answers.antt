@@ -2,10 +2,11 @@ use Rattle.swreq_complete.specs.Alike.{ReduceAlike}
 use Rattle.swreq_valid.proofs.Planning.{IsToldBy, told_all, told_more, told_reduced, place_behind, place_within, wanted_at}
 use Rattle.swreq_valid.proofs.joining.shown_by_reduction.Goals as goal
 
-pub is_usable-requires-clause-want : goal.is_usable-requires-clause-want
-is_usable-requires-clause-want c =
-    wanted_at c.args.text.now.table.now c.args.text.now.world.now.lexicon c.args.start.now c.loop-k.k c.index-want.result.now
-    c.requires.wanted (place_within c.args.start.now c.loop-k.k _ c.loop-k-test.true c.len-k-end.ensures) c.index-want.ensures
+pub is_usable-requires : goal.is_usable-requires
+is_usable-requires c = record {
+  want = wanted_at c.args.text.now.table.now c.args.text.now.world.now.lexicon c.args.start.now c.loop-k.k c.index-want.result.now
+      c.requires.wanted (place_within c.args.start.now c.loop-k.k _ c.loop-k-test.true c.len-k-end.ensures) c.index-want.ensures;
+}
 
 pub loop-k-preserved : goal.loop-k-preserved
 loop-k-preserved c =

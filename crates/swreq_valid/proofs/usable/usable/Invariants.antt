@@ -4,4 +4,4 @@ use Rattle.swreq_valid.proofs.Planning.{IsTold}
 use Rattle.swreq_valid.proofs.usable.usable.Given as goal
 
 abbrev pub invariant-loop-k : goal.invariant-loop-k
-invariant-loop-k l = Tells (IsTold l.world l.table l.rules) (take l.k l.start.all.items) l.flags.items
+invariant-loop-k l = Tells (IsTold l.text.world.now l.text.table.now l.rules) (take l.k l.start.all.items) l.flags.items

@@ -7,6 +7,7 @@ use Rattle.swreq_world.specs.swreq_lowering.declared.ids.FuncId.{FuncId}
 use Rattle.swreq_symbols.proofs.OfText.{of_facts}
 use Rattle.swreq_world.specs.FactsAt.{facts_at}
 use Rattle.swreq_verify.proofs.Judged.{ends, ends_so, last_at, lines_over}
+use Rattle.swreq_symbols.proofs.OfTexts.{text_over}
 use Rattle.swreq_verify.proofs.judging.ends_in.Goals as goal
 
 -- What has ids of the table is over the facts of each signature.
@@ -25,6 +26,6 @@ returns-in-Some c =
       λ same. ends terms items w.0 w.1 e (Requires (requirement_of terms r)) (ap (statement_of terms) (w.3 ∙ c.is_same.ensures.0 same)),
       λ last. c.is_same.ensures.1 (sym w.3
           ∙ same_statement terms (facts_at c.args.text.now.world.now any) c.len-count.ensures.distinct w.1.statement
-          (Holds r) over.1 (of_facts c.args.text.now.world.now terms c.requires.text any r c.requires.r)
+          (Holds r) over.1 (of_facts c.args.text.now.world.now terms (text_over c.args.text.now) any r c.requires.r)
           (ends_so terms items w.0 w.1 e (Requires (requirement_of terms r)) last)),
     )

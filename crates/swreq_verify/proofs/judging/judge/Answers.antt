@@ -6,6 +6,7 @@ use Rattle.swreq_world.specs.swreq_derive.Lines.{AreDerived, AreLinesOf, IsFirst
 use Rattle.swreq_symbols.proofs.OfText.{are_facts}
 use Rattle.swreq_world.specs.FactsAt.{facts_at}
 use Rattle.swreq_verify.proofs.Judged.{derivation_from, first_bad_from, lines_over}
+use Rattle.swreq_symbols.proofs.OfTexts.{text_over}
 use Rattle.swreq_verify.proofs.judging.judge.Goals as goal
 use Rattle.swreq_verify.proofs.judging.judge.Goals.{After-deref}
 
@@ -26,7 +27,7 @@ check-requires-clause-lines c =
 pub check-requires-clause-facts : goal.check-requires-clause-facts
 check-requires-clause-facts c =
     subst (AreFactsOf c.args.text.now.table.now) (sym (facts_same c))
-    (are_facts c.args.text.now.world.now c.args.text.now.table.now c.requires.text c.args.f c.requires.f)
+    (are_facts c.args.text.now.world.now c.args.text.now.table.now (text_over c.args.text.now) c.args.f c.requires.f)
 
 pub returns-in-Err : goal.returns-in-Err
 returns-in-Err c =

@@ -8,11 +8,12 @@ use Rattle.swreq_world.specs.ByTable.{world_by}
 use Rattle.swreq_symbols.proofs.OfText.{query_at as known_at}
 use Rattle.swreq_verify.specs.Judgements.{IsJudged}
 use Rattle.swreq_verify.specs.Laying.{section_of}
+use Rattle.swreq_symbols.proofs.OfTexts.{text_over}
 use Rattle.swreq_verify.proofs.judging.judgement_at.Goals as goal
 
 pub judgement_of-requires-clause-query : goal.judgement_of-requires-clause-query
 judgement_of-requires-clause-query c =
-    known_at c.args.text.now.world.now c.args.text.now.table.now c.requires.text c.queries-queries.result.now c.args.k no_query
+    known_at c.args.text.now.world.now c.args.text.now.table.now (text_over c.args.text.now) c.queries-queries.result.now c.args.k no_query
     c.queries-queries.ensures (let same = ap length c.queries-queries.ensures in let below = c.requires.k in omega (arith, same, below))
 
 pub returns-clause-said : goal.returns-clause-said

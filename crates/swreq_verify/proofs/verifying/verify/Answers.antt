@@ -11,9 +11,10 @@ use Rattle.swreq_verify.specs.Outputs.{AreJudged, judgement_lines}
 use Rattle.swreq_verify.specs.SecondParts.{AreSections}
 use Rattle.swreq_verify.proofs.verifying.verify.Goals as goal
 
-pub append_judgements-requires-clause-text : goal.append_judgements-requires-clause-text
-append_judgements-requires-clause-text c =
-    text_stays c.args.table.now c.read_sections.new.table c.in_ok-sections.ensures.extends c.args.world.now c.requires.text
+pub invariant_of-append_judgements : goal.invariant_of-append_judgements
+invariant_of-append_judgements c = record {
+  belong = ∣ text_stays c.args.table.now c.read_sections.new.table c.in_ok-sections.ensures.extends c.args.world.now c.requires.text ∣₁;
+}
 
 pub returns-clause-output : goal.returns-clause-output
 returns-clause-output c =

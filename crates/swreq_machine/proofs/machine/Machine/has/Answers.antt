@@ -3,6 +3,7 @@ use Rattle.swreq_valid.specs.swreq_param.Tables.{term_at}
 use Rattle.swreq_map.specs.Properties.{IsProperty}
 use Rattle.swreq_valid.specs.swreq_world.ByTable.{world_by}
 use Rattle.swreq_machine.proofs.Telling.{is_property, tells_if_has}
+use Rattle.swreq_valid.proofs.swreq_symbols.OfTexts.{text_over}
 use Rattle.swreq_machine.proofs.machine.Machine.has.Goals as goal
 
 pub vanishing-requires-clause-property : goal.vanishing-requires-clause-property
@@ -12,6 +13,6 @@ vanishing-requires-clause-property c =
 
 pub returns-clause-answer : goal.returns-clause-answer
 returns-clause-answer c list is =
-    tells_if_has (world_by c.args.text.now.table.now c.args.text.now.world.now) c.requires.text.closed c.args.self.now list is
+    tells_if_has (world_by c.args.text.now.table.now c.args.text.now.world.now) (text_over c.args.text.now).closed c.args.self.now list is
     (term_at c.args.text.now.table.now c.args.t)
     c.args.property c.symbol.result c.vanishing.result c.symbol.ensures c.vanishing.ensures.answer

@@ -12,7 +12,11 @@ use Rattle.swreq_valid.specs.Rounds.{AreRounds, last_rules}
 use Rattle.swreq_valid.specs.Sides.{sides}
 use Rattle.swreq_machine.proofs.OfSignatures.{as_meant, builds, list_written}
 use Rattle.swreq_valid.proofs.Running.{nothing_told}
+use Rattle.swreq_valid.proofs.swreq_symbols.OfTexts.{text_over}
 use Rattle.swreq_machine.proofs.machine.Machine.of_signature.Goals as goal
+
+pub build-requires-clause-text : goal.build-requires-clause-text
+build-requires-clause-text g c = text_over c.args.text.now
 
 pub returns-in_err-list-clause-answer : goal.returns-in_err-list-clause-answer
 returns-in_err-list-clause-answer g c =
@@ -27,7 +31,7 @@ pub build-requires-clause-written : goal.build-requires-clause-written
 build-requires-clause-written g c =
     list_written c.args.text.now.table.now c.args.text.now.world.now c.args.signature _ _ c.params.ensures
     (c.deref.ensures.value ∙ c.in_ok-list.ensures)
-    c.requires.text c.requires.f
+    (text_over c.args.text.now) c.requires.f
 
 pub returns : goal.returns
 returns g c =

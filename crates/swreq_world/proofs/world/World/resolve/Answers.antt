@@ -17,13 +17,9 @@ returns-clause-text c = record {
   closed = c.worlds_are_closed.ensures.closed c.args.skeleton.now
       (world_by c.with_names.new.table c.in_ok-with_names.field-0) c.requires.stands
       c.in_ok-with_names.ensures.world (c.in_ok-names.ensures.ok refl);
+  short = c.worlds_are_short.ensures.by_table c.requires.limit c.with_names.new.table c.args.skeleton.now c.in_ok-with_names.field-0
+      c.requires.stands c.in_ok-with_names.ensures.world;
 }
-
-pub returns-clause-short : goal.returns-clause-short
-returns-clause-short c =
-    c.worlds_are_short.ensures.by_table c.requires.limit c.with_names.new.table c.args.skeleton.now c.in_ok-with_names.field-0
-    c.requires.stands
-    c.in_ok-with_names.ensures.world
 
 pub returns-clause-refuses : goal.returns-clause-refuses
 returns-clause-refuses c e h = ⊎_elim (λ p. cc) (λ p. cc) (c.in_ok-names.ensures.refuses e h)
