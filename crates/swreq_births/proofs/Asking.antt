@@ -25,6 +25,11 @@ head_front g (Param d i ∷ u) v h e = e
 head_front g (Name a ∷ u) v h e = absurd cc
 head_front g (Layout ∷ u) v h e = absurd cc
 
+-- a word that asks something is not empty
+pub head_some : (g : Alphabet) (u : List Symbol) (h : Option ProtoId) → head_of g u ≡ Some h → 0 < length u
+head_some g [] h e = absurd cc
+head_some g (x ∷ u) h e = omega arith
+
 -- if lines allow a word, they state what it asks
 pub asked_is_said : (g : Alphabet) (s : Derivation) (t : Term) (w : List Symbol) (h : Option ProtoId) → head_of g w ≡ Some h
     → AllowsWord g s t w → ConformsIfAny s t h

@@ -1,18 +1,17 @@
 -- What a rule is born of: an equation, or a pair.
-use Rattle.std.proofs.Common.{◌≡◌, ◌⊎◌, inl, inr, ℕ, suc, ◌-◌, ◌<◌, ◌≤◌, List, ◌++◌, length, take, slice_get, Some, Option, max, sym, ap}
-use Rattle.std.proofs.{Common.{subst, ◌∙◌, arith}, lemmas.Option.{same_Some}}
-use Rattle.swreq_complete.specs.{swreq_pair.Pairs.{ContainmentPair, OverlapPair, IsPair}, swreq_rule.declared.rules.Rule.{Rule}}
-use Rattle.swreq_complete.specs.swreq_rule.{declared.rules.{Birth.{Birth, TheVariants.{Given, Pair}}, Place.{Place}}, Steps.{RuleAt}}
-use Rattle.swreq_complete.specs.{swreq_rule.Oriented.{IsOriented}, Moments.{HasSides, greater_number}, Reached.{IsBorn}}
+use Rattle.std.proofs.Common.{◌≡◌, inl, inr, ℕ, suc, ◌-◌, ◌<◌, ◌≤◌, List, drop, take, slice_get, Some, max, sym, ap, subst, ◌∙◌, arith}
+use Rattle.std.proofs.lemmas.{List.{take-append-drop}, Option.{same_Some}}
+use Rattle.swreq_complete.specs.swreq_rule.declared.rules.{Birth.{Birth, TheVariants.{Given, Pair}}, Place.{Place}, Rule.{Rule}}
+use Rattle.swreq_complete.specs.{swreq_rule.{Oriented.{IsOriented}, Steps.{RuleAt}}, Moments.{HasSides, greater_number}, Reached.{IsBorn}}
 use Rattle.swreq_complete.proofs.swreq_rule.Numbers.{one_rule}
-use Rattle.swreq_param.{specs.{declared.ids.ProtoId.{ProtoId}, Terms.{Term}}, proofs.swreq_lemmas.Elements.{get_of_map}}
+use Rattle.swreq_param.{specs.Terms.{Term}, proofs.swreq_lemmas.Elements.{get_of_map}}
 use Rattle.swreq_correspondence.specs.swreq_word.declared.symbols.Symbol.{Symbol}
 use Rattle.swreq_births.specs.{declared.history.{Equation.{Equation}, System.{System}}, Systems.{given_of, ReducesTo}}
-use Rattle.swreq_births.specs.Heads.{head_of, IsHeadStated}
-use Rattle.swreq_births.proofs.Asking.{IsHeaded, head_front, asked_is_said, head_of_front, head_of_born, AreHeaded}
-use Rattle.swreq_births.proofs.PairParts.{in_two, crossed, contained}
+use Rattle.swreq_births.specs.{Heads.{head_of, IsHeadStated}, Pairs.{after_first, after_second, first_made, second_made}}
+use Rattle.swreq_births.proofs.Asking.{IsHeaded, head_front, head_put, head_some, asked_is_said, head_of_front, head_of_born, AreHeaded}
+use Rattle.swreq_births.proofs.PairParts.{Met, meet_at, met_in}
 use Rattle.swreq_derivation.specs.{declared.derivation.Derivation.{Derivation}, Origins.{ConformsIfAny}}
-use Rattle.swreq_readings.specs.{declared.alphabet.Alphabet.{Alphabet}, Readable.{AllowsWord, AreReadEqual, read_word}}
+use Rattle.swreq_readings.specs.{declared.alphabet.Alphabet.{Alphabet}, Readable.{AllowsWord, read_word}}
 use Rattle.swreq_readings.proofs.ReadingLemmas.{word_right}
 
 -- ---- births
@@ -70,26 +69,40 @@ given_by v k rule n b =
 
 -- ---- the pair that a rule is born of
 
--- The two rules of the pair are before the rule.
-pub record PairedBy (v : System) (k : ℕ) (rule : Rule) (place : Place) : Type 0 where
-  pub left : List Symbol
-  pub right : List Symbol
-  pub pair : IsPair v.rules place left right
-  pub reduces : ReducesTo v.rules k left right rule
+-- The two rules are before the rule. What they make of the word in which their left sides meet reduces to the sides of the rule.
+pub record PairedBy (v : System) (k : ℕ) (rule : Rule) (place : Place) (first second : Rule) : Type 0 where
+  pub is_first : RuleAt v.rules place.i first
+  pub is_second : RuleAt v.rules place.j second
+  pub met : Met first second place.at
+  pub reduces : ReducesTo v.rules k (first_made first second place.at) (second_made first second place.at) rule
   pub first_within : place.i ≤ k
   pub second_within : place.j ≤ k
 
 pub paired_by : (v : System) (k : ℕ) (rule : Rule) (place : Place) → BornOf v k rule (Pair place.i place.j place.at)
-    → PairedBy v k rule place
+    → (first : Rule) × (second : Rule) × PairedBy v k rule place first second
 paired_by v k rule place b =
-    let h : max place.i place.j ≤ k = b.knows in record {
-      left = b.left;
-      right = b.right;
-      pair = b.sides.1;
-      reduces = b.reduces;
-      first_within = omega arith;
-      second_within = omega arith;
-    }
+    let p = b.sides.1 in
+    let m = met_in v.rules place b.left b.right p in
+    let h : max place.i place.j ≤ k = b.knows in (
+      p.first,
+      p.second,
+      record {
+        is_first = p.first_at;
+        is_second = p.second_at;
+        met = m.met;
+        reduces = subst (λ z. ReducesTo v.rules k z (second_made p.first p.second place.at) rule) m.left_is
+            (subst (λ z. ReducesTo v.rules k b.left z rule) m.right_is b.reduces);
+        first_within = omega arith;
+        second_within = omega arith;
+      },
+    )
+
+-- the two rules are those that the numbers of the place name
+pub paired_with : {v : System} {k : ℕ} {rule : Rule} {place : Place} {a b first second : Rule} → RuleAt v.rules place.i first
+    → RuleAt v.rules place.j second → PairedBy v k rule place a b → PairedBy v k rule place first second
+paired_with {v} {k} {rule} {place} {a} {b} {first} {second} is js p =
+    subst (λ z. PairedBy v k rule place z second) (one_rule v.rules place.i a first p.is_first is)
+    (subst (PairedBy v k rule place a) (one_rule v.rules place.j b second p.is_second js) p)
 
 -- the rule that a number, counted from 1, names
 pub rule_at_number : (rules : List Rule) (n : ℕ) (a : Rule) → RuleAt rules n a → slice_get rules (n - 1) ≡ Some a
@@ -98,91 +111,31 @@ rule_at_number rules n a h =
     let f : h.0 ≡ n - 1 = omega arith in
     subst (λ z. slice_get rules z ≡ Some a) f h.2
 
--- the left side of a pair begins with the right side of its first rule, and so asks what that rule asks
-pub head_of_pair : (g : Alphabet) (rules : List Rule) (place : Place) (left right : List Symbol) (first : Rule) (h : Option ProtoId)
-    → IsPair rules place left right → RuleAt rules place.i first
-    → head_of g first.right ≡ Some h → head_of g left ≡ Some h
-head_of_pair g rules place left right first h p at e =
-    let same : p.first ≡ first = one_rule rules place.i p.first first p.first_at at in
-    let f : head_of g p.first.right ≡ Some h = ap (λ (z : Rule). head_of g z.right) same ∙ e in
-    elim p.kind [
-      | inl o ↦ ap (head_of g) o.left_is ∙ head_front g p.first.right o.overlap.after h f
-      | inr o ↦ ap (head_of g) o.1.left_is ∙ f
-    ]
+module _ (g : Alphabet) (first second : Rule) (at : ℕ) (m : Met first second at) (headed : IsHeaded g second.left second.right) where
+  -- Both sides of a pair ask what its first rule asks.
+  pub pair_headed : IsHeaded g first.left first.right → IsHeaded g (first_made first second at) (second_made first second at)
+  pair_headed h = (
+    h.0,
+    head_front g first.right (after_first first second at) h.0 h.2,
+    head_put g (take at first.left) second.left second.right (after_second first second at) h.0 headed
+        (sym (ap (head_of g) (meet_at m)) ∙ head_front g first.left (after_first first second at) h.0 h.1),
+  )
 
--- if lines allow the left side of the first rule, they state what the second rule asks after the part that stands before it
-pub second_allows : (g : Alphabet) (s : Derivation) (t : Term) (rules : List Rule) (place : Place) (left right : List Symbol)
-    (first second : Rule) → IsPair rules place left right
-    → RuleAt rules place.i first → RuleAt rules place.j second → IsHeaded g second.left second.right → AllowsWord g s t first.left
-    → IsHeadStated g s (read_word g t (take place.at first.left)) second.left
-second_allows g s t rules place left right first second p at bt h w =
-    let a : p.first ≡ first = one_rule rules place.i p.first first p.first_at at in
-    let b : p.second ≡ second = one_rule rules place.j p.second second p.second_at bt in
-    elim p.kind [
-      | inl o ↦ (let c = o.overlap in
-          let f : first.left ≡ c.before ++ c.common = ap (λ (z : Rule). z.left) (sym a) ∙ c.first_is in
-          let q : second.left ≡ c.common ++ c.after = ap (λ (z : Rule). z.left) (sym b) ∙ c.second_is in
-          let x = in_two first.left c.before c.common place.at f c.at_is in
-          let r : AllowsWord g s (read_word g t c.before) c.common = word_right g s t c.before c.common (subst (AllowsWord g s t) f w) in (
-            h.0,
-            h.1,
-            asked_is_said g s _ c.common h.0 (head_of_front g c.common c.after h.0 c.common_some (sym (ap (head_of g) q) ∙ h.1))
-                (subst (λ z. AllowsWord g s (read_word g t z) c.common) (sym x.front) r),
-          ))
-      | inr o ↦ (let c = o.1.containment in
-          let f : first.left ≡ c.before ++ (second.left ++ c.after) = ap (λ (z : Rule). z.left) (sym a) ∙ c.first_is
-          ∙ ap (λ (z : Rule). c.before ++ (z.left ++ c.after)) b in
-          let x = in_two first.left c.before (second.left ++ c.after) place.at f c.at_is in
-          let r : AllowsWord g s (read_word g t c.before) (second.left ++ c.after) = word_right g s t c.before (second.left ++ c.after)
-          (subst (AllowsWord g s t) f w) in (
-            h.0,
-            h.1,
-            asked_is_said g s _ (second.left ++ c.after) h.0 (head_front g second.left c.after h.0 h.1)
-                (subst (λ z. AllowsWord g s (read_word g t z) (second.left ++ c.after)) (sym x.front) r),
-          ))
-    ]
-
-pub pair_within : (rules : List Rule) (place : Place) (l r : List Symbol) (first : Rule) → IsPair rules place l r
-    → RuleAt rules place.i first → place.at ≤ length first.left
-pair_within rules place l r first p at =
-    let a : p.first ≡ first = one_rule rules place.i p.first first p.first_at at in
-    subst (λ (z : Rule). place.at ≤ length z.left) a (elim p.kind [
-      | inl o ↦ (crossed p.first p.second place.at l r o).within
-      | inr o ↦ (contained p.first p.second place.at l r o.1).within
-    ])
-
--- the kind of a pair, of the two rules that its numbers name
-pub pair_kind : (rules : List Rule) (place : Place) (l r : List Symbol) (first second : Rule) → IsPair rules place l r
-    → RuleAt rules place.i first → RuleAt rules place.j second
-    → OverlapPair first second place.at l r ⊎ ContainmentPair first second place.at l r
-pair_kind rules place l r first second p at bt =
-    let a : p.first ≡ first = one_rule rules place.i p.first first p.first_at at in
-    let b : p.second ≡ second = one_rule rules place.j p.second second p.second_at bt in
-    subst (λ z. OverlapPair z second place.at l r ⊎ ContainmentPair z second place.at l r) a
-    (subst (λ z. OverlapPair p.first z place.at l r ⊎ ContainmentPair p.first z place.at l r) b (elim p.kind [
-      | inl o ↦ inl o
-      | inr o ↦ inr o.1
-    ]))
-
-pub some_kind : (first second : Rule) (at : ℕ) (l r : List Symbol) → OverlapPair first second at l r ⊎ ContainmentPair first second at l r
-    → ((x : List Symbol) × (y : List Symbol) × OverlapPair first second at x y)
-    ⊎ ((x : List Symbol) × (y : List Symbol) × ContainmentPair first second at x y)
-some_kind first second at l r (inl o) = inl (l, r, o)
-some_kind first second at l r (inr o) = inr (l, r, o)
-
-pub both_of_kind : (g : Alphabet) (s : Derivation) (t : Term) (first second : Rule) (at : ℕ) (l r : List Symbol) → OverlapPair first second
-    at l r
-    ⊎ ContainmentPair first second at l r
-    → ((x y : List Symbol) → OverlapPair first second at x y → AreReadEqual g s t x y)
-    → ((x y : List Symbol) → ContainmentPair first second at x y → AreReadEqual g s t x y) → AreReadEqual g s t l r
-both_of_kind g s t first second at l r (inl o) f h = f l r o
-both_of_kind g s t first second at l r (inr o) f h = h l r o
+  -- if lines allow the left side of the first rule, they state what the second rule asks after the part that stands before it
+  pub second_allows : (s : Derivation) (t : Term) → AllowsWord g s t first.left
+      → IsHeadStated g s (read_word g t (take at first.left)) second.left
+  second_allows s t w =
+      let rest = drop at first.left in
+      let allows = word_right g s t (take at first.left) rest (subst (AllowsWord g s t) (sym (take-append-drop at first.left)) w) in
+      let asks = head_of_front g rest (after_first first second at) headed.0 (m.some (head_some g second.left headed.0 headed.1))
+      (ap (head_of g) m.meets ∙ head_front g second.left (after_second first second at) headed.0 headed.1) in
+      (headed.0, headed.1, asked_is_said g s _ rest headed.0 asks allows)
 
 -- if lines state what a rule born of a pair asks, they state what the first rule of the pair asks
-pub first_allows : (g : Alphabet) (s : Derivation) (t : Term) (v : System) (k : ℕ) (rule first : Rule) (place : Place) → AreHeaded g v.rules
-    → IsHeaded g rule.left rule.right → IsHeaded g first.left first.right
-    → PairedBy v k rule place → RuleAt v.rules place.i first → IsHeadStated g s t rule.left → IsHeadStated g s t first.left
-first_allows g s t v k rule first place all w h p at a =
-    let e : head_of g rule.left ≡ Some h.0 = head_of_born g v.rules k p.left p.right rule h.0 all w p.reduces
-    (head_of_pair g v.rules place p.left p.right first h.0 p.pair at h.2) in
+pub first_allows : (g : Alphabet) (s : Derivation) (t : Term) (v : System) (k : ℕ) (rule first second : Rule) (place : Place)
+    → AreHeaded g v.rules → IsHeaded g rule.left rule.right → IsHeaded g first.left first.right
+    → PairedBy v k rule place first second → IsHeadStated g s t rule.left → IsHeadStated g s t first.left
+first_allows g s t v k rule first second place all w h p a =
+    let e : head_of g rule.left ≡ Some h.0 = head_of_born g v.rules k _ _ rule h.0 all w p.reduces
+    (head_front g first.right (after_first first second place.at) h.0 h.2) in
     (h.0, h.1, subst (ConformsIfAny s t) (same_Some _ _ (sym a.1 ∙ e)) a.2)

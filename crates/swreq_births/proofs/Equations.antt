@@ -1,20 +1,24 @@
 -- The equations of rounds: if lines state what the left side asks, both sides are read alike.
 use Rattle.std.proofs.Common.{◌≡◌, inl, ℕ, List, [], ◌∷◌, ◌++◌, Option, Some, None, slice_get, refl, sym, ap, subst, ◌∙◌}
-use Rattle.std.proofs.lemmas.Option.{get_or_from_slice_get, same_Some}
-use Rattle.swreq_param.specs.{declared.ids.{ProtoId.{ProtoId}, TermId.{TermId}}, Tables.{IsOf, term_at}, Terms.{Term}}
+use Rattle.std.proofs.lemmas.Option.{get_or_from_slice_get, same_Some, slice_get_within}
+use Rattle.swreq_param.specs.declared.ids.{ProtoId.{ProtoId}, Step.TheVariants.{Name as NameStep}, TermId.{TermId}}
+use Rattle.swreq_param.specs.{Tables.{IsOf, term_at}, Terms.{Term, Term.{Member as MemberOf}}}
 use Rattle.swreq_correspondence.specs.swreq_derive.Derivation.{TermRequirement.{Conforms, IsAnyObject}, TermStatement.{Requires}}
+use Rattle.swreq_correspondence.specs.swreq_derive.declared.requirements.Statement.TheVariants.{Holds}
 use Rattle.swreq_correspondence.specs.swreq_word.declared.symbols.Symbol.{Symbol}
 use Rattle.swreq_correspondence.specs.swreq_word.declared.symbols.Symbol.TheVariants.{Layout as LayoutSymbol, Member, Name, Proto}
 use Rattle.swreq_complete.specs.swreq_rule.declared.rules.Rule.{Rule}
 use Rattle.swreq_derivation.specs.declared.{derivation.Derivation.{Derivation}, statements.Bound.{Bound}}
-use Rattle.swreq_derivation.specs.{declared.statements.Bound.TheVariants.{AnyObject, Protocol}, UnderWay.{AddsLines, States, StatesBound}}
+use Rattle.swreq_derivation.specs.declared.statements.Bound.TheVariants.{AnyObject, Protocol}
 use Rattle.swreq_derivation.specs.Origins.{ConformsIfAny}
+use Rattle.swreq_derivation.specs.UnderWay.{AddsLines, AreIdsIn, States, StatesBound, bound_on}
 use Rattle.swreq_readings.specs.{declared.alphabet.Alphabet.{Alphabet}, swreq_lexicon.declared.pair.ProtocolName.{ProtocolName}}
-use Rattle.swreq_readings.specs.{Alphabets.{lexicon, member_at}, Readable.{AllowsSymbol, AllowsWord, AreReadEqual, read_word}}
+use Rattle.swreq_readings.specs.{Alphabets.{lexicon, member_at}, Readable.{AllowsName, AllowsSymbol, AllowsWord, AreReadEqual, read_word}}
 use Rattle.swreq_readings.proofs.ReadingLemmas.{is_still, read_on, term_still, word_both, word_right}
 use Rattle.swreq_births.specs.declared.history.{History.{History}, Equation.{Equation}, Reason.{Reason}}
 use Rattle.swreq_births.specs.declared.history.OwnedRequirement.{OwnedRequirement, TheVariants.{Conf, Layout, Same}}
-use Rattle.swreq_births.specs.{Heads.{head_of, IsHeadStated}, Readings.{symbol_of}, Systems.{HasEquation, HasShownSides, IsGivenBy}}
+use Rattle.swreq_births.specs.{declared.types.ReadingPlace.{ReadingPlace}, Heads.{head_of, IsHeadStated}, Readings.{symbol_of}}
+use Rattle.swreq_births.specs.{Systems.{HasEquation, HasShownSides, IsGivenBy}, Unfolding.{AllowsScope}}
 use Rattle.swreq_births.proofs.{Headed.{shown_head}, Alike.{both_as}, Asking.{head_front}}
 
 -- ---- what is asked, as a derivation grows
@@ -33,6 +37,14 @@ pub allows_now : (g : Alphabet) (s u : Derivation) → AddsLines s u → (t : Te
     → IsHeadStated g s (term_at s.table t) w
     → IsHeadStated g u (term_at u.table t) w
 allows_now g s u grows t w i a = (a.0, a.1, asked_now s u grows t a.0 i a.2)
+
+-- what is read by a scope may be read by it in the grown derivation
+pub scope_still : {b : History} {s u : Derivation} {scope : ReadingPlace} → AllowsScope b s scope → AddsLines s u → AllowsScope b u scope
+scope_still {b} {s} {u} {scope} w grows = record {
+  system = w.system;
+  for_self = is_still s u grows scope.for_self w.for_self;
+  owner = asked_now s u grows scope.for_self scope.owner w.for_self w.owner;
+}
 
 -- if a rule may be read in a derivation, it may be read in the grown derivation
 pub allowed_still : (g : Alphabet) (s u : Derivation) → AddsLines s u → (t : TermId) (w : List Symbol) → IsOf s.table t
@@ -59,6 +71,9 @@ sides_as g owner rules q p left right = subst (λ z. HasShownSides g owner rules
 
 -- ---- the basic equations
 
+pub member_is : (g : Alphabet) (k : ℕ) (n : ProtocolName) → slice_get (lexicon g).symbols k ≡ Some n → member_at g k ≡ n
+member_is g k n there = get_or_from_slice_get (lexicon g).symbols k n _ there
+
 module _ (g : Alphabet) (s : Derivation) (t : Term) (left right : List Symbol) where
   -- a doubled protocol symbol
   pub doubled_both : (p : ProtoId) → left ≡ Proto p.rank ∷ Proto p.rank ∷ [] → right ≡ Proto p.rank ∷ [] → IsHeadStated g s t left
@@ -69,21 +84,23 @@ module _ (g : Alphabet) (s : Derivation) (t : Term) (left right : List Symbol) w
       (record { left = (says, (says, tt)); right = (says, tt); equal = inl refl })
 
   module _ (k : ℕ) (n : ProtocolName) (there : slice_get (lexicon g).symbols k ≡ Some n) where
-    member_is : member_at g k ≡ n
-    member_is = get_or_from_slice_get (lexicon g).symbols k n _ there
-
     -- a member symbol
-    pub member_asks : left ≡ Proto n.proto.rank ∷ Name n.name.rank ∷ [] → IsHeadStated g s t left
-        → States s (Requires (Conforms t (member_at g k).proto))
-    member_asks e a = subst (λ (z : ProtocolName). States s (Requires (Conforms t z.proto))) (sym member_is)
-        (asked_of g s t left (Some n.proto) a (ap (head_of g) e))
-
-    pub member_both : left ≡ Proto n.proto.rank ∷ Name n.name.rank ∷ [] → right ≡ Member k ∷ []
-        → AreReadEqual g s t (Proto (member_at g k).proto.rank ∷ Name (member_at g k).name.rank ∷ []) (Member k ∷ [])
-        → AreReadEqual g s t left right
-    member_both e f w =
-        both_as g s t t _ left (Member k ∷ []) right refl (ap (λ (z : ProtocolName). Proto z.proto.rank ∷ Name z.name.rank ∷ []) member_is
-        ∙ sym e) (sym f) w
+    pub member_both : left ≡ Proto n.proto.rank ∷ Name n.name.rank ∷ [] → right ≡ Member k ∷ [] → States s (Requires (Conforms t n.proto))
+        → AllowsName g s t n.name → AreReadEqual g s t left right
+    member_both e f says named =
+        let is = sym (member_is g k n there) in
+        both_as g s t t (Proto n.proto.rank ∷ Name n.name.rank ∷ []) left (Member k ∷ []) right refl (sym e) (sym f) (record {
+          left = (says, (named, tt));
+          right = (
+            (
+              slice_get_within (lexicon g).symbols k n there,
+              subst (λ (z : ProtocolName). States s (Requires (Conforms t z.proto))) is says,
+              subst (λ (z : ProtocolName). AllowsName g s t z.name) is named,
+            ),
+            tt,
+          );
+          equal = inl (ap (λ (z : ProtocolName). MemberOf t (NameStep z.name)) is);
+        })
 
 -- ---- the equations of requirements
 
@@ -101,6 +118,10 @@ module _ (g : Alphabet) (s : Derivation) (t : Term) (w : List Symbol) where
     right = h;
     equal = inl (read_on g t w (LayoutSymbol ∷ []));
   }
+
+pub bound_ids : (terms : List Term) (bound : Bound) (t : TermId) → IsOf terms t → AreIdsIn terms (Holds (bound_on bound t))
+bound_ids terms (Protocol p) t h = h
+bound_ids terms AnyObject t h = h
 
 -- what lines state of the bound of a type parameter allows the symbol of the bound after it
 pub bound_allowed : (g : Alphabet) (s u : Derivation) (v : TermId) (x : Term) (bound : Bound) → term_at s.table v ≡ x

@@ -1,12 +1,12 @@
 -- Both sides of each rule ask the same.
-use Rattle.std.proofs.Common.{◌≡◌, ◌⊎◌, inl, inr, ℕ, zero, suc, ◌+◌, ◌-◌, ◌<◌, ◌≤◌, List, [], ◌++◌, length, take, slice_get, Some, Option}
-use Rattle.std.proofs.Common.{None, refl, sym, ap, subst, ◌∙◌, arith, append_assoc}
+use Rattle.std.proofs.Common.{◌≡◌, inl, inr, ℕ, zero, suc, ◌+◌, ◌-◌, ◌<◌, ◌≤◌, List, length, take, slice_get, Some, Option}
+use Rattle.std.proofs.Common.{None, refl, sym, ap, subst, ◌∙◌, arith}
 use Rattle.std.proofs.lemmas.{Option.{get_or_from_slice_get, slice_get_within, same_Some}, Bool.{cases_lt}}
-use Rattle.std.proofs.lemmas.List.{append-nil, get_or_past, take_all}
+use Rattle.std.proofs.lemmas.List.{get_or_past, take_all}
 use Rattle.swreq_param.specs.{declared.ids.ProtoId.{ProtoId}, Terms.{Term}}
 use Rattle.swreq_correspondence.{specs.swreq_word.declared.symbols.Symbol.{Symbol}, proofs.swreq_derive.LineLemmas.{get_take}}
 use Rattle.swreq_complete.specs.swreq_rule.declared.rules.{Birth.{Birth, TheVariants.{Given, Pair}}, Rule.{Rule}, Place.{Place}}
-use Rattle.swreq_complete.specs.{swreq_rule.Steps.{RuleAt}, swreq_pair.Pairs.{ContainmentPair, IsPair, OverlapPair}}
+use Rattle.swreq_complete.specs.swreq_rule.Steps.{RuleAt}
 use Rattle.swreq_complete.proofs.swreq_rule.Numbers.{number_some}
 use Rattle.swreq_derivation.specs.declared.derivation.Derivation.{Derivation}
 use Rattle.swreq_readings.specs.{declared.alphabet.Alphabet.{Alphabet}, Alphabets.{lexicon}, Readable.{AllowsWord, read_word}}
@@ -16,9 +16,9 @@ use Rattle.swreq_births.specs.declared.history.{Reason.TheVariants.{Doubled, Nam
 use Rattle.swreq_births.specs.Heads.{head_of, IsHeadStated}
 use Rattle.swreq_births.specs.Systems.{HasRule, HasRules, HasShownSides, HasSystem, IsBornAt, IsGivenBy, IsHistory, IsShown, IsSystem}
 use Rattle.swreq_births.specs.Systems.{ReducesTo, rules_at, system_at, systems_of}
-use Rattle.swreq_births.proofs.Asking.{IsHeaded, AreHeaded, head_front, head_of_born, head_put, head_reduces}
-use Rattle.swreq_births.proofs.Births.{head_of_pair, born_of, BornOf, GivenBy, PairedBy, first_allows, given_by, pair_kind, pair_within}
-use Rattle.swreq_births.proofs.Births.{paired_by, rule_at_number, second_allows}
+use Rattle.swreq_births.proofs.Asking.{IsHeaded, AreHeaded, head_front, head_of_born, head_reduces}
+use Rattle.swreq_births.proofs.Births.{born_of, BornOf, GivenBy, PairedBy, first_allows, given_by, pair_headed, paired_by, paired_with}
+use Rattle.swreq_births.proofs.Births.{rule_at_number, second_allows}
 
 -- ---- equations
 
@@ -49,29 +49,6 @@ given_headed b r (Named k) left right h =
     (ap (head_of b.alphabet) h.3 ∙ ap (λ n. Some (Some n.proto)) (get_or_from_slice_get (lexicon b.alphabet).symbols k h.0 _ h.1))
 given_headed b r (Required owner n q shown) left right h = sides_headed b.alphabet owner _ q left right h.1
 
--- ---- pairs
-
--- The right side of a pair asks what its first rule asks.
-right_of_pair : (g : Alphabet) (rules : List Rule) (place : Place) (left right : List Symbol) (p : IsPair rules place left right)
-    (h : Option ProtoId)
-    → IsHeaded g p.second.left p.second.right → head_of g p.first.left ≡ Some h → head_of g right ≡ Some h
-right_of_pair g rules place left right p h second e = elim p.kind [
-  | inl o ↦ (let c = o.overlap in
-      let w : p.first.left ++ c.after ≡ c.before ++ (p.second.left ++ []) = ap (λ z. z ++ c.after) c.first_is
-      ∙ append_assoc c.before c.common c.after
-      ∙ ap (λ z. c.before ++ z) (sym c.second_is ∙ sym (append-nil _)) in
-      ap (head_of g) (o.right_is ∙ ap (λ z. c.before ++ z) (sym (append-nil _)))
-      ∙ head_put g c.before p.second.left p.second.right [] h second (sym (ap (head_of g) w) ∙ head_front g p.first.left c.after h e))
-  | inr o ↦ (let c = o.1.containment in
-      ap (head_of g) o.1.right_is ∙ head_put g c.before p.second.left p.second.right c.after h second (sym (ap (head_of g) c.first_is) ∙ e))
-]
-
-pair_headed : (g : Alphabet) (rules : List Rule) (place : Place) (left right : List Symbol) (p : IsPair rules place left right)
-    → IsHeaded g p.first.left p.first.right → IsHeaded g p.second.left p.second.right → IsHeaded g left right
-pair_headed g rules place left right p first second =
-    headed_by g left right first.0 (head_of_pair g rules place left right p.first first.0 p p.first_at first.2)
-    (right_of_pair g rules place left right p first.0 second first.1)
-
 -- ---- rules
 
 -- Both sides of a rule ask the same if the two words that it is born of do, and the sides of each rule before it do.
@@ -100,15 +77,12 @@ module _ (b : History) (r : ℕ) (v : System) (w : IsSystem b r v) where
       (given_headed b r f.equation.reason f.equation.left f.equation.right (w.given (n - 1) f.equation f.is_there)) f.reduces
   of_birth k rule (Pair i j at) birth past e below =
       let place : Place = record { i = i; j = j; at = at } in
-      let f = paired_by v k rule place (born_of v k rule (Pair i j at) past e birth (w.born k rule past e)) in
-      let p = f.pair in
-      let first : p.first_at.0 < k = (let n : i ≡ suc p.first_at.0 = p.first_at.1 in let m : i ≤ k = f.first_within in omega
-      (arith, n, m)) in
-      let second : p.second_at.0 < k = (let n : j ≡ suc p.second_at.0 = p.second_at.1 in let m : j ≤ k = f.second_within in omega
-      (arith, n, m)) in
-      reduced_headed b.alphabet v.rules k f.left f.right rule (λ i x j. (let q = get_take k i v.rules x j in below i x q.0 q.1))
-      (pair_headed b.alphabet v.rules place f.left f.right p (below p.first_at.0 p.first first p.first_at.2)
-      (below p.second_at.0 p.second second p.second_at.2)) f.reduces
+      let (first, second, p) = paired_by v k rule place (born_of v k rule (Pair i j at) past e birth (w.born k rule past e)) in
+      let before : (n : ℕ) (x : Rule) (h : RuleAt v.rules n x) → n ≤ k → IsHeaded b.alphabet x.left x.right
+      = λ n x h m. (let f : n ≡ suc h.0 = h.1 in below h.0 x (omega (arith, f, m)) h.2) in
+      reduced_headed b.alphabet v.rules k _ _ rule (λ i x j. (let q = get_take k i v.rules x j in below i x q.0 q.1))
+      (pair_headed b.alphabet first second at p.met (before j second p.is_second p.second_within)
+      (before i first p.is_first p.first_within)) p.reduces
 
   module _ (lower : (q k : ℕ) (rule : Rule) → q < r → slice_get (rules_at b q) k ≡ Some rule → IsHeaded b.alphabet rule.left rule.right)
     where
@@ -161,9 +135,18 @@ module _ {b : History} {at : RulePlace} {rule : Rule} (w : HasRule b at rule) wh
   pub given_at : (n : ℕ) → IsBornAt b at rule (Given n) → GivenBy (system_at b at.system) at.rule rule n
   given_at n h = given_by (system_at b at.system) at.rule rule n (bore (Given n) h)
 
+  -- The two rules of the place, if the rule is born of their pair.
   pub paired_at : (place : Place) → IsBornAt b at rule (Pair place.i place.j place.at)
-      → PairedBy (system_at b at.system) at.rule rule place
+      → (first : Rule) × (second : Rule) × PairedBy (system_at b at.system) at.rule rule place first second
   paired_at place h = paired_by (system_at b at.system) at.rule rule place (bore (Pair place.i place.j place.at) h)
+
+  -- the same of the two rules that its numbers name
+  pub paired_here : {first second : Rule} {rules : List Rule} (place : Place) → IsBornAt b at rule (Pair place.i place.j place.at)
+      → rules ≡ rules_at b at.system → RuleAt rules place.i first → RuleAt rules place.j second
+      → PairedBy (system_at b at.system) at.rule rule place first second
+  paired_here {first} {second} place h same is js =
+      let (x, y, p) = paired_at place h in
+      paired_with (subst (λ z. RuleAt z place.i first) same is) (subst (λ z. RuleAt z place.j second) same js) p
 
   -- the system has the rules before its rule
   pub rules_until : HasRules b at
@@ -183,58 +166,35 @@ pub stands_before : (b : History) (at before : RulePlace) (n : ℕ) (rule : Rule
 stands_before b at before n rule w e h is =
     subst (λ z. StandsBefore b at z rule) (sym e) (record { same = refl; earlier = h; there = record { system = w; is = is } })
 
--- The rule is born of the pair at this place, and these are the two rules of the pair.
-pub record PairHere (b : History) (at : RulePlace) (rule : Rule) (place : Place) (first second : Rule) : Type 0 where
-  pub born : PairedBy (system_at b at.system) at.rule rule place
-  pub is_first : RuleAt (rules_at b at.system) place.i first
-  pub is_second : RuleAt (rules_at b at.system) place.j second
-
-pub pair_here : {b : History} {at : RulePlace} {rule first second : Rule} {rules : List Rule} → HasRule b at rule → (place : Place)
-    → IsBornAt b at rule (Pair place.i place.j place.at) → rules ≡ rules_at b at.system
-    → RuleAt rules place.i first → RuleAt rules place.j second → PairHere b at rule place first second
-pair_here {b} {at} {rule} {first} {second} w place born same is_first is_second = record {
-  born = paired_at w place born;
-  is_first = subst (λ z. RuleAt z place.i first) same is_first;
-  is_second = subst (λ z. RuleAt z place.j second) same is_second;
-}
-
 module _ {b : History} {at : RulePlace} {rule : Rule} {place : Place} {first second : Rule} (w : HasRule b at rule)
-    (p : PairHere b at rule place first second) where
+    (p : PairedBy (system_at b at.system) at.rule rule place first second) where
   abbrev rules : List Rule
   rules = rules_at b at.system
 
+  -- the rule that a number up to that of the rule names stands before the rule
+  before_it : (n : ℕ) (x : Rule) (before : RulePlace) → RuleAt rules n x → n ≤ at.rule
+      → before ≡ record { system = at.system; rule = n - 1 } → StandsBefore b at before x
+  before_it n x before is within e =
+      stands_before b at before n x w.system e (omega (arith, number_some rules n x is, within)) (rule_at_number rules n x is)
+
   pub first_before : (before : RulePlace) → before ≡ record { system = at.system; rule = place.i - 1 } → StandsBefore b at before first
-  first_before before e =
-      let above = number_some rules place.i first p.is_first in
-      stands_before b at before place.i first w.system e (omega (arith, above, p.born.first_within))
-      (rule_at_number rules place.i first p.is_first)
+  first_before before = before_it place.i first before p.is_first p.first_within
 
   pub second_before : (before : RulePlace) → before ≡ record { system = at.system; rule = place.j - 1 } → StandsBefore b at before second
-  second_before before e =
-      let above = number_some rules place.j second p.is_second in
-      stands_before b at before place.j second w.system e (omega (arith, above, p.born.second_within))
-      (rule_at_number rules place.j second p.is_second)
+  second_before before = before_it place.j second before p.is_second p.second_within
 
   -- if lines state what the rule asks, they state what the first rule of the pair asks
   pub first_asked : (s : Derivation) (t : Term) → IsHeadStated b.alphabet s t rule.left → IsHeadStated b.alphabet s t first.left
   first_asked s t a =
       let all = headed b w.system.history at.system in
-      first_allows b.alphabet s t (system_at b at.system) at.rule rule first place all (all at.rule rule w.is)
-      (all (place.i - 1) first (rule_at_number rules place.i first p.is_first)) p.born p.is_first a
+      first_allows b.alphabet s t (system_at b at.system) at.rule rule first second place all (all at.rule rule w.is)
+      (all (place.i - 1) first (rule_at_number rules place.i first p.is_first)) p a
 
   -- if lines allow the left side of the first rule, they state what the second rule asks after the part that stands before it
   pub second_asked : (s : Derivation) (t : Term) → AllowsWord b.alphabet s t first.left
       → IsHeadStated b.alphabet s (read_word b.alphabet t (take place.at first.left)) second.left
-  second_asked s t h =
-      second_allows b.alphabet s t rules place p.born.left p.born.right first second p.born.pair p.is_first p.is_second
-      (headed b w.system.history at.system (place.j - 1) second (rule_at_number rules place.j second p.is_second)) h
-
-  pub within_first : place.at ≤ length first.left
-  within_first = pair_within rules place p.born.left p.born.right first p.born.pair p.is_first
-
-  pub kind_of : (left right : List Symbol) → IsPair rules place left right
-      → OverlapPair first second place.at left right ⊎ ContainmentPair first second place.at left right
-  kind_of left right h = pair_kind rules place left right first second h p.is_first p.is_second
+  second_asked = second_allows b.alphabet first second place.at p.met
+      (headed b w.system.history at.system (place.j - 1) second (rule_at_number rules place.j second p.is_second))
 
 -- The two words ask the same. The left side of an equation and that of the rule that is born of it do.
 pub record AsksAlike (g : Alphabet) (u v : List Symbol) : Type 0 where

@@ -1,64 +1,73 @@
--- The parts of the words of pairs.
-use Rattle.std.proofs.Common.{◌≡◌, ℕ, ◌+◌, ◌-◌, ◌≤◌, List, ◌++◌, length, drop, take, refl, sym, ap, subst, ◌∙◌, arith, append_assoc}
-use Rattle.std.proofs.{Common.{length-append}, lemmas.List.{drop_at, take_at}}
-use Rattle.swreq_complete.specs.{swreq_pair.Pairs.{ContainmentPair, OverlapPair}, swreq_rule.declared.rules.Rule.{Rule}}
+-- The word in which the left sides of the two rules of a pair meet.
+use Rattle.std.proofs.Common.{◌≡◌, inl, inr, ℕ, ◌<◌, List, [], ◌++◌, length, drop, take, refl, sym, ap, ap₂, subst, ◌∙◌, arith}
+use Rattle.std.proofs.{Common.{append_assoc, length-append}, lemmas.List.{append-nil, drop_all, drop_at, take_at, take-append-drop}}
+use Rattle.swreq_complete.specs.swreq_pair.Pairs.{ContainmentPair, IsPair, OverlapPair}
+use Rattle.swreq_complete.specs.swreq_rule.declared.rules.{Place.{Place}, Rule.{Rule}}
 use Rattle.swreq_correspondence.specs.swreq_word.declared.symbols.Symbol.{Symbol}
-
--- ---- the parts of a pair
+use Rattle.swreq_births.specs.Pairs.{MeetAt, after_first, after_second, first_made, past, second_made}
 
 -- a word in two parts, the first of this length
-pub record InTwo (w : List Symbol) (n : ℕ) (u v : List Symbol) : Type 0 where
-  pub within : n ≤ length w
-  pub front : take n w ≡ u
-  pub back : drop n w ≡ v
+record InTwo (w : List Symbol) (n : ℕ) (u v : List Symbol) : Type 0 where
+  front : take n w ≡ u
+  back : drop n w ≡ v
 
-pub in_two : (w u v : List Symbol) (n : ℕ) → w ≡ u ++ v → length u ≡ n → InTwo w n u v
-in_two w u v n e h = subst (λ z. InTwo w z u v) h (subst (λ z. InTwo z (length u) u v) (sym e)
-    (record { within = omega (arith, length-append u v); front = take_at u v (length u) refl; back = drop_at u v (length u) refl }))
+in_two : (w u v : List Symbol) (n : ℕ) → w ≡ u ++ v → length u ≡ n → InTwo w n u v
+in_two w u v n e h = subst (λ z. InTwo w z u v) h
+    (subst (λ z. InTwo z (length u) u v) (sym e) (record { front = take_at u v (length u) refl; back = drop_at u v (length u) refl }))
 
--- The parts of an overlap: what stands before it, and what stands after it.
-pub record Crossed (first second : Rule) (at : ℕ) (left right : List Symbol) : Type 0 where
-  pub within : at ≤ length first.left
-  pub common_within : length first.left - at ≤ length second.left
-  pub word : first.left ++ drop (length first.left - at) second.left ≡ take at first.left ++ second.left
-  pub left_is : left ≡ first.right ++ drop (length first.left - at) second.left
-  pub right_is : right ≡ take at first.left ++ second.right
+-- The two left sides begin one word from this place on.
+pub record Met (first second : Rule) (at : ℕ) : Type 0 where
+  pub some : 0 < length second.left → 0 < length (drop at first.left)
+  pub meets : drop at first.left ++ after_first first second at ≡ second.left ++ after_second first second at
 
-pub crossed : (first second : Rule) (at : ℕ) (left right : List Symbol) → OverlapPair first second at left right
-    → Crossed first second at left right
-crossed first second at left right p =
-    let o = p.overlap in
-    let x = in_two first.left o.before o.common at o.first_is o.at_is in
-    let n : length first.left - at ≡ length o.common = omega (arith, ap length o.first_is, length-append o.before o.common, o.at_is) in
-    let y = in_two second.left o.common o.after (length first.left - at) o.second_is (sym n) in record {
-      within = x.within;
-      common_within = y.within;
-      word = ap (λ z. first.left ++ z) y.back ∙ ap (λ z. z ++ o.after) o.first_is ∙ append_assoc o.before o.common o.after
-          ∙ ap (λ z. o.before ++ z) (sym o.second_is) ∙ ap (λ z. z ++ second.left) (sym x.front);
-      left_is = p.left_is ∙ ap (λ z. first.right ++ z) (sym y.back);
-      right_is = p.right_is ∙ ap (λ z. z ++ second.right) (sym x.front);
-    }
+pub meet_at : {first second : Rule} {at : ℕ} → Met first second at → MeetAt first second at
+meet_at {first} {second} {at} m =
+    ap (λ z. z ++ after_first first second at) (sym (take-append-drop at first.left))
+    ∙ append_assoc (take at first.left) (drop at first.left) (after_first first second at) ∙ ap (λ z. take at first.left ++ z) m.meets
 
-pub record Contained (first second : Rule) (at : ℕ) (left right : List Symbol) : Type 0 where
-  pub within : at ≤ length first.left
-  pub end_within : at + length second.left ≤ length first.left
-  pub word : first.left ≡ take at first.left ++ (second.left ++ drop (at + length second.left) first.left)
-  pub left_is : left ≡ first.right
-  pub right_is : right ≡ take at first.left ++ (second.right ++ drop (at + length second.left) first.left)
+-- The two sides of a pair are what its rules make of the word in which their left sides meet.
+pub record MetIn (first second : Rule) (at : ℕ) (left right : List Symbol) : Type 0 where
+  pub met : Met first second at
+  pub left_is : left ≡ first_made first second at
+  pub right_is : right ≡ second_made first second at
 
-pub contained : (first second : Rule) (at : ℕ) (left right : List Symbol) → ContainmentPair first second at left right
-    → Contained first second at left right
-contained first second at left right p =
-    let o = p.containment in
-    let x = in_two first.left o.before (second.left ++ o.after) at o.first_is o.at_is in
-    let n : length (o.before ++ second.left) ≡ at + length second.left = omega (arith, length-append o.before second.left, o.at_is) in
-    let y = in_two first.left (o.before ++ second.left) o.after (at + length second.left)
-    (o.first_is ∙ sym (append_assoc o.before second.left o.after)) n in record {
-      within = x.within;
-      end_within = y.within;
-      word = o.first_is ∙ ap (λ z. z ++ (second.left ++ o.after)) (sym x.front)
-          ∙ ap (λ z. take at first.left ++ (second.left ++ z)) (sym y.back);
-      left_is = p.left_is;
-      right_is = p.right_is ∙ ap (λ z. z ++ (second.right ++ o.after)) (sym x.front)
-          ∙ ap (λ z. take at first.left ++ (second.right ++ z)) (sym y.back);
-    }
+module _ (first second : Rule) (at : ℕ) (left right : List Symbol) where
+  overlapping : OverlapPair first second at left right → MetIn first second at left right
+  overlapping p =
+      let o = p.overlap in
+      let x = in_two first.left o.before o.common at o.first_is o.at_is in
+      let y : after_first first second at ≡ o.after = ap (past second.left) x.back ∙ ap (λ z. past z o.common) o.second_is
+      ∙ drop_at o.common o.after (length o.common) refl in
+      let z : after_second first second at ≡ [] = drop_all (length second.left) (drop at first.left)
+      (omega (arith, ap length x.back, ap length o.second_is, length-append o.common o.after)) in record {
+        met = record {
+          some = λ n. omega (arith, ap length x.back, o.common_some);
+          meets = ap₂ (λ v w. v ++ w) x.back y ∙ sym o.second_is ∙ sym (append-nil second.left) ∙ ap (λ w. second.left ++ w) (sym z);
+        };
+        left_is = p.left_is ∙ ap (λ w. first.right ++ w) (sym y);
+        right_is = p.right_is ∙ ap (λ w. w ++ second.right) (sym x.front)
+            ∙ ap (λ w. take at first.left ++ w) (sym (append-nil second.right) ∙ ap (λ w. second.right ++ w) (sym z));
+      }
+
+  containing : ContainmentPair first second at left right → MetIn first second at left right
+  containing p =
+      let o = p.containment in
+      let x = in_two first.left o.before (second.left ++ o.after) at o.first_is o.at_is in
+      let y : after_first first second at ≡ [] = drop_all (length (drop at first.left)) second.left
+      (omega (arith, ap length x.back, length-append second.left o.after)) in
+      let z : after_second first second at ≡ o.after = ap (λ w. past w second.left) x.back
+      ∙ drop_at second.left o.after (length second.left) refl in record {
+        met = record {
+          some = λ n. omega (arith, n, ap length x.back, length-append second.left o.after);
+          meets = ap₂ (λ v w. v ++ w) x.back y ∙ append-nil (second.left ++ o.after) ∙ ap (λ w. second.left ++ w) (sym z);
+        };
+        left_is = p.left_is ∙ sym (append-nil first.right) ∙ ap (λ w. first.right ++ w) (sym y);
+        right_is = p.right_is ∙ ap₂ (λ v w. v ++ (second.right ++ w)) (sym x.front) (sym z);
+      }
+
+pub met_in : (rules : List Rule) (place : Place) (left right : List Symbol) (p : IsPair rules place left right)
+    → MetIn p.first p.second place.at left right
+met_in rules place left right p = elim p.kind [
+  | inl o ↦ overlapping p.first p.second place.at left right o
+  | inr o ↦ containing p.first p.second place.at left right o.1
+]

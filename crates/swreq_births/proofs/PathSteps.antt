@@ -1,10 +1,11 @@
 -- The steps of paths, and the rules that numbers name.
 use Rattle.std.proofs.Common.{◌≡◌, ℕ, suc, ◌+◌, ◌-◌, ◌<◌, List, ◌++◌, drop, take, slice_get, Some, sym, ap, subst, ◌∙◌, arith}
 use Rattle.swreq_correspondence.{specs.swreq_word.declared.symbols.Symbol.{Symbol}, proofs.swreq_derive.LineLemmas.{get_take}}
-use Rattle.swreq_complete.specs.{swreq_rule.{declared.rules.Rule.{Rule}, Steps.{RuleAt}}, swreq_path.declared.paths.Path.{Path}}
+use Rattle.swreq_complete.specs.{swreq_pair.Pairs.{IsNumberOf}, swreq_rule.{declared.rules.Rule.{Rule}, Steps.{RuleAt}}}
+use Rattle.swreq_complete.specs.swreq_path.declared.paths.Path.{Path}
 use Rattle.swreq_complete.specs.swreq_path.declared.steps.RewriteStep.{RewriteStep}
 use Rattle.swreq_complete.specs.swreq_path.Paths.{HasTarget, replaced_side, put_side, StepLeads, StepsLead}
-use Rattle.swreq_complete.proofs.{swreq_lemmas.Elements.{drop_from}, swreq_rule.Numbers.{one_rule}}
+use Rattle.swreq_complete.proofs.{swreq_lemmas.Elements.{drop_from}, swreq_rule.Numbers.{number_some, number_within, one_rule}}
 
 -- ---- a step of a path
 
@@ -32,6 +33,9 @@ pub went_on : (rules : List Rule) (steps : List RewriteStep) (k : ℕ) (step : R
     → slice_get steps k ≡ Some step → StepLeads rules step u v
     → StepsLead rules (drop (k + 1) steps) v b → StepsLead rules (drop k steps) u b
 went_on rules steps k step u v b e h r = subst (λ z. StepsLead rules z u b) (sym (drop_from steps k step e)) (v, h, r)
+
+pub is_number : (rules : List Rule) (n : ℕ) (a : Rule) → RuleAt rules n a → IsNumberOf rules n
+is_number rules n a h = (number_some rules n a h, number_within rules n a h)
 
 -- a rule among the first k rules, by its place among all rules
 pub rule_before : (rules : List Rule) (k n : ℕ) (a : Rule) → RuleAt (take k rules) n a → (n - 1 < k) × (slice_get rules (n - 1) ≡ Some a)

@@ -2,13 +2,17 @@
 use Rattle.std.proofs.Common.{◌≡◌, List, Option, sym, ap, subst, ◌∙◌}
 use Rattle.swreq_param.specs.{declared.ids.{ProtoId.{ProtoId}, Step.{Step}, TermId.{TermId}}, Tables.{IsOf, term_at}, Terms.{Term}}
 use Rattle.swreq_correspondence.specs.swreq_word.declared.symbols.Symbol.{Symbol}
-use Rattle.swreq_derivation.specs.declared.{derivation.Derivation.{Derivation}, requirements.Origin.{Origin}}
-use Rattle.swreq_derivation.specs.{UnderWay.{AddsLines, AreStatedEqual}, Origins.{IsOrigin, placed}}
-use Rattle.swreq_derivation.proofs.DerivationLemmas.{grows_then}
+use Rattle.swreq_correspondence.specs.swreq_derive.{declared.requirements.Requirement.{Requirement}, Facts.{requirement_of}}
+use Rattle.swreq_correspondence.specs.swreq_derive.{Derivation.TermRequirement.{Conforms, IsAnyObject}, Instances.{HasNumber}}
+use Rattle.swreq_derivation.specs.declared.{derivation.Derivation.{Derivation}, requirements.Origin.{Origin}, statements.Bound.{Bound}}
+use Rattle.swreq_derivation.specs.declared.statements.Bound.TheVariants.{AnyObject, Protocol}
+use Rattle.swreq_derivation.specs.UnderWay.{AddsLines, AreEqualIds, AreStatedEqual, Assumptions, ContinuesFrom, bound_on}
+use Rattle.swreq_derivation.{specs.Origins.{IsOrigin, IsWrittenOf, placed, placed_in, written_by}, proofs.DerivationLemmas.{grows_then}}
+use Rattle.swreq_derivation.proofs.DerivationLemmas.{continues_if, continues_then}
 use Rattle.swreq_readings.specs.{declared.alphabet.Alphabet.{Alphabet}, swreq_lexicon.declared.pair.ProtocolName.{ProtocolName}}
 use Rattle.swreq_readings.specs.Readable.{AllowsWord, IsGiven, read_word}
 use Rattle.swreq_readings.proofs.ReadingLemmas.{equal_as, equal_still, is_still, term_still, word_still}
-use Rattle.swreq_births.{specs.Readings.{IsReadBy}, proofs.Equations.{asked_now}}
+use Rattle.swreq_births.{specs.Readings.{IsReadBy, bound_by}, proofs.Equations.{asked_now}}
 
 pub origin_still : (s u : Derivation) → AddsLines s u → (o : Origin) → IsOrigin s o → IsOrigin u o
 origin_still s u grows o w = record {
@@ -25,6 +29,23 @@ pub placed_still : (s n u : Derivation) → AddsLines s n → AddsLines n u → 
     → IsOf n.table v → term_at n.table v ≡ placed o (term_at s.table t) x → term_at u.table v ≡ placed o (term_at u.table t) x
 placed_still s n u first second o t v x h k e =
     placed_now s u (grows_then first second) o t v x h (term_still n u second v k ∙ e)
+
+bound_placed : (terms : List Term) (owner : Option ProtoId) (t x : Term) (v : TermId) (bound : Bound) → term_at terms v ≡ placed owner t x
+    → requirement_of terms (bound_on bound v) ≡ placed_in owner t (bound_by bound x)
+bound_placed terms owner t x v (Protocol p) e = ap (λ z. Conforms z p) e
+bound_placed terms owner t x v AnyObject e = ap IsAnyObject e
+
+-- The line of a requirement of a bound is one of a requirement that the owner writes.
+pub bound_put : {Of : Assumptions → Type 0} (s n u : Derivation) (o : Origin) (v : TermId) (x : Term) (bound : Bound) (r : Requirement)
+    → IsOf s.table o.for_self → term_at n.table v ≡ placed o.owner (term_at s.table o.for_self) x → r ≡ bound_on bound v
+    → ((b : Assumptions) → Of b → HasNumber o.number (written_by b o.owner) (bound_by bound x)) → ContinuesFrom Of s n
+    → ContinuesFrom (IsWrittenOf n o r) n u → ContinuesFrom Of s u
+bound_put s n u o v x bound r is at e written first put = continues_then first (continues_if (λ b f. (
+  bound_by bound x,
+  written b f,
+  subst (λ z. requirement_of n.table z ≡ placed_in o.owner (term_at n.table o.for_self) (bound_by bound x)) (sym e)
+      (bound_placed n.table o.owner (term_at n.table o.for_self) x v bound (placed_now s n first.grows o.owner o.for_self v x is at)),
+)) put)
 
 pub side_still : (g : Alphabet) (s u : Derivation) → AddsLines s u → (t v : TermId) (w : List Symbol) → IsOf s.table t → IsReadBy g s t v w
     → IsReadBy g u t v w
@@ -50,20 +71,22 @@ side_read g s u grows t v x w h id stands says equal =
 
 -- A side after lines were added. Its word was read after lines were added for the other side.
 pub record IsOnSide (g : Alphabet) (s u : Derivation) (t v last : TermId) (w : List Symbol) : Type 0 where
-  pub grows : AddsLines s u
   pub stands : term_at u.table last ≡ read_word g (term_at s.table t) w
   pub word : AllowsWord g u (term_at s.table t) w
-  pub equal : AreStatedEqual u (term_at u.table v) (term_at u.table last)
+  pub equal : AreEqualIds u v last
 
 pub on_side : (g : Alphabet) (s n u : Derivation) → AddsLines s n → AddsLines n u → (t v last : TermId) (w : List Symbol) → IsOf s.table t
-    → IsReadBy g s t v w → term_at u.table last ≡ read_word g (term_at n.table t) w → IsOnSide g s u t v last w
-on_side g s n u first second t v last w h side e =
+    → IsReadBy g s t v w → IsOf u.table last → term_at u.table last ≡ read_word g (term_at n.table t) w → IsOnSide g s u t v last w
+on_side g s n u first second t v last w h side is e =
     let grows = grows_then first second in
     let stands = e ∙ ap (λ z. read_word g z w) (term_still s n first t h) in record {
-      grows = grows;
       stands = stands;
       word = word_still g s u grows (term_at s.table t) w side.word;
-      equal = equal_as u _ _ _ _ (term_still s u grows v side.id) stands (equal_still g s u grows _ _ side.equal);
+      equal = (
+        is_still s u grows v side.id,
+        is,
+        equal_as u _ _ _ _ (term_still s u grows v side.id) stands (equal_still g s u grows _ _ side.equal),
+      );
     }
 
 -- A part of a word, read once lines state that an associated type is declared after it.

@@ -10,7 +10,7 @@ use Rattle.swreq_complete.specs.swreq_rule.{declared.rules.{Birth.{Birth}, Rule.
 use Rattle.swreq_complete.specs.{Alike.{ReduceAlike}, Reached.{IsBorn}}
 use Rattle.swreq_derivation.specs.{Origins.{written_by}, UnderWay.{Assumptions}}
 use Rattle.swreq_readings.specs.{declared.alphabet.Alphabet.{Alphabet}, swreq_lexicon.declared.pair.ProtocolName.{ProtocolName}}
-use Rattle.swreq_readings.specs.{swreq_lexicon.Lexicons.{pair}, Alphabets.{Fits, IsInherited, lexicon}}
+use Rattle.swreq_readings.specs.{swreq_lexicon.Lexicons.{pair}, Alphabets.{Fits, lexicon}}
 use Rattle.swreq_births.specs.declared.history.{RulePlace.{RulePlace}, History.{History}, Equation.{Equation}}
 use Rattle.swreq_births.specs.declared.history.{OwnedRequirement.{OwnedRequirement, TheVariants.{Conf, Layout, Same}}, Reason.{Reason}}
 use Rattle.swreq_births.specs.declared.history.{Reason.TheVariants.{Doubled, Named as NamedBy, Required}, System.{System}}
@@ -87,9 +87,8 @@ pub record IsSystem (b : History) (r : ℕ) (v : System) : Type 0 where
       → (v.below < r) × (slice_get (rules_at b v.below) k ≡ Some rule)
   pub given : (k : ℕ) (e : Equation) → slice_get v.given k ≡ Some e → IsGivenBy b r e.reason e.left e.right
 
--- The inheritance of the alphabet is complete, each system has a place of 64 bits, and is the system of a round.
+-- Each system has a place of 64 bits, and is the system of a round.
 pub record IsHistory (b : History) : Type 0 where
-  pub inherited : IsInherited b.alphabet
   pub few : length (systems_of b) < 2 ^ 64
   pub systems : (r : ℕ) → r < length (systems_of b) → IsSystem b r (system_at b r)
 
@@ -136,3 +135,12 @@ pub record ReducesTo (rules : List Rule) (k : ℕ) (left right : List Symbol) (r
   pub first_reduces : Reduces (take k rules) left first
   pub last_reduces : Reduces (take k rules) right last
   pub oriented : IsOriented rule first last
+
+-- It is a history, and the rule stands at this place of its system. The rules before it reduce the two words to its sides.
+pub record IsReducedAt (b : History) (at : RulePlace) (rule : Rule) (left right : List Symbol) : Type 0 where
+  pub stands : HasRule b at rule
+  pub reduces : ReducesTo (rules_at b at.system) at.rule left right rule
+
+-- The system has an equation with this number, counted from 1.
+abbrev pub HasNumbered : History → ℕ → ℕ → Type 0
+HasNumbered b r n = (r < length (systems_of b)) × (0 < n) × (n ≤ length (system_at b r).given)

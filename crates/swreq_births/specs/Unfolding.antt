@@ -1,13 +1,14 @@
 -- What a derivation states before and after a rule, an equation or a requirement of the history is read after a type parameter.
-use Rattle.std.specs.Prelude.{ℕ, List, take}
+use Rattle.std.specs.Prelude.{ℕ, List, ◌++◌, take}
 use Rattle.swreq_param.specs.{declared.ids.TermId.{TermId}, Tables.{IsOf, term_at}}
 use Rattle.swreq_correspondence.specs.swreq_word.declared.symbols.Symbol.{Symbol}
-use Rattle.swreq_complete.specs.{swreq_rule.declared.rules.Rule.{Rule}, swreq_path.{declared.paths.Path.{Path}, Paths.{HasTarget}}}
+use Rattle.swreq_complete.specs.{swreq_rule.declared.rules.Rule.{Rule}, swreq_path.Paths.{HasTarget, replaced_side}}
+use Rattle.swreq_complete.specs.swreq_path.declared.{paths.Path.{Path}, steps.RewriteStep.{RewriteStep}}
 use Rattle.swreq_derivation.specs.{declared.derivation.Derivation.{Derivation}, Origins.{ConformsIfAny}}
-use Rattle.swreq_readings.specs.Readable.{AreReadEqual}
+use Rattle.swreq_readings.specs.{declared.alphabet.Alphabet.{Alphabet}, Readable.{AllowsWord, AreReadEqual, read_word}}
 use Rattle.swreq_births.specs.declared.history.{Equation.{Equation}, History.{History}, RulePlace.{RulePlace}}
 use Rattle.swreq_births.specs.{declared.types.ReadingPlace.{ReadingPlace}, Heads.{IsHeadStated}}
-use Rattle.swreq_births.specs.Systems.{HasEquation, HasRule, HasSystem, rules_at}
+use Rattle.swreq_births.specs.Systems.{HasEquation, HasRule, HasRules, HasSystem, rules_at}
 
 -- The rule stands at this place of the history, and the lines of a derivation under way state what it asks of the type parameter of the id.
 pub record AllowsRule (b : History) (s : Derivation) (at : RulePlace) (r : Rule) (t : TermId) : Type 0 where
@@ -34,3 +35,16 @@ IsSaid b old new subject rule = AreReadEqual b.alphabet new (term_at old.table s
 -- The path leads to the word, over the rules of the system before this place.
 abbrev pub LeadsTo : History → RulePlace → Path → List Symbol → Type 0
 LeadsTo b at path w = HasTarget (take at.rule (rules_at b at.system)) path w
+
+-- It is a history, and the path leads to a word over the rules of the system before this place.
+pub record IsPathAt (b : History) (at : RulePlace) (path : Path) : Type 0 where
+  pub rules : HasRules b at
+  pub end : List Symbol
+  pub leads : LeadsTo b at path end
+
+-- The step puts one side of the rule in place of the other. Lines allow the word before the step after T. The two sides are read alike
+-- after what stands before them in it.
+pub record IsStepAllowed (g : Alphabet) (s : Derivation) (t : TermId) (rule : Rule) (step : RewriteStep) : Type 0 where
+  pub subject : IsOf s.table t
+  pub both : AreReadEqual g s (read_word g (term_at s.table t) step.before) rule.left rule.right
+  pub word : AllowsWord g s (term_at s.table t) (step.before ++ (replaced_side step.forward rule ++ step.after))

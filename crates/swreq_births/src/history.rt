@@ -1,6 +1,6 @@
 //! The systems of rules of all rounds.
-ghost use Rattle.std.specs.Prelude.{◌≡◌, ◌-◌, ◌<◌, ◌≤◌, ◌^◌, Some, length, slice_get, take};
-ghost use Rattle.swreq_births.specs.Systems.{rules_at, system_at, systems_of};
+ghost use Rattle.std.specs.Prelude.{◌≡◌, ◌-◌, ◌<◌, ◌^◌, Some, length, slice_get, take};
+ghost use Rattle.swreq_births.specs.Systems.{HasNumbered, HasRules, rules_at, system_at, systems_of};
 
 use swreq_complete::rule::Rule;
 use swreq_complete::word::Word;
@@ -91,12 +91,10 @@ pub fn system_at<'a>(history: &'a History<'_>, system: usize) -> &'a System
 
 /// The rules of a system before this place.
 pub(crate) fn rules_before<'a>(history: &'a History<'_>, at: RulePlace) -> &'a [Rule]
-    requires system { at.system < length (systems_of history.now) }
-    requires within { at.rule ≤ length (rules_at history.now at.system) }
+    requires { HasRules history.now at }
     ensures { result.now ≡ take at.rule (rules_at history.now at.system) }
 {
-    let system = system_at(history, at.system);
-    &system.rules.items()[..at.rule]
+    &system_at(history, at.system).rules.items()[..at.rule]
 }
 
 /// An equation of a system, counted from 1.
@@ -105,13 +103,10 @@ pub(crate) fn equation_at<'a>(
     system: usize,
     number: usize,
 ) -> &'a Equation
-    requires system { system < length (systems_of history.now) }
-    requires above { 0 < number }
-    requires within { number ≤ length (system_at history.now system).given }
+    requires { HasNumbered history.now system number }
     ensures { slice_get (system_at history.now system).given (number - 1) ≡ Some result.now }
 {
-    let system = system_at(history, system);
-    &system.given.items()[number - 1]
+    &system_at(history, system).given.items()[number - 1]
 }
 
 /// The two sides of an equation.
@@ -130,8 +125,7 @@ pub fn all_rules<'a>(history: &'a History<'_>, system: usize) -> &'a [Rule]
     requires { system < length (systems_of history.now) }
     ensures { result.now ≡ rules_at history.now system }
 {
-    let system = system_at(history, system);
-    system.rules.items()
+    system_at(history, system).rules.items()
 }
 
 /// The place after the last rule of a system.

@@ -44,18 +44,15 @@ fn written_of_member(reason: &Reason, member: Step, protocol: ProtoId) -> Option
 {
     match reason {
         Reason::Required {
-            owner,
+            owner: Some(owner),
             number,
             requirement,
             ..
-        } => match owner {
-            Some(owner) if is_of_member(requirement, member, protocol) => Some(Written {
-                owner: *owner,
-                number: *number,
-            }),
-            _ => None,
-        },
-        Reason::Doubled { .. } | Reason::Named { .. } => None,
+        } if is_of_member(requirement, member, protocol) => Some(Written {
+            owner: *owner,
+            number: *number,
+        }),
+        _ => None,
     }
 }
 
@@ -130,30 +127,6 @@ pub fn conform_by_member(
     }
 }
 
-/// The associated type with this rank, if the step names it and one written requirement gives that T conforms to its protocol. Then lines
-/// state this.
-fn written_step(
-    history: &History<'_>,
-    derivation: &mut Derivation,
-    t: TermId,
-    step: Step,
-    k: u32,
-) -> Result<Option<ProtocolName>, AllocError>
-    requires t { IsOf derivation.old.table t }
-    requires k { k < length (lexicon history.now.alphabet).associated }
-    ensures given { IfOk result (λ o. IfSome o
-        (IsGiven history.now.alphabet derivation.new (term_at derivation.old.table t) step)) }
-    ensures unchanged { IfOk result (λ o. o ≡ None → derivation.new ≡ derivation.old) }
-    ensures continues { ContinuesFrom (FitsHistory history.now) derivation.old derivation.new }
-{
-    let named = declared_at(&history.alphabet, k);
-    if is_of_step(step, k, named) && conform_by_member(history, derivation, t, named.proto)? {
-        Ok(Some(named))
-    } else {
-        Ok(None)
-    }
-}
-
 /// An associated type that the step names, such that lines state that T conforms to its protocol: they do already, or by one written
 /// requirement now. None if there is none.
 pub(crate) fn known_step(
@@ -171,7 +144,8 @@ pub(crate) fn known_step(
         return Ok(Some(named));
     }
     for k in 0..history.alphabet.world.lexicon().associated() {
-        if let Some(named) = written_step(history, derivation, t, step, k)? {
+        let named = declared_at(&history.alphabet, k);
+        if is_of_step(step, k, named) && conform_by_member(history, derivation, t, named.proto)? {
             return Ok(Some(named));
         }
     }

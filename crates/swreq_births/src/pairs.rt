@@ -1,20 +1,17 @@
 //! If the two sides of each of two rules are read alike, so are the two sides of their pairs.
-ghost use Rattle.std.specs.Prelude.{◌≡◌, ◌⊎◌, ◌≤◌, OnOk, List, length, drop, take, ◌++◌, IfOk};
+ghost use Rattle.std.specs.Prelude.{◌≡◌, OnOk, drop, take, ◌++◌, IfOk};
 ghost use Rattle.swreq_param.specs.Tables.{IsOf, term_at};
-ghost use Rattle.swreq_correspondence.specs.swreq_word.declared.symbols.Symbol.{Symbol as SymbolView};
-ghost use Rattle.swreq_complete.specs.swreq_pair.Pairs.{ContainmentPair, OverlapPair, HasPair, IsPair};
 ghost use Rattle.swreq_derivation.specs.UnderWay.{ContinuesFrom, Continues};
-ghost use Rattle.swreq_readings.specs.{Alphabets.{Fits}, Readable.{AreReadEqual, ReadsAlike, read_word}};
+ghost use Rattle.swreq_readings.specs.{Alphabets.{Fits}, Readable.{ReadsAlike}};
 ghost use Rattle.swreq_complete.specs.swreq_rule.Oriented.{IsOriented};
-ghost use Rattle.swreq_births.specs.Readings.{AreReadEqualAfter, AreReadEqualToEnds};
+ghost use Rattle.swreq_births.specs.{Pairs.{AreReadToMeet, AreReadVia, IsReplaceable, first_made, second_made}, Readings.{AreReadEqualToEnds}};
 
 use std::alloc::{AllocError, Global};
-use swreq_complete::pair::write_sides;
-use swreq_complete::rule::{Place, Rule};
+use swreq_complete::rule::Rule;
 use swreq_complete::word::Symbol;
 use swreq_derivation::Derivation;
 use swreq_param::TermId;
-use swreq_readings::{Alphabet, Sides, join, put_side, replace, turn};
+use swreq_readings::{Alphabet, Sides, join, replace, turn};
 
 /// The left side of a rule, and the right side, which is put in place of it.
 pub(crate) fn rule_sides(rule: &Rule) -> Sides<'_>
@@ -27,88 +24,32 @@ pub(crate) fn rule_sides(rule: &Rule) -> Sides<'_>
     }
 }
 
-/// The first `count` symbols of a word.
+/// The first `count` symbols of a word, or all of them if it has fewer.
 pub(crate) fn first_symbols(word: &[Symbol], count: usize) -> &[Symbol]
-    requires { count ≤ length word.now }
     ensures { result.now ≡ take count word.now }
 {
-    &word[..count]
+    &word[..count.min(word.len())]
 }
 
-/// The word without its first `count` symbols.
+/// The word without its first `count` symbols, or without any if it has fewer.
 fn later_symbols(word: &[Symbol], count: usize) -> &[Symbol]
-    requires { count ≤ length word.now }
     ensures { result.now ≡ drop count word.now }
 {
-    &word[count..]
+    &word[count.min(word.len())..]
 }
 
-/// States that the two sides of the pair of the two rules at this place are read alike, whether the left sides overlap or the second one
-/// stands in the first one.
-pub(crate) fn read_pair(
-    alphabet: &Alphabet,
-    derivation: &mut Derivation,
-    subject: TermId,
-    first: &Rule,
-    second: &Rule,
-    at: usize,
-) -> Result<(), AllocError>
-    requires subject { IsOf derivation.old.table subject }
-    requires pair { ((left : List SymbolView) × (right : List SymbolView) × OverlapPair first.now
-        second.now at left right) ⊎ ((left : List SymbolView) × (right : List SymbolView) ×
-        ContainmentPair first.now second.now at left right) }
-    requires first { ReadsAlike alphabet.now derivation.old derivation.old subject first.now.left
-        first.now.right }
-    requires second { AreReadEqual alphabet.now derivation.old
-        (read_word alphabet.now (term_at derivation.old.table subject) (take at first.now.left))
-        second.now.left second.now.right }
-    ensures overlap { OnOk result
-        ((left right : List SymbolView) → OverlapPair first.now second.now at left right
-        → ReadsAlike alphabet.now derivation.old derivation.new subject left right) }
-    ensures containment { OnOk result
-        ((left right : List SymbolView) → ContainmentPair first.now second.now at left right
-        → ReadsAlike alphabet.now derivation.old derivation.new subject left right) }
-    ensures continues { ContinuesFrom (Fits alphabet.now) derivation.old derivation.new }
-{
-    let word = first.left.symbols();
-    let before = first_symbols(word, at);
-    let rest = word.len() - at;
-    let sides = rule_sides(second);
-    if sides.from.len() <= rest {
-        let after = later_symbols(word, at + sides.from.len());
-        let around = Around { before, after };
-        let reduct = first.right.symbols();
-        return read_inside(alphabet, derivation, subject, reduct, around, sides);
-    }
-    let after = later_symbols(sides.from, rest);
-    let around = Around { before, after };
-    read_across(
-        alphabet,
-        derivation,
-        subject,
-        rule_sides(first),
-        sides,
-        around,
-    )
-}
-
-/// What stands before a part of a word, and what stands after it.
-#[derive(Clone, Copy)]
-pub(crate) struct Around<'a> {
-    pub before: &'a [Symbol],
-    pub after: &'a [Symbol],
-}
-
-/// The two words, one after the other.
+/// The three words, one after the other.
 pub(crate) fn joined(
     alloc: Global,
     first: &[Symbol],
     second: &[Symbol],
+    third: &[Symbol],
 ) -> Result<Vec<Symbol>, AllocError>
-    ensures { IfOk result (λ v. v.items ≡ first.now ++ second.now) }
+    ensures { IfOk result (λ v. v.items ≡ first.now ++ (second.now ++ third.now)) }
 {
     let mut word = Vec::from_slice(alloc, first)?;
     word.extend_from_slice(second)?;
+    word.extend_from_slice(third)?;
     Ok(word)
 }
 
@@ -121,11 +62,7 @@ fn join_at(
     from: &[Symbol],
     to: &[Symbol],
 ) -> Result<(), AllocError>
-    requires subject { IsOf derivation.old.table subject }
-    requires first { ReadsAlike alphabet.now derivation.old derivation.old subject via.now
-        from.now }
-    requires second { ReadsAlike alphabet.now derivation.old derivation.old subject via.now
-        to.now }
+    requires { AreReadVia alphabet.now derivation.old subject via.now from.now to.now }
     ensures both { OnOk result
         (ReadsAlike alphabet.now derivation.old derivation.new subject from.now to.now) }
     ensures continues { Continues derivation.old derivation.new }
@@ -134,39 +71,58 @@ fn join_at(
     join(alphabet, derivation, subject, from, via, to)
 }
 
-/// If one left side stands in the other, the two sides of the pair are read alike. They are `reduct`, which the rule of the longer left
-/// side makes of it, and the longer left side with the right side of the other rule in place of the shorter one.
-pub(crate) fn read_inside(
+/// States that a word, and the word with one of its parts replaced, are read alike. Answers the two words.
+fn put_in(
     alphabet: &Alphabet,
     derivation: &mut Derivation,
     subject: TermId,
-    reduct: &[Symbol],
-    around: Around,
+    before: &[Symbol],
     sides: Sides,
-) -> Result<(), AllocError>
-    requires subject { IsOf derivation.old.table subject }
-    requires first { ReadsAlike alphabet.now derivation.old derivation.old subject
-        (around.before.now ++ (sides.from.now ++ around.after.now)) reduct.now }
-    requires second { AreReadEqual alphabet.now derivation.old
-        (read_word alphabet.now (term_at derivation.old.table subject) around.before.now)
-        sides.from.now sides.to.now }
-    ensures both { OnOk result (ReadsAlike alphabet.now derivation.old derivation.new subject
-        reduct.now (around.entry.before.now ++ (sides.entry.to.now ++ around.entry.after.now))) }
+    after: &[Symbol],
+) -> Result<(Vec<Symbol>, Vec<Symbol>), AllocError>
+    requires { IsReplaceable alphabet.now derivation.old subject before.now sides.from.now
+        sides.to.now after.now }
+    ensures from { IfOk result
+        (λ r. r.0.items ≡ before.now ++ (sides.entry.from.now ++ after.now)) }
+    ensures to { IfOk result
+        (λ r. r.1.items ≡ before.now ++ (sides.entry.to.now ++ after.now)) }
+    ensures both { IfOk result (λ r. ReadsAlike alphabet.now derivation.old derivation.new
+        subject r.0.items r.1.items) }
     ensures continues { ContinuesFrom (Fits alphabet.now) derivation.old derivation.new }
 {
-    replace(
-        alphabet,
-        derivation,
-        subject,
-        around.before,
-        sides,
-        around.after,
-    )?;
-    let from = joined(derivation.alloc(), sides.from, around.after)?;
-    let to = joined(derivation.alloc(), sides.to, around.after)?;
-    let w = joined(derivation.alloc(), around.before, &from)?;
-    let v = joined(derivation.alloc(), around.before, &to)?;
-    join_at(alphabet, derivation, subject, &w, reduct, &v)
+    replace(alphabet, derivation, subject, before, sides, after)?;
+    let from = joined(derivation.alloc(), before, sides.from, after)?;
+    let to = joined(derivation.alloc(), before, sides.to, after)?;
+    Ok((from, to))
+}
+
+/// States that the two sides of the pair of the two rules at this place are read alike, whether the left sides overlap or the second one
+/// stands in the first one. Answers the two sides. Both are made of one word, which has the left side of each rule.
+pub(crate) fn read_pair(
+    alphabet: &Alphabet,
+    derivation: &mut Derivation,
+    subject: TermId,
+    first: &Rule,
+    second: &Rule,
+    at: usize,
+) -> Result<(Vec<Symbol>, Vec<Symbol>), AllocError>
+    requires { AreReadToMeet alphabet.now derivation.old subject first.now second.now at }
+    ensures left { IfOk result (λ r. r.0.items ≡ first_made first.now second.now at) }
+    ensures right { IfOk result (λ r. r.1.items ≡ second_made first.now second.now at) }
+    ensures both { IfOk result (λ r. ReadsAlike alphabet.now derivation.old derivation.new
+        subject r.0.items r.1.items) }
+    ensures continues { ContinuesFrom (Fits alphabet.now) derivation.old derivation.new }
+{
+    let whole = rule_sides(first);
+    let part = rule_sides(second);
+    let rest = later_symbols(whole.from, at);
+    let after = later_symbols(part.from, rest.len());
+    let (word, left) = put_in(alphabet, derivation, subject, &[], whole, after)?;
+    let before = first_symbols(whole.from, at);
+    let behind = later_symbols(rest, part.from.len());
+    let (_, right) = put_in(alphabet, derivation, subject, before, part, behind)?;
+    join_at(alphabet, derivation, subject, &word, &left, &right)?;
+    Ok((left, right))
 }
 
 /// If two words are read alike, and each of them is read alike with the word that it reduces to, then the two sides of a rule are read
@@ -179,11 +135,7 @@ pub(crate) fn close(
     ends: Sides,
     rule: &Rule,
 ) -> Result<(), AllocError>
-    requires subject { IsOf derivation.old.table subject }
-    requires words { ReadsAlike alphabet.now derivation.old derivation.old subject words.from.now
-        words.to.now }
-    requires ends { AreReadEqualToEnds alphabet.now derivation.old
-        (term_at derivation.old.table subject) words ends }
+    requires ends { AreReadEqualToEnds alphabet.now derivation.old subject words ends }
     requires oriented { IsOriented rule.now ends.from.now ends.to.now }
     ensures both { OnOk result (ReadsAlike alphabet.now derivation.old derivation.new subject
         rule.now.left rule.now.right) }
@@ -194,55 +146,4 @@ pub(crate) fn close(
     )?;
     join(alphabet, derivation, subject, ends.from, words.to, ends.to)?;
     turn(alphabet, derivation, subject, ends.from, ends.to)
-}
-
-/// If one left side ends as the other begins, the two sides of the pair are read alike. In the word that they make, the first one ends
-/// where `after` begins, and the second one begins where `before` ends.
-pub(crate) fn read_across(
-    alphabet: &Alphabet,
-    derivation: &mut Derivation,
-    subject: TermId,
-    first: Sides,
-    second: Sides,
-    around: Around,
-) -> Result<(), AllocError>
-    requires subject { IsOf derivation.old.table subject }
-    requires first { ReadsAlike alphabet.now derivation.old derivation.old subject first.from.now
-        first.to.now }
-    requires second { AreReadEqualAfter alphabet.now derivation.old
-        (term_at derivation.old.table subject) around.before.now second.from.now second.to.now }
-    requires word { first.from.now ++ around.after.now ≡ around.before.now ++ second.from.now }
-    ensures both { OnOk result (ReadsAlike alphabet.now derivation.old derivation.new subject
-        (first.entry.to.now ++ around.entry.after.now)
-        (around.entry.before.now ++ second.entry.to.now)) }
-    ensures continues { ContinuesFrom (Fits alphabet.now) derivation.old derivation.new }
-{
-    put_side(
-        alphabet,
-        derivation,
-        subject,
-        first.from,
-        first.to,
-        around.after,
-    )?;
-    let w = joined(derivation.alloc(), first.from, around.after)?;
-    let u = joined(derivation.alloc(), first.to, around.after)?;
-    let v = joined(derivation.alloc(), around.before, second.to)?;
-    replace(alphabet, derivation, subject, around.before, second, &[])?;
-    join_at(alphabet, derivation, subject, &w, &u, &v)
-}
-
-/// The two sides of the pair at this place.
-pub(crate) fn pair_sides(
-    alloc: Global,
-    rules: &[Rule],
-    place: Place,
-) -> Result<(Vec<Symbol>, Vec<Symbol>), AllocError>
-    requires { HasPair rules.now place }
-    ensures { IfOk result (λ r. IsPair rules.now place r.0.items r.1.items) }
-{
-    let mut left: Vec<Symbol> = Vec::new(alloc);
-    let mut right: Vec<Symbol> = Vec::new(alloc);
-    write_sides(rules, place, &mut left, &mut right)?;
-    Ok((left, right))
 }

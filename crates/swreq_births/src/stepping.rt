@@ -1,10 +1,9 @@
 //! Steps by a rule whose two sides are read alike.
-ghost use Rattle.std.specs.Prelude.{◌≡◌, ◌-◌, ◌<◌, ◌≤◌, OnOk, ◌++◌, Some, length, slice_get};
-ghost use Rattle.swreq_param.specs.Tables.{IsOf, term_at};
-ghost use Rattle.swreq_complete.specs.swreq_rule.Steps.{RuleAt};
-ghost use Rattle.swreq_complete.specs.swreq_path.Paths.{put_side, replaced_side};
+ghost use Rattle.std.specs.Prelude.{◌≡◌, ◌-◌, ◌<◌, OnOk, ◌++◌, Some, length, slice_get};
+ghost use Rattle.swreq_complete.specs.{swreq_pair.Pairs.{IsNumberOf}, swreq_rule.Steps.{RuleAt}, swreq_path.Paths.{put_side, replaced_side}};
 ghost use Rattle.swreq_derivation.specs.UnderWay.{ContinuesFrom};
-ghost use Rattle.swreq_readings.specs.{Alphabets.{Fits}, Readable.{AllowsWord, AreReadEqual, ReadsAlike, read_word}};
+ghost use Rattle.swreq_readings.specs.{Alphabets.{Fits}, Readable.{ReadsAlike}};
+ghost use Rattle.swreq_births.specs.Unfolding.{IsStepAllowed};
 
 use crate::history::RulePlace;
 use crate::pairs::rule_sides;
@@ -17,19 +16,17 @@ use swreq_readings::{Alphabet, Sides, replace, replace_back};
 
 /// The place of the rule with this number, counted from 1, in the same system.
 pub(crate) fn before(at: RulePlace, number: u32) -> RulePlace
-    requires { 0 < number }
     ensures { result ≡ record { system = at.system; rule = number - 1 } }
 {
     RulePlace {
         system: at.system,
-        rule: number as usize - 1,
+        rule: (number as usize).saturating_sub(1),
     }
 }
 
 /// The rule with this number, counted from 1.
 pub(crate) fn rule_of(rules: &[Rule], number: u32) -> &Rule
-    requires above { 0 < number }
-    requires within { number ≤ length rules.now }
+    requires { IsNumberOf rules.now number }
     ensures { RuleAt rules.now number result.now }
 {
     &rules[number as usize - 1]
@@ -52,12 +49,7 @@ pub(crate) fn take_step(
     rule: &Rule,
     step: &RewriteStep,
 ) -> Result<(), AllocError>
-    requires subject { IsOf derivation.old.table subject }
-    requires both { AreReadEqual alphabet.now derivation.old
-        (read_word alphabet.now (term_at derivation.old.table subject) step.now.before)
-        rule.now.left rule.now.right }
-    requires word { AllowsWord alphabet.now derivation.old (term_at derivation.old.table subject)
-        (step.now.before ++ (replaced_side step.now.forward rule.now ++ step.now.after)) }
+    requires { IsStepAllowed alphabet.now derivation.old subject rule.now step.now }
     ensures both { OnOk result (ReadsAlike alphabet.now derivation.old derivation.new subject
         (step.now.before ++ (replaced_side step.now.forward rule.now ++ step.now.after))
         (step.now.before ++ (put_side step.now.forward rule.now ++ step.now.after))) }

@@ -42,8 +42,7 @@ pub(crate) fn step_at(param: &TypeParam, place: usize) -> Step
     param.steps.items()[place]
 }
 
-/// The id of the type parameter that the reading begins with: `for_self` if there is an owner, and
-/// otherwise the generic parameter.
+/// The id of the type parameter that the reading begins with: `for_self` if there is an owner, and otherwise the generic parameter.
 pub(crate) fn start(
     derivation: &mut Derivation,
     scope: ReadingPlace,
@@ -57,10 +56,7 @@ pub(crate) fn start(
 {
     match scope.owner {
         Some(_) => Ok(scope.for_self),
-        None => {
-            let id = derivation.param(head)?;
-            Ok(id)
-        }
+        None => derivation.param(head),
     }
 }
 
@@ -89,23 +85,6 @@ pub(crate) fn path_between(
     Ok(None)
 }
 
-/// The path that shows the associated type after the word, or None if the rules do not show it there.
-fn shown_behind(
-    alloc: Global,
-    rules: &[Rule],
-    word: &[Symbol],
-    named: ProtocolName,
-) -> Result<Option<Path>, AllocError>
-    requires { length rules.now < 2 ^ 32 - 1 }
-    ensures start { IfOk result (λ o. IfSome o (λ p. p.start ≡ word.now)) }
-    ensures target { IfOk result (λ o. MatchOption o
-        (ReduceAlike rules.now word.now (word.now ++ Proto named.proto.rank ∷ []) → ⊥)
-        (λ p. HasTarget rules.now p (word.now ++ Proto named.proto.rank ∷ []))) }
-{
-    let longer = joined(alloc, word, &[Symbol::Proto(named.proto.rank)])?;
-    path_between(alloc, rules, word, &longer)
-}
-
 /// The associated type with this rank, with its path, or None if the step does not name it or the rules do not show it after the word.
 fn shown_at(
     alloc: Global,
@@ -125,7 +104,8 @@ fn shown_at(
     if !is_of_step(step, rank, named) {
         return Ok(None);
     }
-    match shown_behind(alloc, rules, word, named)? {
+    let longer = joined(alloc, word, &[Symbol::Proto(named.proto.rank)], &[])?;
+    match path_between(alloc, rules, word, &longer)? {
         Some(path) => Ok(Some(Shown { named, path })),
         None => Ok(None),
     }
@@ -144,9 +124,8 @@ pub(crate) fn shown_step(
     ensures { IfOk result (HasPath alphabet.now rules.now word.now step) }
 {
     for k in 0..alphabet.world.lexicon().associated() {
-        match shown_at(alloc, alphabet, rules, word, step, k)? {
-            Some(shown) => return Ok(shown),
-            None => {}
+        if let Some(shown) = shown_at(alloc, alphabet, rules, word, step, k)? {
+            return Ok(shown);
         }
     }
     unreachable!()

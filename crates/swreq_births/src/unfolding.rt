@@ -1,55 +1,57 @@
 //! The two sides of a rule, read after a type parameter.
-ghost use Rattle.std.specs.Prelude.{OnOk, ◌≡◌, IfOk, List};
+ghost use Rattle.std.specs.Prelude.{OnOk, ◌≡◌, ◌++◌, [], ◌∷◌, IfOk};
 ghost use Rattle.swreq_param.specs.{Tables.{IsOf, term_at}, Owned.{as_term}};
 ghost use Rattle.swreq_complete.specs.Alike.{ReduceAlike};
-ghost use Rattle.swreq_derivation.specs.{Origins.{ConformsIfAny, placed, written_by}, UnderWay.{ContinuesFrom, AreStatedEqual}};
-ghost use Rattle.swreq_readings.specs.Readable.{AllowsWord, ReadsAlike, IsGiven, read_word};
-ghost use Rattle.swreq_births.specs.{Systems.{FitsHistory, HasSystem, rules_at, HasRule, HasRules, HasShownSides, IsBornAt, IsShown, ReducesTo, requirement_by}, Types.{IsStepShown}, Unfolding.{AllowsEquation, AllowsRule, AllowsScope, IsSaid, LeadsTo}};
-ghost use Rattle.swreq_correspondence.specs.swreq_derive.Instances.{HasNumber};
-ghost use Rattle.swreq_correspondence.specs.swreq_word.declared.symbols.Symbol.{Symbol as SymbolView};
 ghost use Rattle.swreq_complete.specs.swreq_rule.declared.rules.Birth.TheVariants as births;
+ghost use Rattle.swreq_correspondence.specs.swreq_derive.Instances.{HasNumber};
+ghost use Rattle.swreq_derivation.specs.{Origins.{placed, written_by}, UnderWay.{ContinuesFrom, AreStatedEqual}};
+ghost use Rattle.swreq_readings.specs.Readable.{AllowsWord, ReadsAlike, IsGiven, read_word};
+ghost use Rattle.swreq_births.specs.Systems.{FitsHistory, rules_at, HasShownSides, IsBornAt, IsReducedAt, IsShown, requirement_by};
+ghost use Rattle.swreq_births.specs.{Readings.{AreAlike, IsAllowed, bound_by, symbol_of}, Types.{IsStepShown}, Unfolding.{AllowsEquation, AllowsRule, AllowsScope, IsPathAt, IsSaid, LeadsTo}};
 
-use crate::giving::{give_bound, give_member, give_same};
+use crate::giving::give_same;
 use crate::history::{
     Equation, History, OwnedRequirement, Reason, RulePlace, all_of, all_rules, equation_at,
     rules_before, sides_of, system_at,
 };
 use crate::members::known_step;
-use crate::pairs::{close, first_symbols, pair_sides, read_pair};
+use crate::pairs::{close, first_symbols, read_pair};
 use crate::stepping::{before, rule_of, step_of, take_step};
 use crate::types::{ReadingPlace, path_between, shown_step, start, step_at};
 use std::alloc::AllocError;
 use swreq_complete::path::{Path, path_of};
 use swreq_complete::rule::{Birth, Place, Rule};
 use swreq_complete::word::{Symbol, Word};
-use swreq_derivation::{Bound, Derivation, Origin};
+use swreq_derivation::{Bound, Derivation, Origin, add_requirement, bound_requirement};
 use swreq_param::{Step, TermId, TypeParam};
-use swreq_readings::{ProtocolName, Sides, are_read_equal, equal_member, join, read_word};
+use swreq_readings::{
+    ProtocolName, Sides, are_read_equal, carry_bound, equal_member, inherit, join, member_at,
+    read_word,
+};
 
 /// If two words reduce to one by the rules of a system, and lines allow the first after T, then lines allow the second after T too, and
 /// state that the two are read as equal type parameters.
 pub fn link(
     history: &History,
     derivation: &mut Derivation,
-    system: usize,
-    subject: TermId,
+    scope: ReadingPlace,
     from: &[Symbol],
     to: &[Symbol],
 ) -> Result<(), AllocError>
-    requires system { HasSystem history.now system }
-    requires subject { IsOf derivation.old.table subject }
+    requires scope { AllowsScope history.now derivation.old scope }
     requires word { AllowsWord history.now.alphabet derivation.old
-        (term_at derivation.old.table subject) from.now }
-    requires alike { ReduceAlike (rules_at history.now system) from.now to.now }
-    ensures both { OnOk result
-        (ReadsAlike history.now.alphabet derivation.old derivation.new subject from.now to.now) }
+        (term_at derivation.old.table scope.for_self) from.now }
+    requires alike { ReduceAlike (rules_at history.now scope.system) from.now to.now }
+    ensures both { OnOk result (ReadsAlike history.now.alphabet derivation.old derivation.new
+        scope.for_self from.now to.now) }
     ensures continues { ContinuesFrom (FitsHistory history.now) derivation.old derivation.new }
 {
-    let rules = all_rules(history, system);
+    let rules = all_rules(history, scope.system);
     match path_between(derivation.alloc(), rules, from, to)? {
         None => unreachable!(),
         Some(path) => {
-            walk_along(history, derivation, all_of(system, rules), subject, &path)?;
+            let at = all_of(scope.system, rules);
+            walk_along(history, derivation, at, scope.for_self, &path)?;
             Ok(())
         }
     }
@@ -65,11 +67,8 @@ pub(crate) fn walk_along(
     subject: TermId,
     path: &Path,
 ) -> Result<Word, AllocError>
-    requires rules { HasRules history.now at }
-    requires subject { IsOf derivation.old.table subject }
-    requires path { (b : List SymbolView) × LeadsTo history.now at path.now b }
-    requires word { AllowsWord history.now.alphabet derivation.old
-        (term_at derivation.old.table subject) path.now.start }
+    requires path { IsPathAt history.now at path.now }
+    requires word { IsAllowed history.now.alphabet derivation.old subject path.now.start }
     ensures target { IfOk result (λ w. LeadsTo history.now at path.now w) }
     ensures both { IfOk result (λ w. ReadsAlike history.now.alphabet derivation.old derivation.new
         subject path.now.start w) }
@@ -108,12 +107,9 @@ fn settle(
     subject: TermId,
     words: Sides,
 ) -> Result<(), AllocError>
-    requires rule { HasRule history.now at rule.now }
-    requires subject { IsOf derivation.old.table subject }
-    requires both { ReadsAlike history.now.alphabet derivation.old derivation.old subject
-        words.from.now words.to.now }
-    requires reduces { ReducesTo (rules_at history.now at.system) at.rule
-        words.from.now words.to.now rule.now }
+    requires rule { IsReducedAt history.now at rule.now words.from.now words.to.now }
+    requires words { AreAlike history.now.alphabet derivation.old subject words.from.now
+        words.to.now }
     ensures both { OnOk result (IsSaid history.now derivation.old derivation.new subject
         rule.now) }
     ensures continues { ContinuesFrom (FitsHistory history.now) derivation.old derivation.new }
@@ -127,8 +123,7 @@ fn settle(
         from: first.symbols(),
         to: last.symbols(),
     };
-    close(&history.alphabet, derivation, subject, words, ends, rule)?;
-    Ok(())
+    close(&history.alphabet, derivation, subject, words, ends, rule)
 }
 
 /// States that the two sides of a rule are read alike after a type parameter, if lines state what the rule asks of it. What lines state
@@ -152,8 +147,7 @@ pub fn lines_of_rule(
             system: system.below,
             rule: at.rule,
         };
-        lines_of_rule(history, derivation, lower, rule, subject)?;
-        return Ok(());
+        return lines_of_rule(history, derivation, lower, rule, subject);
     }
     let left = rule.left.symbols();
     let right = rule.right.symbols();
@@ -165,13 +159,11 @@ pub fn lines_of_rule(
         Birth::Given(n) => {
             let equation = equation_at(history, at.system, n);
             give_equation(history, derivation, at.system, equation, subject)?;
-            settle(history, derivation, at, rule, subject, sides_of(equation))?;
-            Ok(())
+            settle(history, derivation, at, rule, subject, sides_of(equation))
         }
         Birth::Pair(i, j, place) => {
             let place = Place { i, j, at: place };
-            from_pair(history, derivation, at, rule, place, subject)?;
-            Ok(())
+            from_pair(history, derivation, at, rule, place, subject)
         }
     }
 }
@@ -200,14 +192,12 @@ fn from_pair(
     let part = first_symbols(first.left.symbols(), place.at);
     let v = read_word(alphabet, derivation, subject, part)?;
     lines_of_rule(history, derivation, before(at, place.j), second, v)?;
-    read_pair(alphabet, derivation, subject, first, second, place.at)?;
-    let (left, right) = pair_sides(derivation.alloc(), rules, place)?;
+    let (left, right) = read_pair(alphabet, derivation, subject, first, second, place.at)?;
     let words = Sides {
         from: &left,
         to: &right,
     };
-    settle(history, derivation, at, rule, subject, words)?;
-    Ok(())
+    settle(history, derivation, at, rule, subject, words)
 }
 
 /// States that the two sides of an equation of a round are read alike after a type parameter, if lines state what its left side asks of it.
@@ -227,8 +217,9 @@ fn give_equation(
     match &equation.reason {
         Reason::Doubled { .. } => Ok(()),
         Reason::Named { rank } => {
-            give_member(&history.alphabet, derivation, subject, *rank)?;
-            Ok(())
+            let alphabet = &history.alphabet;
+            let named = member_at(alphabet, *rank);
+            inherit(alphabet, derivation, subject, named.proto, named.name)
         }
         Reason::Required {
             owner,
@@ -266,28 +257,57 @@ fn give_required(
         × HasNumber number (written_by b scope.owner) (requirement_by requirement.now))
         derivation.old derivation.new }
 {
+    match requirement {
+        OwnedRequirement::Conf { subject, proto } => {
+            let bound = (subject, Bound::Protocol(*proto));
+            give_bound(history, derivation, scope, number, bound, words.to)
+        }
+        OwnedRequirement::Layout { subject } => {
+            let bound = (subject, Bound::AnyObject);
+            give_bound(history, derivation, scope, number, bound, words.to)
+        }
+        OwnedRequirement::Same { left, right } => {
+            let u = read_type(history, derivation, scope, left, words.from)?;
+            let v = read_type(history, derivation, scope, right, words.to)?;
+            let origin = Origin {
+                owner: scope.owner,
+                number,
+                for_self: scope.for_self,
+            };
+            give_same(&history.alphabet, derivation, origin, (u, v), words)
+        }
+    }
+}
+
+/// The same of a requirement `[U : Q]` or `[U : AnyObject]`. `bounded` is U with Q or `AnyObject`, and `word` is the word of U.
+#[cycle(lines_of_rule)]
+fn give_bound(
+    history: &History,
+    derivation: &mut Derivation,
+    scope: ReadingPlace,
+    number: u32,
+    bounded: (&TypeParam, Bound),
+    word: &[Symbol],
+) -> Result<(), AllocError>
+    requires scope { AllowsScope history.now derivation.old scope }
+    requires shown { IsShown history.now.alphabet scope.owner (rules_at history.now scope.system)
+        (as_term bounded.0.now) word.now }
+    ensures both { OnOk result (ReadsAlike history.now.alphabet derivation.old derivation.new
+        scope.for_self (word.now ++ symbol_of bounded.entry.1 ∷ []) word.now) }
+    ensures continues { ContinuesFrom (λ b. FitsHistory history.now b × HasNumber number
+        (written_by b scope.owner) (bound_by bounded.entry.1 (as_term bounded.entry.0.now)))
+        derivation.old derivation.new }
+{
+    let (param, bound) = bounded;
+    let subject = read_type(history, derivation, scope, param, word)?;
     let origin = Origin {
         owner: scope.owner,
         number,
         for_self: scope.for_self,
     };
-    match requirement {
-        OwnedRequirement::Conf { subject, proto } => {
-            let u = read_type(history, derivation, scope, subject, words.to)?;
-            let bound = Bound::Protocol(*proto);
-            give_bound(&history.alphabet, derivation, origin, u, bound, words.to)
-        }
-        OwnedRequirement::Layout { subject } => {
-            let u = read_type(history, derivation, scope, subject, words.to)?;
-            let bound = Bound::AnyObject;
-            give_bound(&history.alphabet, derivation, origin, u, bound, words.to)
-        }
-        OwnedRequirement::Same { left, right } => {
-            let u = read_type(history, derivation, scope, left, words.from)?;
-            let v = read_type(history, derivation, scope, right, words.to)?;
-            give_same(&history.alphabet, derivation, origin, (u, v), words)
-        }
-    }
+    add_requirement(derivation, origin, bound_requirement(subject, bound))?;
+    let last = read_word(&history.alphabet, derivation, scope.for_self, word)?;
+    carry_bound(derivation, subject, last, bound)
 }
 
 /// States what the word of a type parameter is read as. The rules of the system show the type parameter valid. Lines allow the word, and
@@ -301,10 +321,7 @@ pub fn read_type(
     param: &TypeParam,
     word: &[Symbol],
 ) -> Result<TermId, AllocError>
-    requires system { HasSystem history.now scope.system }
-    requires for_self { IsOf derivation.old.table scope.for_self }
-    requires owner { ConformsIfAny derivation.old
-        (term_at derivation.old.table scope.for_self) scope.owner }
+    requires scope { AllowsScope history.now derivation.old scope }
     requires shown { IsShown history.now.alphabet scope.owner (rules_at history.now scope.system)
         (as_term param.now) word.now }
     ensures is_of { IfOk result (IsOf derivation.new.table) }
@@ -338,8 +355,7 @@ pub fn declare(
     word: &[Symbol],
     step: Step,
 ) -> Result<ProtocolName, AllocError>
-    requires system { HasSystem history.now scope.system }
-    requires for_self { IsOf derivation.old.table scope.for_self }
+    requires scope { AllowsScope history.now derivation.old scope }
     requires word { AllowsWord history.now.alphabet derivation.old
         (term_at derivation.old.table scope.for_self) word.now }
     requires shown { IsStepShown history.now.alphabet

@@ -1,7 +1,7 @@
 -- Derivations: how they grow by a line, and what they state by ids and over type parameters.
-use Rattle.std.proofs.Common.{◌≡◌, ℕ, zero, suc, ◌+◌, ◌-◌, ◌<◌, List, [], ◌∷◌, ◌++◌, length, map, take, slice_get, Option, Some, None}
-use Rattle.std.proofs.{Common.{MatchOption, refl, sym, ap, ap₂, subst, ◌∙◌, ◌⊎◌, inl, inr, arith}, Math.Seq.{take-append_seam}}
-use Rattle.std.proofs.lemmas.List.{map-append, take-append-le, length-map}
+use Rattle.std.proofs.Common.{◌≡◌, ℕ, zero, suc, ◌+◌, ◌-◌, ◌<◌, List, [], ◌∷◌, ◌++◌, get_or, length, map, take, slice_get, Option}
+use Rattle.std.proofs.{Common.{Some, None, MatchOption, refl, sym, ap, ap₂, subst, ◌∙◌, ◌⊎◌, inl, inr, arith}, Math.Seq.{take-append_seam}}
+use Rattle.std.proofs.lemmas.List.{map-append, take-append-le, take_more, length-map}
 use Rattle.swreq_derive.specs.{swreq_param.{Terms.{Term}, Tables.{AreDistinct, Extends}}, declared.lines.Line.{Line}}
 use Rattle.swreq_derive.specs.declared.{lines.DerivRule.{DerivRule}, requirements.Requirement.TheVariants.{Conf, Layout, Same}}
 use Rattle.swreq_derive.specs.{declared.requirements.Statement.{Statement, TheVariants.{Valid, Holds}}, Derivation.{TermStatement}}
@@ -11,7 +11,8 @@ use Rattle.swreq_derive.specs.Instances.{HasNumber, AreStated, Follows, IsInstan
 use Rattle.swreq_derive.{specs.Lines.{line_of, stated_by}, proofs.swreq_param.Growing.{onward, unchanged}}
 use Rattle.swreq_derive.proofs.{swreq_lemmas.Elements.{get_map, get_of_map}, LineLists.{number_left, number_last}}
 use Rattle.swreq_derivation.specs.{declared.derivation.Derivation.{Derivation, TheInside.{Inside}}, Inside.{IsUnderWay, view_of}}
-use Rattle.swreq_derivation.specs.UnderWay.{AddsLines, AllIn, AreIdsIn, Assumptions, Continues, ContinuesFrom, States, statements_in}
+use Rattle.swreq_derivation.specs.UnderWay.{AddsLines, AllIn, AreIdsIn, ArePremises, Assumptions, Continues, ContinuesFrom, IsPremise}
+use Rattle.swreq_derivation.specs.UnderWay.{States, statements_in}
 
 -- ---- ids and type parameters
 
@@ -60,6 +61,32 @@ module _ (d : Inside) (h : IsUnderWay d) where
   pub unsaid : (st : Statement) → (States (view_of d) (statement_of d.table st) → ⊥) → (k : ℕ) → slice_get d.stated k ≡ Some st → ⊥
   unsaid st none k w =
       none (k + 1, found st (k + 1) (omega arith, subst (λ z. slice_get d.stated z ≡ Some st) (omega arith) w))
+
+-- ---- premises
+
+pub premise_at : (s : Derivation) (sts : List Statement) (k : ℕ) (d : Statement) → k < length sts → ArePremises s sts
+    → IsPremise s (get_or sts k d)
+premise_at s [] k d within h = absurd (omega arith)
+premise_at s (x ∷ sts) zero d within h = h.0
+premise_at s (x ∷ sts) (suc k) d within h = premise_at s sts k d (omega arith) h.1
+
+-- the number of one more statement comes last
+pub stated_more : (s : Derivation) (sts : List Statement) (k : ℕ) (d : Statement) (ns more : List ℕ) (n : ℕ) → k < length sts
+    → AreStated (statements_in s) ns (map (statement_of s.table) (take k sts))
+    → HasNumber n (statements_in s) (statement_of s.table (get_or sts k d)) → more ≡ ns ++ n ∷ []
+    → AreStated (statements_in s) more (map (statement_of s.table) (take (k + 1) sts))
+stated_more s sts k d ns more n within h is e =
+    let f = statement_of s.table in
+    let now = ap (map f) (take_more sts k d within) ∙ map-append f (take k sts) (get_or sts k d ∷ []) in
+    subst (λ z. AreStated (statements_in s) z (map f (take (k + 1) sts))) (sym e)
+    (subst (AreStated (statements_in s) (ns ++ n ∷ [])) (sym now) (last ns (map f (take k sts)) h))
+  where
+    last : (ms : List ℕ) (from : List TermStatement) → AreStated (statements_in s) ms from
+        → AreStated (statements_in s) (ms ++ n ∷ []) (from ++ statement_of s.table (get_or sts k d) ∷ [])
+    last [] [] h = (is, tt)
+    last [] (x ∷ from) h = absurd h
+    last (m ∷ ms) [] h = absurd h
+    last (m ∷ ms) (x ∷ from) h = (h.0, last ms from h.1)
 
 -- ---- a line more
 
@@ -176,12 +203,6 @@ module _ (s : Derivation) (rule : DerivRule) (ns : List ℕ) (st : Statement) wh
 
 -- ---- one after the other
 
-pub grown_by_none : (s : Derivation) → AddsLines s s
-grown_by_none s = record { extends = unchanged s.table; stays = λ st w. w }
-
-pub continues_by_none : (Of : Assumptions → Type 0) (s : Derivation) → ContinuesFrom Of s s
-continues_by_none Of s = record { grows = grown_by_none s; derives = λ b i d. d }
-
 pub grows_then : {s t u : Derivation} → AddsLines s t → AddsLines t u → AddsLines s u
 grows_then {s} {t} {u} g h = record {
   extends = onward s.table t.table u.table g.extends h.extends;
@@ -207,12 +228,6 @@ same_statement old new e (Holds (Conf t p)) h = ap (λ z. Requires (Conforms z p
 same_statement old new e (Holds (Layout t)) h = ap (λ z. Requires (IsAnyObject z)) (e.stands t h)
 same_statement old new e (Holds (Same t u)) h = ap₂ (λ y z. Requires (Equals y z)) (e.stands t h.0) (e.stands u h.1)
 
-more_ids : (old new : List Term) → Extends old new → (st : Statement) → AreIdsIn old st → AreIdsIn new st
-more_ids old new e (Valid t) h = omega (arith, e.longer, h)
-more_ids old new e (Holds (Conf t p)) h = omega (arith, e.longer, h)
-more_ids old new e (Holds (Layout t)) h = omega (arith, e.longer, h)
-more_ids old new e (Holds (Same t u)) h = (omega (arith, e.longer, h.0), omega (arith, e.longer, h.1))
-
 same_lines : (old new : List Term) → Extends old new → (ls : List Line) → AllIn old ls → map (line_of new) ls ≡ map (line_of old) ls
 same_lines old new e [] h = refl
 same_lines old new e (l ∷ ls) h =
@@ -228,9 +243,6 @@ module _ (s : Derivation) (terms : List Term) (h : AllIn s.table s.lines) (e : E
   with_table = record { table = terms; lines = s.lines }
 
   -- The ids in what the lines state are of a table that begins with the old one.
-  pub ids_still : AllIn terms s.lines
-  ids_still k l i = more_ids s.table terms e l.statement (h k l i)
-
   -- Type parameters that are added to the table state nothing.
   pub said_by_terms : statements_in with_table ≡ statements_in s
   said_by_terms = same_said s.table terms e s.lines h

@@ -4,6 +4,8 @@ use Rattle.std.proofs.{Common.{Some, position, refl, sym, ap, subst, ◌∙◌, 
 use Rattle.std.{proofs.lemmas.{List.{map-append, Quantifiers.{position-Some}}, Option.{slice_get-get_or}}, specs.List.{list_any}}
 use Rattle.swreq_derive.{proofs.swreq_lemmas.Elements.{get_map, get_of_map}, specs.declared.requirements.Statement.{Statement}}
 use Rattle.swreq_derive.specs.Instances.{HasNumber}
+use Rattle.swreq_derive.specs.declared.requirements.Requirement.TheVariants as required
+use Rattle.swreq_derive.specs.declared.requirements.Statement.TheVariants as stated
 use Rattle.swreq_derivation.specs.declared.stated.Key.{Key, TheVariants.{Valid, Conf, Layout, Same}}
 use Rattle.swreq_derivation.specs.{contracts.stated.{KeyPartialEq.TheImpl.{eq-value}, KeyEq.TheImpl.Laws.{laws-law}}, Keys.{statement_by}}
 
@@ -26,24 +28,22 @@ key_same (Same t w) (Conf u q) h = search rules
 key_same (Same t w) (Layout u) h = search rules
 key_same (Same t w) (Same u v) h = search rules
 
+-- the key of a statement
+abbrev key_by : Statement → Key
+key_by (stated.Valid t) = Valid t
+key_by (stated.Holds (required.Conf t p)) = Conf t p
+key_by (stated.Holds (required.Layout t)) = Layout t
+key_by (stated.Holds (required.Same t u)) = Same t u
+
+key_back : (x : Key) → key_by (statement_by x) ≡ x
+key_back (Valid t) = refl
+key_back (Conf t p) = refl
+key_back (Layout t) = refl
+key_back (Same t u) = refl
+
 -- keys of the same statement are identical
 one_key : (x y : Key) → statement_by x ≡ statement_by y → x ≡ y
-one_key (Valid t) (Valid u) h = cc
-one_key (Valid t) (Conf u q) h = absurd cc
-one_key (Valid t) (Layout u) h = absurd cc
-one_key (Valid t) (Same u v) h = absurd cc
-one_key (Conf t p) (Valid u) h = absurd cc
-one_key (Conf t p) (Conf u q) h = cc
-one_key (Conf t p) (Layout u) h = absurd cc
-one_key (Conf t p) (Same u v) h = absurd cc
-one_key (Layout t) (Valid u) h = absurd cc
-one_key (Layout t) (Conf u q) h = absurd cc
-one_key (Layout t) (Layout u) h = cc
-one_key (Layout t) (Same u v) h = absurd cc
-one_key (Same t w) (Valid u) h = absurd cc
-one_key (Same t w) (Conf u q) h = absurd cc
-one_key (Same t w) (Layout u) h = absurd cc
-one_key (Same t w) (Same u v) h = cc
+one_key x y e = sym (key_back x) ∙ ap key_by e ∙ key_back y
 
 there_any : (keys : List Key) (k : ℕ) (x : Key) → slice_get keys k ≡ Some x → list_any (eq-value.it x) keys ≡ true
 there_any [] k x h = absurd cc

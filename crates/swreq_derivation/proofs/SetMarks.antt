@@ -1,17 +1,9 @@
 -- Marks that are set, and the lines that are needed.
-use Rattle.std.proofs.Common.{◌≡◌, ◌⊎◌, inl, inr, ℕ, suc, ◌+◌, ◌-◌, ◌<◌, List, [], ◌∷◌, ◌++◌, Some, Contains, slice_get, refl, sym, subst}
+use Rattle.std.proofs.Common.{◌≡◌, ◌⊎◌, inl, inr, ℕ, suc, ◌+◌, ◌-◌, ◌<◌, List, [], ◌∷◌, ◌++◌, Some, Contains, slice_get, sym, subst}
 use Rattle.std.proofs.{Common.{◌∙◌, arith}, lemmas.List.Elements.{Contains-append_left, Contains-append_right, Contains-append_cases}}
 use Rattle.std.proofs.Math.Nat.{eq-or-lt_of_le}
-use Rattle.swreq_derive.{proofs.swreq_lemmas.Members.{no_member}, specs.declared.lines.Line.{Line}}
+use Rattle.swreq_derive.{specs.declared.lines.Line.{Line}}
 use Rattle.swreq_derivation.specs.Marks.{AreMarked, AreNeeded, IsEarlier, IsMarked}
-
-pub marked_by_none : (marks : List _) (below : ℕ) → AreMarked marks marks [] below
-marked_by_none marks below = record {
-  count = refl;
-  stay = λ k h. h;
-  named = λ n c e. no_member n c;
-  only = λ k h. inl h;
-}
 
 pub marked_then : (old mid new : List _) (ns : List ℕ) (n below : ℕ) → AreMarked old mid ns below → AreMarked mid new (n ∷ []) below
     → AreMarked old new (ns ++ n ∷ []) below

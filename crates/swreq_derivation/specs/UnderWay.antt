@@ -1,8 +1,8 @@
 -- What the lines of a derivation state over type parameters, and how a derivation grows.
-use Rattle.std.specs.Prelude.{◌≡◌, ◌⊎◌, ℕ, List, Some, map, slice_get}
-use Rattle.swreq_derive.specs.swreq_param.{declared.ids.{ParamId.{ParamId}, ProtoId.{ProtoId}, Step.{Step}, TermId.{TermId}}, Terms.{Term}}
-use Rattle.swreq_derive.specs.{swreq_param.{Terms.Term.{Member}, Tables.{IsOf, Extends, term_at}}, declared.lines.Line.{Line}}
-use Rattle.swreq_derive.specs.declared.lines.DerivRule.{DerivRule, TheVariants.{SameConf, SameLayout}}
+use Rattle.std.specs.Prelude.{◌≡◌, ◌⊎◌, ℕ, List, [], ◌∷◌, Some, map, slice_get}
+use Rattle.swreq_derive.specs.swreq_param.declared.ids.{AssocId.{AssocId}, NameId.{NameId}, ParamId.{ParamId}, ProtoId.{ProtoId}}
+use Rattle.swreq_derive.specs.swreq_param.declared.ids.{Step.{Step, TheVariants.{Bound as BoundStep, Name as NameStep}}, TermId.{TermId}}
+use Rattle.swreq_derive.specs.{swreq_param.{Terms.{Term, Term.{Member}}, Tables.{IsOf, Extends, term_at}}, declared.lines.Line.{Line}}
 use Rattle.swreq_derive.specs.declared.requirements.{Requirement.{Requirement, TheVariants.{Conf, Layout, Same}}, Statement.{Statement}}
 use Rattle.swreq_derive.specs.declared.requirements.Statement.TheVariants.{Valid, Holds}
 use Rattle.swreq_derive.specs.Derivation.{TermFacts, TermRequirement, TermStatement, TermRequirement.{Conforms, Equals}}
@@ -40,6 +40,11 @@ States s st = (n : ℕ) × HasNumber n (statements_in s) st
 abbrev pub IsPremise : Derivation → Statement → Type 0
 IsPremise s st = AreIdsIn s.table st × States s (statement_of s.table st)
 
+-- Lines state these, and their ids are of the table.
+abbrev pub ArePremises : Derivation → List Statement → Type 0
+ArePremises s [] = Unit {0}
+ArePremises s (st ∷ sts) = IsPremise s st × ArePremises s sts
+
 -- The lines are a derivation from the assumptions.
 abbrev pub IsDerivedFrom : Assumptions → Derivation → Type 0
 IsDerivedFrom b s = IsDerivation b.facts b.params b.written (map (line_of s.table) s.lines)
@@ -57,11 +62,6 @@ abbrev pub bound_on : Bound → TermId → Requirement
 bound_on (Protocol p) t = Conf t p
 bound_on AnyObject t = Layout t
 
--- the rule that gives a conformance of an equal type parameter
-abbrev pub rule_along : Bound → DerivRule
-rule_along (Protocol p) = SameConf p
-rule_along AnyObject = SameLayout
-
 -- A line states that what the id stood for conforms to the bound.
 abbrev pub StatesBound : Derivation → Derivation → TermId → Bound → Type 0
 StatesBound old s t bound = States s (Requires (requirement_of old.table (bound_on bound t)))
@@ -77,6 +77,15 @@ AreEqualIds s t u = IsOf s.table t × IsOf s.table u × AreStatedEqual s (term_a
 -- It is an id of the table, and stands for the member of T by the step.
 abbrev pub IsIdOfMember : Derivation → TermId → Step → TermId → Type 0
 IsIdOfMember s t x v = IsOf s.table v × (term_at s.table v ≡ Member (term_at s.table t) x)
+
+-- They are ids of the table, and stand for the members of T and U by the step.
+abbrev pub AreIdsOfMembers : Derivation → TermId → TermId → Step → TermId × TermId → Type 0
+AreIdsOfMembers s t u x m = IsIdOfMember s t x m.0 × IsIdOfMember s u x m.1
+
+-- The step names A, or is bound to the associated type.
+abbrev pub IsStepTo : Step → NameId → AssocId → Type 0
+IsStepTo (NameStep x) a d = x ≡ a
+IsStepTo (BoundStep e) a d = e ≡ d
 
 -- Lines and type parameters were added. What was stated is still stated, and each id stands for what it stood for.
 pub record AddsLines (old new : Derivation) : Type 0 where

@@ -1,13 +1,10 @@
 //! Lines that are added, each with a rule that gives what it states.
-ghost use Rattle.std.specs.{Prelude.{◌≡◌, [], ◌∷◌, OnOk}, Bool.{Decides}};
-ghost use Rattle.swreq_derive.specs.swreq_param.Tables.{IsOf, term_at};
-ghost use Rattle.swreq_derive.specs.{Derivation.TermRequirement.{Conforms}, Derivation.TermStatement.{Requires}, Facts.{statement_of}, Instances.{HasNumber, IsInstance}};
-ghost use Rattle.swreq_derivation.specs.UnderWay.{AreIdsIn, ContinuesFrom, IsPremise, States, StatesConformance, statements_in};
+ghost use Rattle.std.specs.{Prelude.{◌≡◌, IfOk, OnOk, map}, Bool.{Decides}};
+ghost use Rattle.swreq_derive.specs.{Facts.{statement_of}, Instances.{AreStated, HasNumber, IsInstance}};
+ghost use Rattle.swreq_derivation.specs.UnderWay.{AreIdsIn, ArePremises, ContinuesFrom, IsPremise, States, statements_in};
 
 use crate::derivation::Derivation;
-use crate::statements::conf_statement;
 use std::alloc::AllocError;
-use swreq_derive::param::{ProtoId, TermId};
 use swreq_derive::{DerivRule, Statement};
 
 /// The number of the line that states this.
@@ -22,6 +19,19 @@ fn premise(derivation: &Derivation, statement: Statement) -> usize
     }
 }
 
+/// The numbers of the lines that state these.
+fn premises(derivation: &Derivation, from: &[Statement]) -> Result<Vec<usize>, AllocError>
+    requires { ArePremises derivation.now from.now }
+    ensures { IfOk result (λ v. AreStated (statements_in derivation.now) v.items
+        (map (statement_of derivation.now.table) from.now)) }
+{
+    let mut numbers = Vec::with_capacity(derivation.alloc(), from.len())?;
+    for k in 0..from.len() {
+        numbers.push(premise(derivation, from[k]))?;
+    }
+    Ok(numbers)
+}
+
 /// Whether a line states this.
 pub fn is_stated(derivation: &Derivation, statement: Statement) -> bool
     requires { AreIdsIn derivation.now.table statement }
@@ -34,89 +44,24 @@ pub fn is_stated(derivation: &Derivation, statement: Statement) -> bool
     }
 }
 
-/// States what a rule gives without premises, unless a line states it.
-pub(crate) fn from_none(
+/// States what a rule gives from these premises, unless a line states it.
+pub(crate) fn add(
     derivation: &mut Derivation,
     rule: DerivRule,
+    from: &[Statement],
     gives: Statement,
 ) -> Result<(), AllocError>
-    requires { AreIdsIn derivation.old.table gives }
+    requires from { ArePremises derivation.old from.now }
+    requires gives { AreIdsIn derivation.old.table gives }
     ensures table { derivation.new.table ≡ derivation.old.table }
     ensures says { OnOk result (States derivation.new (statement_of derivation.old.table gives)) }
-    ensures continues { ContinuesFrom (λ b. IsInstance b.facts b.params b.written rule []
+    ensures continues { ContinuesFrom (λ b. IsInstance b.facts b.params b.written rule
+        (map (statement_of derivation.old.table) from.now)
         (statement_of derivation.old.table gives)) derivation.old derivation.new }
 {
     if is_stated(derivation, gives) {
         return Ok(());
     }
-    let premises = Vec::new(derivation.alloc());
-    derivation.push(rule, premises, gives)
-}
-
-/// States what a rule gives from one premise, unless a line states it.
-pub(crate) fn from_one(
-    derivation: &mut Derivation,
-    rule: DerivRule,
-    from: Statement,
-    gives: Statement,
-) -> Result<(), AllocError>
-    requires from { IsPremise derivation.old from }
-    requires gives { AreIdsIn derivation.old.table gives }
-    ensures table { derivation.new.table ≡ derivation.old.table }
-    ensures says { OnOk result (States derivation.new (statement_of derivation.old.table gives)) }
-    ensures continues { ContinuesFrom (λ b. IsInstance b.facts b.params b.written rule
-        (statement_of derivation.old.table from ∷ []) (statement_of derivation.old.table gives))
-        derivation.old derivation.new }
-{
-    if is_stated(derivation, gives) {
-        return Ok(());
-    }
-    let first = premise(derivation, from);
-    let premises = vec![in derivation.alloc(); first]?;
-    derivation.push(rule, premises, gives)
-}
-
-/// States what a rule gives from `[T : P]`, unless a line states it. `subject` is the id of T.
-pub(crate) fn from_conformance(
-    derivation: &mut Derivation,
-    rule: DerivRule,
-    subject: TermId,
-    protocol: ProtoId,
-    gives: Statement,
-) -> Result<(), AllocError>
-    requires subject { IsOf derivation.old.table subject }
-    requires conforms { StatesConformance derivation.old derivation.old subject protocol }
-    requires gives { AreIdsIn derivation.old.table gives }
-    ensures table { derivation.new.table ≡ derivation.old.table }
-    ensures says { OnOk result (States derivation.new (statement_of derivation.old.table gives)) }
-    ensures continues { ContinuesFrom (λ b. IsInstance b.facts b.params b.written rule
-        (Requires (Conforms (term_at derivation.old.table subject) protocol) ∷ [])
-        (statement_of derivation.old.table gives)) derivation.old derivation.new }
-{
-    from_one(derivation, rule, conf_statement(subject, protocol), gives)
-}
-
-/// States what a rule gives from two premises, unless a line states it.
-pub(crate) fn from_two(
-    derivation: &mut Derivation,
-    rule: DerivRule,
-    from: (Statement, Statement),
-    gives: Statement,
-) -> Result<(), AllocError>
-    requires first { IsPremise derivation.old from.0 }
-    requires second { IsPremise derivation.old from.1 }
-    requires gives { AreIdsIn derivation.old.table gives }
-    ensures table { derivation.new.table ≡ derivation.old.table }
-    ensures says { OnOk result (States derivation.new (statement_of derivation.old.table gives)) }
-    ensures continues { ContinuesFrom (λ b. IsInstance b.facts b.params b.written rule
-        (statement_of derivation.old.table from.0 ∷ statement_of derivation.old.table from.1 ∷ [])
-        (statement_of derivation.old.table gives)) derivation.old derivation.new }
-{
-    if is_stated(derivation, gives) {
-        return Ok(());
-    }
-    let first = premise(derivation, from.0);
-    let second = premise(derivation, from.1);
-    let premises = vec![in derivation.alloc(); first, second]?;
-    derivation.push(rule, premises, gives)
+    let numbers = premises(derivation, from)?;
+    derivation.push(rule, numbers, gives)
 }

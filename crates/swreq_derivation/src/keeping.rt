@@ -38,24 +38,6 @@ fn number_in(marks: &[bool], numbers: &[usize], number: usize) -> usize
     }
 }
 
-/// The premises, each with its new number.
-fn premises_in(
-    alloc: Global,
-    marks: &[bool],
-    numbers: &[usize],
-    premises: &[usize],
-) -> Result<Vec<usize>, AllocError>
-    requires { AreNewNumbers marks.now numbers.now }
-    ensures { IfOk result (λ v. v.items ≡ map (new_number marks.now) premises.now) }
-{
-    let mut found = Vec::new(alloc);
-    for k in 0..premises.len() {
-        let number = number_in(marks, numbers, premises[k]);
-        found.push(number)?;
-    }
-    Ok(found)
-}
-
 /// The line with the new numbers of its premises.
 fn renumbered(
     alloc: Global,
@@ -66,7 +48,12 @@ fn renumbered(
     requires { AreNewNumbers marks.now numbers.now }
     ensures { IfOk result (λ l. l ≡ renumbered marks.now line.now) }
 {
-    let premises = premises_in(alloc, marks, numbers, line.premises.items())?;
+    let old = line.premises.items();
+    let mut premises = Vec::new(alloc);
+    for k in 0..old.len() {
+        let number = number_in(marks, numbers, old[k]);
+        premises.push(number)?;
+    }
     Ok(Line {
         rule: line.rule,
         premises: Seq::new(premises),

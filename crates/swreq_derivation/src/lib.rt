@@ -15,15 +15,12 @@ mod validity;
 
 pub use adding::is_stated;
 pub use derivation::Derivation;
-pub use equalities::{
-    add_assoc_bind, add_same_bound, add_same_conf, add_same_layout, add_same_name, add_symm,
-    add_trans, are_one,
-};
+pub use equalities::{add_assoc_bind, add_same_bound, add_same_name, add_symm, add_trans, are_one};
 pub use keeping::needed;
 pub use requirements::{Origin, add_requirement};
 pub use stated::Stated;
 pub use statements::{
-    Bound, bound_requirement, conf_statement, layout_statement, same_statement, valid_statement,
+    Bound, bound_requirement, bound_statement, conf_statement, same_statement, valid_statement,
 };
 pub use swreq_derive::Requirement;
-pub use validity::{add_assoc_decl, add_assoc_name, add_generic, add_reflex};
+pub use validity::{add_generic, add_member, add_reflex};

@@ -4,8 +4,9 @@ ghost use Rattle.swreq_derive.specs.swreq_param.Terms.{Term};
 ghost use Rattle.swreq_derive.specs.{declared.requirements.Statement.TheVariants.{Holds}, Derivation.TermStatement.{Requires}, Facts.{requirement_of}};
 ghost use Rattle.swreq_derivation.specs.{Origins.{IsOrigin, IsWrittenOf, rule_for}, UnderWay.{AreIdsIn, ContinuesFrom, States}};
 
-use crate::adding::{from_conformance, from_none};
+use crate::adding::add;
 use crate::derivation::Derivation;
+use crate::statements::conf_statement;
 use std::alloc::AllocError;
 use swreq_derive::param::{ProtoId, TermId};
 use swreq_derive::{DerivRule, Requirement, Statement};
@@ -54,7 +55,10 @@ pub fn add_requirement(
     let rule = rule_of(origin.owner, origin.number, r);
     let gives = Statement::Holds { r };
     match origin.owner {
-        Some(p) => from_conformance(derivation, rule, origin.for_self, p, gives),
-        None => from_none(derivation, rule, gives),
+        Some(p) => {
+            let from = conf_statement(origin.for_self, p);
+            add(derivation, rule, &[from], gives)
+        }
+        None => add(derivation, rule, &[], gives),
     }
 }

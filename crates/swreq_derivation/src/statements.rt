@@ -24,6 +24,15 @@ pub fn bound_requirement(subject: TermId, bound: Bound) -> Requirement
     }
 }
 
+/// `[T : P]` or `[T : AnyObject]`
+pub fn bound_statement(subject: TermId, bound: Bound) -> Statement
+    ensures { result ≡ stated.Holds (bound_on bound subject) }
+{
+    Statement::Holds {
+        r: bound_requirement(subject, bound),
+    }
+}
+
 /// T is valid.
 pub fn valid_statement(subject: TermId) -> Statement
     ensures { result ≡ stated.Valid subject }
@@ -40,15 +49,6 @@ pub fn conf_statement(subject: TermId, protocol: ProtoId) -> Statement
             subject,
             proto: protocol,
         },
-    }
-}
-
-/// `[T : AnyObject]`
-pub fn layout_statement(subject: TermId) -> Statement
-    ensures { result ≡ stated.Holds (required.Layout subject) }
-{
-    Statement::Holds {
-        r: Requirement::Layout { subject },
     }
 }
 

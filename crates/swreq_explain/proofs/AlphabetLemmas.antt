@@ -1,41 +1,23 @@
 -- The inheritance of a world, its symbols, and its facts, by what words are read by.
-use Rattle.std.proofs.Common.{◌≡◌, ◌∙◌, ◌⊎◌, inl, inr, ℕ, ◌+◌, ◌-◌, true, List, Some, Contains, ap, arith, length, slice_get, subst, sym}
-use Rattle.std.proofs.lemmas.List.{length-map}
-use Rattle.swreq_machine.proofs.swreq_lemmas.Elements.{contains_get, get_contains, get_map, get_of_map}
-use Rattle.swreq_lines.proofs.swreq_closure.Counts.{count_le}
-use Rattle.swreq_machine.specs.swreq_param.declared.ids.NameId.{NameId}
-use Rattle.swreq_machine.specs.swreq_param.declared.ids.ProtoId.{ProtoId}
-use Rattle.swreq_machine.specs.swreq_param.Tables.{term_at}
-use Rattle.swreq_machine.specs.swreq_param.Terms.{Term, self}
-use Rattle.swreq_machine.specs.swreq_derive.declared.requirements.Requirement.{Requirement}
-use Rattle.swreq_machine.specs.swreq_derive.declared.requirements.Requirement.TheVariants.{Conf, Layout, Same}
-use Rattle.swreq_machine.specs.swreq_derive.Derivation.{Declares, TermFacts, TermRequirement}
-use Rattle.swreq_machine.specs.swreq_derive.Derivation.TermRequirement.{Conforms}
-use Rattle.swreq_machine.specs.swreq_derive.Facts.{generic_params, requirement_of}
-use Rattle.swreq_machine.specs.swreq_derive.Inheritance.{InheritsDirectly, LeadsTo}
-use Rattle.swreq_machine.specs.swreq_derive.Inheritance.LeadsTo.{further, here}
-use Rattle.swreq_machine.specs.swreq_derive.Instances.{HasNumber}
-use Rattle.swreq_machine.specs.swreq_lexicon.Associated as over
-use Rattle.swreq_machine.specs.swreq_lexicon.Lexicons.{pair}
-use Rattle.swreq_machine.specs.swreq_lexicon.Views.{HasMember, IsProtocol, LexiconView, depth, inherits}
-use Rattle.swreq_machine.specs.swreq_lowering.declared.ids.Written.{Written}
-use Rattle.swreq_machine.specs.swreq_correspondence.Symbols.{AreOfText}
-use Rattle.swreq_derivation.specs.UnderWay.{Assumptions}
-use Rattle.swreq_readings.specs.declared.alphabet.Alphabet.{Alphabet}
-use Rattle.swreq_readings.specs.Alphabets.{Fits, IsDeclared, IsInherited, IsMember, IsParentAt, IsParentFor, written_at}
-use Rattle.swreq_births.specs.Systems.{AreSymbols}
-use Rattle.swreq_machine.specs.swreq_world.ByTable.{world_by}
-use Rattle.swreq_machine.specs.swreq_world.Closed.{IsClosed}
-use Rattle.swreq_machine.specs.swreq_world.FactsAt.{facts_of}
-use Rattle.swreq_machine.specs.swreq_world.Short.{IsShort}
-use Rattle.swreq_machine.specs.swreq_world.Worlds.{IdWorld, requirements_of}
-use Rattle.swreq_machine.specs.swreq_symbols.Known.{IsTextOver}
+use Rattle.std.proofs.Common.{◌≡◌, ◌∙◌, ◌⊎◌, inl, inr, ℕ, ◌+◌, ◌-◌, true, List, Option, Some, Contains, ap, arith, slice_get, subst}
+use Rattle.std.proofs.{Common.{sym}, lemmas.List.{length-map}}
+use Rattle.swreq_machine.proofs.{swreq_lemmas.Elements.{contains_get, get_contains, get_map, get_of_map}, swreq_symbols.Declared.{at_rank}}
+use Rattle.swreq_machine.proofs.swreq_symbols.{Declared.{from_rank, symbol_at}, OfText.{own_requirements}, Symbols.{text_law}}
+use Rattle.swreq_machine.specs.swreq_param.{declared.ids.{NameId.{NameId}, ProtoId.{ProtoId}, TermId.{TermId}}, Tables.{term_at}}
+use Rattle.swreq_machine.specs.{swreq_param.Terms.{Term, self}, swreq_derive.declared.requirements.Requirement.{Requirement}}
+use Rattle.swreq_machine.specs.swreq_derive.{declared.requirements.Requirement.TheVariants.{Conf, Layout, Same}, Derivation.{Declares}}
+use Rattle.swreq_machine.specs.swreq_derive.{Derivation.{TermFacts, TermRequirement, TermRequirement.{Conforms}}, Facts.{generic_params}}
+use Rattle.swreq_machine.specs.swreq_derive.{Facts.{requirement_of}, Inheritance.{InheritsDirectly, LeadsTo, LeadsTo.{further, here}}}
+use Rattle.swreq_machine.specs.{swreq_derive.Instances.{HasNumber}, swreq_lexicon.{Lexicons.{pair}, Views.{HasMember, IsProtocol}}}
+use Rattle.swreq_machine.specs.{swreq_lexicon.Views.{LexiconView, inherits}, swreq_lowering.declared.ids.Written.{Written}}
+use Rattle.swreq_machine.specs.{swreq_correspondence.Symbols.{AreOfText}, swreq_world.{ByTable.{world_by}, Closed.{IsClosed}}}
+use Rattle.swreq_machine.specs.{swreq_world.{FactsAt.{facts_of}, Worlds.{IdWorld, requirements_of}}, swreq_symbols.Known.{IsTextOver}}
 use Rattle.swreq_machine.specs.swreq_symbols.Meaning.{symbols_of}
-use Rattle.swreq_machine.proofs.swreq_symbols.Declared.{at_rank, from_rank, symbol_at}
-use Rattle.swreq_machine.proofs.swreq_symbols.OfText.{own_requirements}
-use Rattle.swreq_machine.proofs.swreq_symbols.Symbols.{text_law}
-use Rattle.swreq_explain.specs.Histories.{IsSelfId}
-use Rattle.swreq_explain.proofs.NumberingLemmas.{short_list}
+use Rattle.swreq_derivation.specs.UnderWay.{Assumptions}
+use Rattle.swreq_readings.specs.{declared.alphabet.Alphabet.{Alphabet}, Alphabets.{Fits}, Inherited.{IsDeclaredIn, IsInherited, IsMemberIn}}
+use Rattle.swreq_readings.specs.Inherited.{IsParentIn, written_in}
+use Rattle.swreq_births.specs.Systems.{AreSymbols}
+use Rattle.swreq_explain.{specs.Histories.{IsSelfId}, proofs.NumberingLemmas.{short_list}}
 
 -- A chain of written inheritance begins with a step to a direct parent.
 first_step : {f : TermFacts} {p r q : ProtoId} → LeadsTo f p r → InheritsDirectly f r q
@@ -43,10 +25,7 @@ first_step : {f : TermFacts} {p r q : ProtoId} → LeadsTo f p r → InheritsDir
 first_step {f} {p} {r} {q} here i = (q, i, here)
 first_step {f} {p} {r} {q} (further l j) i = let s = first_step l j in (s.0, s.1, further s.2 i)
 
-module _ (terms : List Term) (g : Alphabet) (own : IsSelfId terms g.world.now g.self_id) (text : IsTextOver terms g.world.now) where
-  abbrev w : IdWorld
-  w = g.world.now
-
+module _ (terms : List Term) (w : IdWorld) (id : Option TermId) (own : IsSelfId terms w id) (text : IsTextOver terms w) where
   abbrev x : LexiconView
   x = w.lexicon
 
@@ -56,22 +35,17 @@ module _ (terms : List Term) (g : Alphabet) (own : IsSelfId terms g.world.now g.
   closed : IsClosed (world_by terms w)
   closed = text.closed
 
-  pub are_symbols : AreSymbols g (symbols_of x) f
-  are_symbols = record { associated = λ p a d c. at_rank x p a d c; members = λ p a d c. symbol_at x p a d closed.ids c }
-
-  -- ---- inheritance
-
   -- what a protocol is written to inherit is one of its requirements
-  required_at : (p q : ProtoId) (k : ℕ) → IsParentAt g p k q → slice_get (f.of_protocol p) k ≡ Some (Conforms self q)
-  required_at p q k (t, id, at) =
+  required_at : (p q : ProtoId) (k : ℕ) → IsParentIn w id p k q → slice_get (f.of_protocol p) k ≡ Some (Conforms self q)
+  required_at p q k (t, same, at) =
       ap (λ (z : List TermRequirement). slice_get z k) (own_requirements w terms p)
-      ∙ get_map (requirement_of terms) (written_at g p) k (Conf t q) at ∙ ap (λ z. Some (Conforms z q)) ((own p k t q at).1 id)
+      ∙ get_map (requirement_of terms) (written_in w p) k (Conf t q) at ∙ ap (λ z. Some (Conforms z q)) ((own p k t q at).1 same)
 
   -- a protocol that P inherits directly is a parent of P, and both are protocols of the text
-  parent_is : (p q : ProtoId) → InheritsDirectly f p q → (k : ℕ) × IsParentAt g p k q × IsProtocol x p × IsProtocol x q
+  parent_is : (p q : ProtoId) → InheritsDirectly f p q → (k : ℕ) × IsParentIn w id p k q × IsProtocol x p × IsProtocol x q
   parent_is p q c =
       let (k, at) = contains_get (f.of_protocol p) (Conforms self q) c in
-      let (r, there, same) = get_of_map (requirement_of terms) (written_at g p) k (Conforms self q)
+      let (r, there, same) = get_of_map (requirement_of terms) (written_in w p) k (Conforms self q)
       (sym (ap (λ (z : List TermRequirement). slice_get z k) (own_requirements w terms p)) ∙ at) in
       let law : AreOfText (symbols_of x) f = text_law (world_by terms w) closed in (
         k,
@@ -80,7 +54,8 @@ module _ (terms : List Term) (g : Alphabet) (own : IsSelfId terms g.world.now g.
         (closed.ids.written_order q).0 (law.protocols p self q c),
       )
     where
-      by : (k : ℕ) (r : Requirement) → slice_get (written_at g p) k ≡ Some r → requirement_of terms r ≡ Conforms self q → IsParentAt g p k q
+      by : (k : ℕ) (r : Requirement) → slice_get (written_in w p) k ≡ Some r → requirement_of terms r ≡ Conforms self q
+          → IsParentIn w id p k q
       by k (Conf t o) at e =
           let same : o ≡ q = cc in
           let is : term_at terms t ≡ self = cc in
@@ -88,11 +63,8 @@ module _ (terms : List Term) (g : Alphabet) (own : IsSelfId terms g.world.now g.
       by k (Layout t) at e = absurd cc
       by k (Same t u) at e = absurd cc
 
-  -- a member name of a protocol of the text has its member symbol
-  has_symbol : (p : ProtoId) (a : NameId) → IsProtocol x p → HasMember x p a → IsMember g p a
-  has_symbol p a l h = contains_get x.symbols (pair p a) ((closed.ids.symbols p a).1 (l, h))
-
-  inherited_from : (p : ProtoId) (a : NameId) → IsMember g p a → IsDeclared g p a ⊎ ((k : ℕ) × (q : ProtoId) × IsParentFor g p a k q)
+  inherited_from : (p : ProtoId) (a : NameId) → IsMemberIn x p a
+      → IsDeclaredIn x p a ⊎ ((k : ℕ) × (q : ProtoId) × IsParentIn w id p k q × IsMemberIn x q a)
   inherited_from p a (k, at) =
       let has = (closed.ids.symbols p a).0 (get_contains x.symbols k (pair p a) at) in
       elim has.1 [
@@ -101,25 +73,24 @@ module _ (terms : List Term) (g : Alphabet) (own : IsSelfId terms g.world.now g.
       ]
     where
       by : (q : ProtoId) → IsProtocol x p → inherits x p q ≡ true → Contains x.associated (pair q a)
-          → (k : ℕ) × (q : ProtoId) × IsParentFor g p a k q
+          → (k : ℕ) × (q : ProtoId) × IsParentIn w id p k q × IsMemberIn x q a
       by q l i c =
           let of_q : IsProtocol x q = (closed.ids.associated (pair q a) c).0 in
           let (r, leads, last) = (closed.inheritance p q l of_q).0 i in
           let (e, direct, further_on) = first_step leads last in
           let (n, there, of_p, of_e) = parent_is p e direct in
-          (n, e, (there, has_symbol e a of_e (on e q of_e of_q further_on c)))
+          let symbol = contains_get x.symbols (pair e a) ((closed.ids.symbols e a).1 (of_e, on e q of_e of_q further_on c)) in
+          (n, e, there, symbol)
         where
           on : (e q : ProtoId) → IsProtocol x e → IsProtocol x q → LeadsTo f e q → Contains x.associated (pair q a) → HasMember x e a
           on e q of_e of_q here c = inl c
           on e q of_e of_q (further {q = m} l d) c = inr (q, (closed.inheritance e q of_e of_q).1 (m, l, d), c)
 
-  pub is_inherited : IsShort w → IsInherited g
-  is_inherited short = record {
-    short = λ p. (let few = short_list w short.protocols p in
+  pub is_inherited : IsInherited w id
+  is_inherited = record {
+    short = λ p. (let few = short_list w text.short.protocols p in
         let count = length-map (requirements_of w p) (λ (r : Written). r.requirement) in
         omega (arith, few, count));
-    depth = depth x;
-    bounded = λ p. count_le (λ q. inherits x p (over.protocol q)) (length x.protocols);
     goes_down = λ p q k at.
         let direct : InheritsDirectly f p q = get_contains (f.of_protocol p) k (Conforms self q) (required_at p q k at) in
         let (j, there, of_p, of_q) = parent_is p q direct in
@@ -128,13 +99,22 @@ module _ (terms : List Term) (g : Alphabet) (own : IsSelfId terms g.world.now g.
     from = inherited_from;
   }
 
-  -- ---- facts
+module _ (terms : List Term) (g : Alphabet) (own : IsSelfId terms g.world.now g.self_id) (text : IsTextOver terms g.world.now) where
+  pub are_symbols : AreSymbols g (symbols_of g.world.now.lexicon) (facts_of (world_by terms g.world.now))
+  are_symbols = record {
+    associated = λ p a d c. at_rank g.world.now.lexicon p a d c;
+    members = λ p a d c. symbol_at g.world.now.lexicon p a d text.closed.ids c;
+  }
 
-  pub fits_assumptions : (b : Assumptions) → b.facts ≡ f → b.params ≡ generic_params g.params → Fits g b
+  pub fits_assumptions : (b : Assumptions) → b.facts ≡ facts_of (world_by terms g.world.now) → b.params ≡ generic_params g.params → Fits g b
   fits_assumptions b same_facts same_params = record {
     associated = λ k n e. subst (λ (z : TermFacts). Declares z n.proto n.name (record { rank = k })) (sym same_facts)
-        (from_rank x n.proto n.name (record { rank = k }) e);
-    parents = λ p q k at. subst (λ (z : TermFacts). HasNumber (k + 1) (z.of_protocol p) (Conforms self q)) (sym same_facts)
-        (omega arith, (let same : k + 1 - 1 ≡ k = omega arith in ap (slice_get (f.of_protocol p)) same ∙ required_at p q k at));
+        (from_rank g.world.now.lexicon n.proto n.name (record { rank = k }) e);
+    parents = λ p q k at. subst (λ (z : TermFacts). HasNumber (k + 1) (z.of_protocol p) (Conforms self q)) (sym same_facts) (
+      omega arith,
+      (let same : k + 1 - 1 ≡ k = omega arith in
+          ap (slice_get ((facts_of (world_by terms g.world.now)).of_protocol p)) same
+          ∙ required_at terms g.world.now g.self_id own text p q k at),
+    );
     params = same_params;
   }

@@ -1,21 +1,14 @@
 -- Reduction by the rules of a signature's history shows what is derivable from its list.
 use Rattle.std.proofs.Common.{List, []}
-use Rattle.swreq_machine.specs.swreq_rule.declared.rules.Rule.{Rule}
-use Rattle.swreq_machine.specs.swreq_complete.Alike.{ReduceAlike}
-use Rattle.swreq_machine.specs.swreq_complete.Complete.{IsComplete}
-use Rattle.swreq_machine.specs.swreq_param.declared.ids.ParamId.{ParamId}
-use Rattle.swreq_machine.specs.swreq_derive.Derivation.{Derivable, Source, TermFacts, TermRequirement}
-use Rattle.swreq_machine.specs.swreq_derive.Derivation.Source.{Written}
-use Rattle.swreq_machine.specs.swreq_derive.Derivation.TermRequirement.{Conforms, Equals, IsAnyObject}
-use Rattle.swreq_machine.specs.swreq_derive.Derivation.TermStatement.{Requires}
-use Rattle.swreq_machine.specs.swreq_correspondence.Equations.{Linking, UsableEquation}
-use Rattle.swreq_machine.specs.swreq_correspondence.Shown.{Shows, ShowsUsable}
-use Rattle.swreq_machine.specs.swreq_correspondence.Symbols.{AreOfText, AreSymbolsOf, IsInText, Symbols, Word, left_side, right_side}
-use Rattle.swreq_machine.proofs.swreq_correspondence.Chained.{chained_usable}
-use Rattle.swreq_machine.proofs.swreq_correspondence.Shown.{shown_by_more}
-use Rattle.swreq_machine.specs.swreq_rounds.Presents.{AreListRules}
-use Rattle.swreq_births.proofs.Ends.{alike_back}
+use Rattle.swreq_machine.specs.{swreq_rule.declared.rules.Rule.{Rule}, swreq_complete.{Alike.{ReduceAlike}, Complete.{IsComplete}}}
+use Rattle.swreq_machine.specs.{swreq_param.declared.ids.ParamId.{ParamId}, swreq_derive.Derivation.{Derivable, Source, TermFacts}}
+use Rattle.swreq_machine.specs.swreq_derive.Derivation.{TermRequirement, Source.{Written}, TermRequirement.{Conforms, Equals, IsAnyObject}}
+use Rattle.swreq_machine.specs.{swreq_derive.Derivation.TermStatement.{Requires}, swreq_correspondence.Equations.{Linking, UsableEquation}}
+use Rattle.swreq_machine.specs.swreq_correspondence.{Shown.{Shows, ShowsUsable}, Symbols.{AreOfText, AreSymbolsOf, IsInText, Symbols, Word}}
+use Rattle.swreq_machine.specs.{swreq_correspondence.Symbols.{left_side, right_side}, swreq_rounds.Presents.{AreListRules}}
+use Rattle.swreq_machine.proofs.swreq_correspondence.{Chained.{chained_usable}, Shown.{shown_by_more}}
 use Rattle.swreq_machine.proofs.swreq_complete.Alike.{linked_are_alike}
+use Rattle.swreq_births.proofs.Ends.{alike_back}
 
 module _ (m : Symbols) (f : TermFacts) (fit : AreSymbolsOf m f) (ranges : AreOfText m f) (rules : List Rule) (gs : List ParamId)
     (rs : List TermRequirement)

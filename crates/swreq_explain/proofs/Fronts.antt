@@ -1,19 +1,12 @@
 -- The first lines of a derivation, up to the line that states this.
-use Rattle.std.proofs.Common.{◌≡◌, ◌∙◌, ℕ, suc, ◌-◌, List, ap, arith, map, refl, subst, sym, take}
-use Rattle.std.proofs.lemmas.List.{take-map, take-take}
-use Rattle.swreq_machine.proofs.swreq_lemmas.Elements.{get_map, get_of_map, in_whole, take_one}
-use Rattle.swreq_machine.specs.swreq_param.Tables.{AreDistinct}
-use Rattle.swreq_machine.specs.swreq_param.Terms.{Term}
-use Rattle.swreq_machine.specs.swreq_derive.declared.lines.Line.{Line}
-use Rattle.swreq_machine.specs.swreq_derive.declared.requirements.Statement.{Statement}
-use Rattle.swreq_machine.specs.swreq_derive.Facts.{IdFacts, generic_params, requirement_of, statement_of, term_facts}
-use Rattle.swreq_machine.specs.swreq_derive.Instances.{Follows, HasNumber, TermLine, statements_of}
+use Rattle.std.proofs.{Common.{◌≡◌, ◌∙◌, ℕ, suc, ◌-◌, List, ap, arith, map, refl, subst, sym, take}, lemmas.List.{take-map, take-take}}
+use Rattle.swreq_machine.proofs.{swreq_lemmas.Elements.{get_map, get_of_map, in_whole, take_one}, swreq_derive.LineLemmas.{get_take}}
+use Rattle.swreq_machine.specs.{swreq_param.{Tables.{AreDistinct}, Terms.{Term}}, swreq_derive.declared.lines.Line.{Line}}
+use Rattle.swreq_machine.specs.swreq_derive.{declared.requirements.Statement.{Statement}, Facts.{IdFacts, generic_params, requirement_of}}
+use Rattle.swreq_machine.specs.swreq_derive.{Facts.{statement_of, term_facts}, Instances.{Follows, HasNumber, TermLine, statements_of}}
 use Rattle.swreq_machine.specs.swreq_derive.Lines.{AreDerived, line_of, stated_by}
-use Rattle.swreq_machine.proofs.swreq_derive.LineLemmas.{get_take}
-use Rattle.swreq_derivation.specs.declared.derivation.Derivation.{Derivation}
-use Rattle.swreq_derivation.specs.UnderWay.{AllIn, AreIdsIn, statements_in}
-use Rattle.swreq_derivation.proofs.DerivationLemmas.{same_ids}
-use Rattle.swreq_derivation.specs.Needed.{AreSomeOf, EndIn}
+use Rattle.swreq_derivation.specs.{declared.derivation.Derivation.{Derivation}, UnderWay.{AllIn, AreIdsIn, statements_in}}
+use Rattle.swreq_derivation.{specs.Needed.{AreSomeOf, EndIn}, proofs.DerivationLemmas.{same_ids}}
 
 -- the first lines of a derivation are a derivation
 pub front_derived : (terms : List Term) (m : IdFacts) (ls : List Line) (n : ℕ) → AreDerived terms m ls → AreDerived terms m (take n ls)

@@ -1,65 +1,39 @@
 -- The history of a machine is a history (`IsHistory`), and fits the facts of its signature.
-use Rattle.std.proofs.Common.{◌≡◌, ◌∙◌, inl, inr, ℕ, suc, ◌+◌, ◌-◌, ◌<◌, ◌≤◌, ◌^◌, List, [], ◌∷◌, ◌++◌, Option, Some, None, ap, ap₂, arith, length, length-append, map, refl, slice_get, subst, sym}
-use Rattle.std.proofs.lemmas.List.{length-map, map-append}
+use Rattle.std.proofs.Common.{◌≡◌, ◌∙◌, inl, inr, ℕ, suc, ◌+◌, ◌-◌, ◌<◌, ◌≤◌, ◌^◌, List, [], ◌∷◌, ◌++◌, Option, Some, None, ap, ap₂, arith}
+use Rattle.std.proofs.{Common.{length, length-append, map, refl, slice_get, subst, sym}, lemmas.List.{length-map, map-append}}
 use Rattle.std.proofs.lemmas.Option.{get_or_from_slice_get, same_Some, slice_get-get_or, slice_get_within}
 use Rattle.swreq_machine.proofs.swreq_lemmas.Elements.{get_after, get_cases, get_either, get_left, get_map, in_front, there_is}
-use Rattle.swreq_machine.specs.swreq_param.declared.ids.ParamId.{ParamId}
-use Rattle.swreq_machine.specs.swreq_param.declared.ids.ProtoId.{ProtoId}
-use Rattle.swreq_machine.specs.swreq_param.Owned.{as_term}
-use Rattle.swreq_machine.specs.swreq_param.Terms.{Term}
-use Rattle.swreq_readings.specs.swreq_word.declared.symbols.Symbol.TheVariants as symbols
-use Rattle.swreq_machine.specs.swreq_rule.declared.rules.Rule.{Rule}
-use Rattle.swreq_machine.specs.swreq_derive.Derivation.{TermFacts, TermRequirement}
-use Rattle.swreq_machine.specs.swreq_derive.Derivation.Source.{Written as WrittenList}
-use Rattle.swreq_machine.specs.swreq_derive.Facts.{generic_params, requirement_of}
-use Rattle.swreq_machine.specs.swreq_derive.Instances.{HasNumber}
-use Rattle.swreq_machine.specs.swreq_complete.Alike.{ReduceAlike}
-use Rattle.swreq_machine.specs.swreq_complete.Complete.{IsComplete}
-use Rattle.swreq_machine.specs.swreq_complete.Reached.{IsBorn}
-use Rattle.swreq_machine.specs.swreq_correspondence.Shown.{ShowsUsable, ShowsValid}
-use Rattle.swreq_machine.specs.swreq_correspondence.Symbols.{IsInText, Symbols, Word, left_side, right_side, word_of}
-use Rattle.swreq_machine.specs.swreq_lowering.declared.ids.FuncId.{FuncId}
-use Rattle.swreq_machine.specs.swreq_rounds.Given.{of_list}
-use Rattle.swreq_machine.specs.swreq_rounds.Presents.{AreListRules}
-use Rattle.swreq_machine.specs.swreq_rounds.Plan.{AreShownByReduction, Item, Plan, equation_of, given}
+use Rattle.swreq_machine.proofs.{swreq_valid.Flagged.{chosen_map}, swreq_symbols.OfText.{requirements_placed, signature_is}}
+use Rattle.swreq_machine.{proofs.swreq_correspondence.Spelling.{spell-append}, specs.swreq_param.declared.ids.ParamId.{ParamId}}
+use Rattle.swreq_machine.specs.swreq_param.{declared.ids.ProtoId.{ProtoId}, Owned.{as_term}, Terms.{Term}}
+use Rattle.swreq_machine.specs.{swreq_rule.declared.rules.Rule.{Rule}, swreq_derive.Derivation.{TermFacts, TermRequirement}}
+use Rattle.swreq_machine.specs.swreq_derive.{Derivation.Source.{Written as WrittenList}, Facts.{generic_params, requirement_of}}
+use Rattle.swreq_machine.specs.{swreq_derive.Instances.{HasNumber}, swreq_complete.{Alike.{ReduceAlike}, declared.limit.Limits.{Limits}}}
+use Rattle.swreq_machine.specs.{swreq_complete.{Complete.{IsComplete}, Reached.{IsBorn}}, swreq_correspondence.Shown.{ShowsUsable}}
+use Rattle.swreq_machine.specs.swreq_correspondence.{Shown.{ShowsValid}, Symbols.{IsInText, Symbols, Word, left_side, right_side, word_of}}
+use Rattle.swreq_machine.specs.swreq_lowering.{declared.ids.FuncId.{FuncId}, Requirements.{PlacedRequirement}}
+use Rattle.swreq_machine.specs.swreq_rounds.{Presents.{AreListRules}, Plan.{AreShownByReduction, Item, Plan, equation_of, given}}
+use Rattle.swreq_machine.specs.{swreq_lexicon.declared.pair.ProtocolName.{ProtocolName}, swreq_symbols.Known.{IsTextOver}}
+use Rattle.swreq_machine.specs.{swreq_symbols.{Meaning.{symbols_of}, Overs.{source_by}}, swreq_valid.Flags.{chosen}}
+use Rattle.swreq_machine.specs.swreq_valid.{Protocols.{ProtocolsView, protocols_of}, Plans.{bare, listed}, Rounds.{AreRounds, RoundView}}
+use Rattle.swreq_machine.specs.{swreq_valid.Rounds.{last_rules}, Machines.{MachineView, machine_plan}, swreq_world.ByTable.{signature_by}}
+use Rattle.swreq_machine.specs.swreq_world.{ByTable.{world_by}, FactsAt.{facts_of, written_list}, Worlds.{IdWorld, SignatureOver}}
+use Rattle.swreq_machine.specs.swreq_world.Worlds.{signature_at}
 use Rattle.swreq_derivation.specs.UnderWay.{Assumptions}
-use Rattle.swreq_readings.specs.declared.alphabet.Alphabet.{Alphabet}
-use Rattle.swreq_machine.specs.swreq_lexicon.declared.pair.ProtocolName.{ProtocolName}
-use Rattle.swreq_readings.specs.Alphabets.{lexicon}
-use Rattle.swreq_machine.specs.swreq_symbols.Known.{IsTextOver}
-use Rattle.swreq_machine.specs.swreq_symbols.Meaning.{symbols_of}
-use Rattle.swreq_machine.specs.swreq_symbols.Overs.{source_by}
-use Rattle.swreq_births.specs.declared.history.History.{History}
-use Rattle.swreq_births.specs.declared.history.Equation.{Equation}
-use Rattle.swreq_births.specs.declared.history.OwnedRequirement.{OwnedRequirement}
-use Rattle.swreq_births.specs.declared.history.OwnedRequirement.TheVariants.{Conf, Layout, Same}
-use Rattle.swreq_births.specs.declared.history.Reason.{Reason}
-use Rattle.swreq_births.specs.declared.history.Reason.TheVariants.{Doubled, Named as NamedBy, Required}
-use Rattle.swreq_births.specs.declared.history.System.{System}
-use Rattle.swreq_births.specs.Systems.{AreSymbols, FitsHistory, HasShownSides, IsGivenBy, IsHistory, IsShown, IsSystem, IsWritten, given_of, requirement_by, rules_at, source_of, system_at, systems_of}
-use Rattle.swreq_machine.specs.swreq_valid.Flags.{chosen}
-use Rattle.swreq_machine.specs.Machines.{MachineView, machine_plan}
-use Rattle.swreq_machine.specs.swreq_valid.Protocols.{ProtocolsView, protocols_of}
-use Rattle.swreq_machine.specs.swreq_valid.Plans.{bare, listed}
-use Rattle.swreq_machine.specs.swreq_valid.Rounds.{RoundView, last_rules}
-use Rattle.swreq_machine.proofs.swreq_valid.Flagged.{chosen_map}
-use Rattle.swreq_machine.specs.swreq_lowering.Requirements.{PlacedRequirement}
-use Rattle.swreq_machine.proofs.swreq_symbols.OfText.{requirements_placed, signature_is}
-use Rattle.swreq_machine.specs.swreq_world.ByTable.{signature_by, world_by}
-use Rattle.swreq_machine.specs.swreq_world.Short.{IsShort}
-use Rattle.swreq_machine.specs.swreq_world.FactsAt.{facts_of, written_list}
-use Rattle.swreq_machine.specs.swreq_world.Worlds.{IdWorld, SignatureOver, signature_at}
-use Rattle.swreq_explain.specs.declared.numbered.Numbered.{Numbered}
-use Rattle.swreq_explain.proofs.ReadRounds.{AreRoundsRead}
-use Rattle.swreq_explain.specs.Histories.{IsHistoryFor, IsHistoryOf, assumptions_of, list_origin, protocols_origin}
-use Rattle.swreq_explain.specs.Numbering.{IsBasicBy, item_by, sides_of, source_in}
-use Rattle.swreq_explain.specs.Rounds.{AreFirstSystems, AreSystemsOf, IsSystemOf, Origin}
-use Rattle.swreq_explain.specs.Uses.{IsShownBy}
-use Rattle.swreq_explain.proofs.AlphabetLemmas.{are_symbols, fits_assumptions, is_inherited}
-use Rattle.swreq_machine.proofs.swreq_correspondence.Spelling.{spell-append}
-use Rattle.swreq_explain.proofs.NumberingLemmas.{equations_at, equations_sides, left_by, numbered_is, numbered_items, protocol_number, protocols_items, right_by, written_of}
-use Rattle.swreq_explain.proofs.RoundLemmas.{IsReachedRound, chosen_of, ended_complete, last_ends, last_is, none_complete, reached_at, some_round}
+use Rattle.swreq_readings.specs.{declared.alphabet.Alphabet.{Alphabet}, Alphabets.{lexicon}}
+use Rattle.swreq_births.specs.declared.history.{History.{History}, Equation.{Equation}, OwnedRequirement.{OwnedRequirement}}
+use Rattle.swreq_births.specs.declared.history.{OwnedRequirement.TheVariants.{Conf, Layout, Same}, Reason.{Reason, TheVariants.{Doubled}}}
+use Rattle.swreq_births.specs.declared.history.{Reason.TheVariants.{Named as NamedBy, Required}, System.{System}}
+use Rattle.swreq_explain.specs.{declared.numbered.Numbered.{Numbered}, Histories.{IsHistoryFor, IsHistoryOf, assumptions_of, list_origin}}
+use Rattle.swreq_explain.specs.{Histories.{protocols_origin}, Numbering.{IsBasicBy, item_by, sides_of, source_in}, Rounds.{AreFirstSystems}}
+use Rattle.swreq_explain.{specs.{Rounds.{AreSystemsOf, IsSystemOf}, Uses.{IsShownBy, Origin}}, proofs.ReadRounds.{AreRoundsRead}}
+use Rattle.swreq_explain.proofs.{AlphabetLemmas.{are_symbols, fits_assumptions}, NumberingLemmas.{equations_at, equations_sides, left_by}}
+use Rattle.swreq_explain.proofs.NumberingLemmas.{numbered_is, numbered_items, protocol_number, protocols_items, right_by, written_of}
+use Rattle.swreq_explain.proofs.RoundLemmas.{chosen_of, ended_complete, last_ends, last_is, none_complete, reached_at, some_round}
 use Rattle.swreq_explain.proofs.UseLemmas.{shown_before}
+use Rattle.swreq_readings.specs.swreq_word.declared.symbols.Symbol.TheVariants as symbols
+use Rattle.swreq_machine.specs.swreq_rounds.Given.{of_list}
+use Rattle.swreq_births.specs.Systems.{AreSymbols, FitsHistory, HasShownSides, IsGivenBy, IsHistory, IsShown, IsSystem, IsWritten, given_of, requirement_by, rules_at, source_of, system_at, systems_of}
 
 -- ---- systems by their places
 
@@ -78,17 +52,17 @@ module _ (m : Symbols) (terms : List Term) (o : Origin) where
   }
 
   -- each round has its system, with the round's rules
-  pub system_in : (vs : List System) → AreSystemsOf m terms o vs → (k : ℕ) (round : RoundView) → slice_get o.course.rounds k ≡ Some round
+  pub system_in : (vs : List System) → AreSystemsOf m terms o vs → (k : ℕ) (round : RoundView) → slice_get o.rounds k ≡ Some round
       → (v : System) × (slice_get vs k ≡ Some v) × (v.rules ≡ round.rules) × (length v.rules < 2 ^ 32 - 1)
   system_in vs h k round e =
-      let within = slice_get_within o.course.rounds k round e in
+      let within = slice_get_within o.rounds k round e in
       let (v, at) = there_is vs k (subst (λ n. k < n) (sym h.count_is) within) in
       let made = h.each k v at in
       let same : made.round ≡ round = same_Some _ _ (sym made.there ∙ e) in
       (v, at, made.rules ∙ ap (λ (z : RoundView). z.rules) same, made.few)
 
   -- a round has fewer than 2^32 - 1 rules
-  pub few_rules : (vs : List System) → AreSystemsOf m terms o vs → (k : ℕ) (round : RoundView) → slice_get o.course.rounds k ≡ Some round
+  pub few_rules : (vs : List System) → AreSystemsOf m terms o vs → (k : ℕ) (round : RoundView) → slice_get o.rounds k ≡ Some round
       → length round.rules < 2 ^ 32 - 1
   few_rules vs h k round e =
       let (v, at, rules, few) = system_in vs h k round e in subst (λ (z : List Rule). length z < 2 ^ 32 - 1) rules few
@@ -135,82 +109,126 @@ module _ (g : Alphabet) (m : Symbols) (f : TermFacts) (are : AreSymbols g m f) (
       (subst (λ s. ShowsUsable m f s (ReduceAlike rules) (requirement_by q)) source
       (subst (ShowsUsable m f (source_in params list x.owner) (ReduceAlike rules)) (sym stands) h))
 
--- ---- one system
+-- ---- the systems of the rounds of a plan
 
-module _ (terms : List Term) (o : Origin) (plan : Plan) (b : History) (list : List TermRequirement) (base : length plan.base ≡ o.base)
-    (basic : plan.basic ≡ o.basic) (all : plan.all ≡ map (item_by terms (generic_params b.alphabet.params) list) o.course.all)
-    (members : o.members ≡ (lexicon b.alphabet).symbols) (are : AreSymbols b.alphabet plan.symbols plan.facts) where
+-- The systems of the history from the place o.first on are those of the rounds of the plan, whose base is complete.
+record HasRounds (terms : List Term) (b : History) (list : List TermRequirement) (o : Origin) (plan : Plan)
+    (vs : List System) : Type 0 where
+  limits : Limits
+  rounds : AreRounds limits plan o.rounds
+  complete : IsComplete plan.base
+  base : length plan.base ≡ o.base
+  basic : plan.basic ≡ o.basic
+  all : plan.all ≡ map (item_by terms (generic_params b.alphabet.params) list) o.all
+  members : o.members ≡ (lexicon b.alphabet).symbols
+  symbols : AreSymbols b.alphabet plan.symbols plan.facts
+  systems : AreSystemsOf plan.symbols terms o vs
+  there : (k : ℕ) (v : System) → slice_get vs k ≡ Some v → slice_get (systems_of b) (o.first + k) ≡ Some v
+
+module _ {terms : List Term} {b : History} {list : List TermRequirement} {o : Origin} {plan : Plan} {vs : List System}
+    (h : HasRounds terms b list o plan vs) where
+  abbrev item_in : Numbered → Item
+  item_in = item_by terms (generic_params b.alphabet.params) list
+
+  rules_are : (k : ℕ) (round : RoundView) → slice_get o.rounds k ≡ Some round → rules_at b (o.first + k) ≡ round.rules
+  rules_are k round e =
+      let (v, at, rules, few) = system_in plan.symbols terms o vs h.systems k round e in
+      ap (λ (z : System). z.rules) (get_or_from_slice_get (systems_of b) (o.first + k) v
+      (record { base = 0; below = 0; rules = []; given = [] }) (h.there k v at)) ∙ rules
+
+  few_in : (k : ℕ) (round : RoundView) → slice_get o.rounds k ≡ Some round → length round.rules < 2 ^ 32 - 1
+  few_in = few_rules plan.symbols terms o vs h.systems
+
+  -- the rules of the last round are complete
+  last_complete : IsComplete (last_rules o.rounds)
+  last_complete =
+      let (used, ends) = last_ends h.rounds in
+      let (last, at, rules) = last_is o.rounds (some_round h.rounds) in
+      ended_complete h.limits plan used (last_rules o.rounds) h.complete ends
+      (subst (λ (z : List Rule). length z < 2 ^ 32 - 1) rules (few_in (length o.rounds - 1) last at))
+
+  -- the rules of an earlier system show that a requirement is usable
+  shown_earlier : (k : ℕ) (x : Numbered) (s : ℕ) → IsShownBy o.all o.rounds o.first k x s
+      → (s < o.first + k) × AreShownByReduction plan (rules_at b s) (item_in x)
+  shown_earlier k x s by =
+      let e = shown_before plan o item_in h.all h.rounds h.complete few_in by.round by.place x by.there by.first_use in
+      let place : s ≡ o.first + by.round - 1 = by.system_is in
+      let next : by.round ≡ suc e.before = e.next in
+      let within : by.round ≤ k = by.within in
+      let same : s ≡ o.first + e.before = omega (arith, place, next) in
+      let rules : rules_at b s ≡ e.earlier.rules = ap (rules_at b) same ∙ rules_are e.before e.earlier e.there in
+      (omega (arith, same, next, within), subst (λ z. AreShownByReduction plan z (item_in x)) (sym rules) e.shows)
+
   module _ (k : ℕ) (v : System) (is : IsSystemOf plan.symbols terms o k v) where
+    abbrev used : List Numbered
+    used = chosen o.all is.round.used
+
     given_is : given_of v ≡ given plan (chosen plan.all is.round.used)
     given_is =
-        let h = is.given in
-        let xs = chosen o.course.all is.round.used in
-        let item = item_by terms (generic_params b.alphabet.params) list in
-        ap (map sides_of) h.given_are ∙ map-append sides_of h.basic h.more
-        ∙ ap₂ (λ u w. u ++ w) (h.sides ∙ sym basic)
-        (equations_sides plan.symbols terms o.course k (generic_params b.alphabet.params) list xs h.more h.are_of
+        let g = is.given in
+        ap (map sides_of) g.given_are ∙ map-append sides_of g.basic g.more
+        ∙ ap₂ (λ u w. u ++ w) (g.sides ∙ sym h.basic)
+        (equations_sides plan.symbols terms o k (generic_params b.alphabet.params) list used g.more g.are_of
         ∙ ap (map (equation_of plan.symbols))
-        (sym (chosen_map item o.course.all is.round.used) ∙ ap (λ z. chosen z is.round.used) (sym all)))
+        (sym (chosen_map item_in o.all is.round.used) ∙ ap (λ z. chosen z is.round.used) (sym h.all)))
 
-    born_is : IsReachedRound plan is.round
-        → (j : ℕ) (rule : Rule) → v.base ≤ j → slice_get v.rules j ≡ Some rule → IsBorn v.base (given_of v) v.rules j rule.birth
-    born_is reached j rule above at =
-        let from : v.base ≡ length plan.base = is.base ∙ sym base in
+    born_is : (j : ℕ) (rule : Rule) → v.base ≤ j → slice_get v.rules j ≡ Some rule → IsBorn v.base (given_of v) v.rules j rule.birth
+    born_is j rule above at =
+        let from : v.base ≡ length plan.base = is.base ∙ sym h.base in
         let at_round : slice_get is.round.rules j ≡ Some rule = ap (λ (z : List Rule). slice_get z j) (sym is.rules) ∙ at in
-        let h = reached.1.born j rule (subst (λ n. n ≤ j) from above) at_round in
+        let born = (reached_at h.rounds k is.round is.there).1.born j rule (subst (λ n. n ≤ j) from above) at_round in
         subst (λ n. IsBorn n (given_of v) v.rules j rule.birth) (sym from)
         (subst (λ z. IsBorn (length plan.base) z v.rules j rule.birth) (sym given_is)
-        (subst (λ z. IsBorn (length plan.base) (given plan (chosen plan.all is.round.used)) z j rule.birth) (sym is.rules) h))
+        (subst (λ z. IsBorn (length plan.base) (given plan (chosen plan.all is.round.used)) z j rule.birth) (sym is.rules) born))
 
-    -- the rules of an earlier system show that the requirement of each equation is usable
-    module _ (r : ℕ) (shown : (x : Numbered) (s : ℕ) → IsShownBy o.course k x s
-        → (s < r) × AreShownByReduction plan (rules_at b s) (item_by terms (generic_params b.alphabet.params) list x)) where
-      basic_given : (why : Reason) (left right : Word) → IsBasicBy o.members why left right → IsGivenBy b r why left right
-      basic_given (Doubled p) left right h = h
-      basic_given (NamedBy k) left right (n, at, l, w) = (n, ap (λ (z : List ProtocolName). slice_get z k) (sym members) ∙ at, l, w)
-      basic_given (Required owner n q s) left right h = absurd h
+    basic_given : (why : Reason) (left right : Word) → IsBasicBy o.members why left right → IsGivenBy b (o.first + k) why left right
+    basic_given (Doubled p) left right i = i
+    basic_given (NamedBy n) left right (m, at, l, w) = (m, ap (λ (z : List ProtocolName). slice_get z n) (sym h.members) ∙ at, l, w)
+    basic_given (Required owner n q s) left right i = absurd i
 
-      given_by : (j : ℕ) (e : Equation) → slice_get v.given j ≡ Some e → IsGivenBy b r e.reason e.left e.right
-      given_by j e at =
-          let h = is.given in
-          elim (get_either h.basic h.more j e (sym (ap (λ (z : List Equation). slice_get z j) h.given_are) ∙ at)) [
-            | inl i ↦ basic_given e.reason e.left e.right (h.are_basic j e i)
-            | inr i ↦ (let xs = chosen o.course.all is.round.used in
-                let (x, at_x, is_in) = equations_at plan.symbols terms o.course k xs h.more h.are_of i.0 e i.2 in
-                let (s, by, eq) = is_in in
-                let (earlier, usable) = shown x s by in
-                subst (λ why. IsGivenBy b r why e.left e.right) (sym eq.reason.is) (
-                  earlier,
-                  sides_are_shown b.alphabet plan.symbols plan.facts are
-                      (rules_at b s) list x.owner terms x eq.reason.requirement e.left e.right refl
-                      eq.reason.stands eq.left eq.right usable,
-                ))
-          ]
+    given_by : (j : ℕ) (e : Equation) → slice_get v.given j ≡ Some e → IsGivenBy b (o.first + k) e.reason e.left e.right
+    given_by j e at =
+        let g = is.given in
+        elim (get_either g.basic g.more j e (sym (ap (λ (z : List Equation). slice_get z j) g.given_are) ∙ at)) [
+          | inl i ↦ basic_given e.reason e.left e.right (g.are_basic j e i)
+          | inr i ↦ (let (x, at_x, is_in) = equations_at plan.symbols terms o k used g.more g.are_of i.0 e i.2 in
+              let (s, by, eq) = is_in in
+              let (earlier, usable) = shown_earlier k x s by in
+              subst (λ why. IsGivenBy b (o.first + k) why e.left e.right) (sym eq.reason.is) (
+                earlier,
+                sides_are_shown b.alphabet plan.symbols plan.facts h.symbols (rules_at b s) list x.owner terms x
+                    eq.reason.requirement e.left e.right refl eq.reason.stands eq.left eq.right usable,
+              ))
+        ]
 
-    written_by : (assumptions : Assumptions) → ((i : ℕ) (x : Numbered) (q : OwnedRequirement) (s : ℕ) → slice_get o.course.all i ≡ Some x
+    basic_written : (assumptions : Assumptions) (why : Reason) (left right : Word) → IsBasicBy o.members why left right
+        → IsWritten assumptions why
+    basic_written assumptions (Doubled p) left right i = tt
+    basic_written assumptions (NamedBy n) left right i = tt
+    basic_written assumptions (Required owner n q s) left right i = absurd i
+
+    written_by : (assumptions : Assumptions) → ((i : ℕ) (x : Numbered) (q : OwnedRequirement) (s : ℕ) → slice_get o.all i ≡ Some x
         → requirement_by q ≡ requirement_of terms x.requirement → IsWritten assumptions (Required x.owner x.number q s))
         → (j : ℕ) (e : Equation) → slice_get v.given j ≡ Some e → IsWritten assumptions e.reason
     written_by assumptions from j e at =
-        let h = is.given in
-        elim (get_either h.basic h.more j e (sym (ap (λ (z : List Equation). slice_get z j) h.given_are) ∙ at)) [
-          | inl i ↦ basic_written e.reason e.left e.right (h.are_basic j e i)
-          | inr i ↦ (let xs = chosen o.course.all is.round.used in
-              let (x, at_x, is_in) = equations_at plan.symbols terms o.course k xs h.more h.are_of i.0 e i.2 in
+        let g = is.given in
+        elim (get_either g.basic g.more j e (sym (ap (λ (z : List Equation). slice_get z j) g.given_are) ∙ at)) [
+          | inl i ↦ basic_written assumptions e.reason e.left e.right (g.are_basic j e i)
+          | inr i ↦ (let (x, at_x, is_in) = equations_at plan.symbols terms o k used g.more g.are_of i.0 e i.2 in
               let (s, by, eq) = is_in in
-              let (place, there) = chosen_of o.course.all is.round.used i.0 x at_x in
+              let (place, there) = chosen_of o.all is.round.used i.0 x at_x in
               subst (IsWritten assumptions) (sym eq.reason.is) (from place x eq.reason.requirement s there eq.reason.stands))
         ]
-      where
-        basic_written : (why : Reason) (left right : Word) → IsBasicBy o.members why left right → IsWritten assumptions why
-        basic_written (Doubled p) left right h = tt
-        basic_written (NamedBy k) left right h = tt
-        basic_written (Required owner n q s) left right h = absurd h
+
+    is_system : ((j : ℕ) (rule : Rule) → j < v.base → slice_get v.rules j ≡ Some rule
+        → (v.below < o.first + k) × (slice_get (rules_at b v.below) j ≡ Some rule)) → IsSystem b (o.first + k) v
+    is_system lower = record { few = is.few; born = born_is; lower = lower; given = given_by }
 
 -- ---- the history
 
 module _ (terms : List Term) (w : IdWorld) (fn : FuncId) (p : ProtocolsView) (m : MachineView) (b : History)
     (is : IsHistoryOf terms w fn p m b)
-    (rounds : AreRoundsRead terms w fn p m) (text : IsTextOver terms w) (short : IsShort w) where
+    (rounds : AreRoundsRead terms w fn p m) (text : IsTextOver terms w) where
   abbrev f : TermFacts
   f = facts_of (world_by terms w)
 
@@ -249,10 +267,7 @@ module _ (terms : List Term) (w : IdWorld) (fn : FuncId) (p : ProtocolsView) (m 
   abbrev item : Numbered → Item
   item = item_by terms params own_list
 
-  below_all : below_plan.all ≡ map item below_origin.course.all
-  below_all = protocols_items terms w params own_list w.lexicon.written_order
-
-  own_all : own_plan.all ≡ map item own_origin.course.all
+  own_all : own_plan.all ≡ map item own_origin.all
   own_all =
       ap (λ gs. map (of_list gs own_list) own_list) same_params
       ∙ sym (numbered_items terms params own_list None 1 (bare (signature_at w fn).requirements))
@@ -263,124 +278,63 @@ module _ (terms : List Term) (w : IdWorld) (fn : FuncId) (p : ProtocolsView) (m 
   own_length : length b.own ≡ length m.rounds
   own_length = is.of_list.count_is
 
-  -- ---- the rules of a system
+  none_before : (k : ℕ) → k ≡ 0 + k
+  none_before k = omega arith
 
-  system_is : (r : ℕ) (v : System) → slice_get (systems_of b) r ≡ Some v → system_at b r ≡ v
-  system_is r v e = get_or_from_slice_get (systems_of b) r v (record { base = 0; below = 0; rules = []; given = [] }) e
+  -- the systems of the protocols come first
+  below_rounds : HasRounds terms b own_list below_origin below_plan b.below.now
+  below_rounds = record {
+    limits = rounds.protocols.0;
+    rounds = rounds.protocols.1;
+    complete = none_complete;
+    base = refl;
+    basic = refl;
+    all = protocols_items terms w params own_list w.lexicon.written_order;
+    members = members;
+    symbols = history_symbols;
+    systems = is.of_protocols;
+    there = λ k v e. subst (λ n. slice_get (systems_of b) n ≡ Some v) (none_before k) (get_left b.below.now b.own k v e);
+  }
 
-  below_rules : (k : ℕ) (round : RoundView) → slice_get p.rounds k ≡ Some round → rules_at b k ≡ round.rules
-  below_rules k round e =
-      let (v, at, rules, few) = system_in (symbols_of w.lexicon) terms below_origin b.below.now is.of_protocols k round e in
-      let in_history : slice_get (systems_of b) k ≡ Some v = get_left b.below.now b.own k v at in
-      ap (λ (z : System). z.rules) (system_is k v in_history) ∙ rules
+  -- the systems of the list, whose rounds begin with the rules of the protocols, come after them
+  own_rounds : HasRounds terms b own_list own_origin own_plan b.own
+  own_rounds = record {
+    limits = rounds.list.0;
+    rounds = rounds.list.1;
+    complete = last_complete below_rounds;
+    base = refl;
+    basic = refl;
+    all = own_all;
+    members = members;
+    symbols = history_symbols;
+    systems = is.of_list;
+    there = λ k v e. subst (λ n. slice_get (systems_of b) (n + k) ≡ Some v) below_length (get_after b.below.now b.own k ∙ e);
+  }
 
-  own_rules : (k : ℕ) (round : RoundView) → slice_get m.rounds k ≡ Some round → rules_at b (length b.below.now + k) ≡ round.rules
-  own_rules k round e =
-      let (v, at, rules, few) = system_in (symbols_of w.lexicon) terms own_origin b.own is.of_list k round e in
-      let in_history : slice_get (systems_of b) (length b.below.now + k) ≡ Some v
-      = get_after b.below.now b.own k ∙ at in
-      ap (λ (z : System). z.rules) (system_is (length b.below.now + k) v in_history) ∙ rules
-
-  -- ---- complete rules
-
-  below_few : (k : ℕ) (round : RoundView) → slice_get p.rounds k ≡ Some round → length round.rules < 2 ^ 32 - 1
-  below_few = few_rules (symbols_of w.lexicon) terms below_origin b.below.now is.of_protocols
-
-  own_few : (k : ℕ) (round : RoundView) → slice_get m.rounds k ≡ Some round → length round.rules < 2 ^ 32 - 1
-  own_few = few_rules (symbols_of w.lexicon) terms own_origin b.own is.of_list
-
-  -- the rules of the protocols, which the rounds of the list begin with, are complete
-  base_complete : IsComplete own_plan.base
-  base_complete =
-      let (used, ends) = last_ends rounds.protocols.1 in
-      let (last, at, rules) = last_is p.rounds (some_round rounds.protocols.1) in
-      let few = subst (λ (z : List Rule). length z < 2 ^ 32 - 1) rules (below_few (length p.rounds - 1) last at) in
-      ended_complete rounds.protocols.0 below_plan used (last_rules p.rounds) none_complete ends few
-
-  last_complete : IsComplete (last_rules m.rounds)
-  last_complete =
-      let (used, ends) = last_ends rounds.list.1 in
-      let (last, at, rules) = last_is m.rounds (some_round rounds.list.1) in
-      let few = subst (λ (z : List Rule). length z < 2 ^ 32 - 1) rules (own_few (length m.rounds - 1) last at) in
-      ended_complete rounds.list.0 own_plan used (last_rules m.rounds) base_complete ends few
-
-  -- ---- the systems of the protocols
-
-  below_shown : (k : ℕ) (x : Numbered) (s : ℕ) → IsShownBy below_origin.course k x s
-      → (s < k) × AreShownByReduction below_plan (rules_at b s) (item x)
-  below_shown k x s h =
-      let e =
-      shown_before below_plan below_origin.course item below_all rounds.protocols.1 none_complete below_few h.round h.place x h.there
-      h.first_use in
-      let place : s ≡ 0 + h.round - 1 = h.system_is in
-      let next : h.round ≡ suc e.before = e.next in
-      let within : h.round ≤ k = h.within in
-      let same : s ≡ e.before = omega (arith, place, next) in
-      let rules : rules_at b s ≡ e.earlier.rules = ap (rules_at b) same ∙ below_rules e.before e.earlier e.there in
-      (omega (arith, same, next, within), subst (λ z. AreShownByReduction below_plan z (item x)) (sym rules) e.shows)
-
-  below_system : (r : ℕ) (v : System) → slice_get b.below.now r ≡ Some v → IsSystem b r v
-  below_system r v e =
-      let made = is.of_protocols.each r v e in
-      record {
-        few = made.few;
-        born = born_is terms below_origin below_plan b own_list refl refl below_all members history_symbols r v made
-            (reached_at rounds.protocols.1 r made.round made.there);
-        lower = λ k rule l h. absurd (let z : v.base ≡ 0 = made.base in omega (arith, l, z));
-        given = given_by terms below_origin below_plan b own_list refl refl below_all members history_symbols r v made r
-            (below_shown r);
-      }
-
-  -- ---- the systems of the list
-
-  own_shown : (k : ℕ) (x : Numbered) (s : ℕ) → IsShownBy own_origin.course k x s
-      → (s < length b.below.now + k) × AreShownByReduction own_plan (rules_at b s) (item x)
-  own_shown k x s h =
-      let e =
-      shown_before own_plan own_origin.course item own_all rounds.list.1 base_complete own_few h.round h.place x h.there h.first_use in
-      let place : s ≡ length p.rounds + h.round - 1 = h.system_is in
-      let next : h.round ≡ suc e.before = e.next in
-      let within : h.round ≤ k = h.within in
-      let count = below_length in
-      let same : s ≡ length b.below.now + e.before = omega (arith, place, next, count) in
-      let rules : rules_at b s ≡ e.earlier.rules = ap (rules_at b) same ∙ own_rules e.before e.earlier e.there in
-      (omega (arith, same, next, within), subst (λ z. AreShownByReduction own_plan z (item x)) (sym rules) e.shows)
-
-  -- the rules of the base are those of the last round of the protocols
-  own_lower : (r k : ℕ) (v : System) → length b.below.now ≤ r → (made : IsSystemOf (symbols_of w.lexicon) terms own_origin k v)
-      → IsReachedRound own_plan made.round
-      → (j : ℕ) (rule : Rule) → j < v.base → slice_get v.rules j ≡ Some rule
-      → (v.below < r) × (slice_get (rules_at b v.below) j ≡ Some rule)
-  own_lower r k v above made reached j rule l e =
+  -- the rules of the base of the list are those of the last round of the protocols
+  own_lower : (k : ℕ) (v : System) (made : IsSystemOf (symbols_of w.lexicon) terms own_origin k v) (j : ℕ) (rule : Rule) → j < v.base
+      → slice_get v.rules j ≡ Some rule → (v.below < length p.rounds + k) × (slice_get (rules_at b v.below) j ≡ Some rule)
+  own_lower k v made j rule l e =
+      let reached = reached_at rounds.list.1 k made.round made.there in
       let last_count : j < length (last_rules p.rounds) = subst (λ n. j < n) made.base l in
       let some = some_round rounds.protocols.1 in
       let (last, at_last, rules_last) = last_is p.rounds some in
       let e_below : v.below ≡ length p.rounds - 1 = made.below in
-      let count = below_length in
       let at_round : slice_get made.round.rules j ≡ Some rule = ap (λ (z : List Rule). slice_get z j) (sym made.rules) ∙ e in
       let in_base : slice_get (last_rules p.rounds) j ≡ Some rule
       = ap (λ (z : List Rule). slice_get z j) (sym reached.0)
       ∙ in_front made.round.rules (length (last_rules p.rounds)) j rule last_count at_round in
       let below_is : rules_at b v.below ≡ last_rules p.rounds
-      = ap (rules_at b) made.below ∙ below_rules (length p.rounds - 1) last at_last ∙ rules_last in
-      (omega (arith, e_below, count, some, above), ap (λ (z : List Rule). slice_get z j) below_is ∙ in_base)
-
-  own_system : (j : ℕ) (v : System) → slice_get b.own j ≡ Some v → IsSystem b (length b.below.now + j) v
-  own_system j v e =
-      let made = is.of_list.each j v e in
-      let reached = reached_at rounds.list.1 j made.round made.there in
-      record {
-        few = made.few;
-        born = born_is terms own_origin own_plan b own_list refl refl own_all members history_symbols j v made reached;
-        lower = own_lower (length b.below.now + j) j v (omega arith) made reached;
-        given = given_by terms own_origin own_plan b own_list refl refl own_all members history_symbols j v made
-            (length b.below.now + j) (own_shown j);
-      }
+      = ap (rules_at b) (made.below ∙ none_before (length p.rounds - 1)) ∙ rules_are below_rounds (length p.rounds - 1) last at_last
+      ∙ rules_last in
+      (omega (arith, e_below, some), ap (λ (z : List Rule). slice_get z j) below_is ∙ in_base)
 
   each_system : (r : ℕ) (v : System) → slice_get (systems_of b) r ≡ Some v → IsSystem b r v
   each_system r v e = elim (get_either b.below.now b.own r v e) [
-    | inl h ↦ below_system r v h
-    | inr h ↦ subst (λ n. IsSystem b n v) (sym h.1) (own_system h.0 v h.2)
+    | inl i ↦ (let made = is.of_protocols.each r v i in subst (λ n. IsSystem b n v) (sym (none_before r))
+        (is_system below_rounds r v made (λ j rule l at. absurd (let z : v.base ≡ 0 = made.base in omega (arith, l, z)))))
+    | inr i ↦ subst (λ n. IsSystem b n v) (ap (λ n. n + i.0) (sym below_length) ∙ sym i.1)
+        (is_system own_rounds i.0 v (is.of_list.each i.0 v i.2) (own_lower i.0 v (is.of_list.each i.0 v i.2)))
   ]
 
   system_there : (r : ℕ) → r < length (systems_of b) → slice_get (systems_of b) r ≡ Some (system_at b r)
@@ -388,8 +342,6 @@ module _ (terms : List Term) (w : IdWorld) (fn : FuncId) (p : ProtocolsView) (m 
 
   pub is_history : IsHistory b
   is_history = record {
-    inherited = is_inherited terms b.alphabet is.alphabet.self_id own_text
-        (subst (λ (z : IdWorld). IsShort z) (sym is.alphabet.world) short);
     few = is.few;
     systems = λ r l. each_system r (system_at b r) (system_there r l);
   }
@@ -398,7 +350,7 @@ module _ (terms : List Term) (w : IdWorld) (fn : FuncId) (p : ProtocolsView) (m 
 
   module _ (assumptions : Assumptions) (facts : assumptions.facts ≡ f) (params_are : assumptions.params ≡ generic_params m.params)
       (written : assumptions.written ≡ own_list) where
-    below_written : (j : ℕ) (x : Numbered) (q : OwnedRequirement) (s : ℕ) → slice_get below_origin.course.all j ≡ Some x
+    below_written : (j : ℕ) (x : Numbered) (q : OwnedRequirement) (s : ℕ) → slice_get below_origin.all j ≡ Some x
         → requirement_by q ≡ requirement_of terms x.requirement → IsWritten assumptions (Required x.owner x.number q s)
     below_written j x q s e stands =
         let (o, own, number) = protocol_number terms w w.lexicon.written_order j x e in
@@ -407,7 +359,7 @@ module _ (terms : List Term) (w : IdWorld) (fn : FuncId) (p : ProtocolsView) (m 
         (subst (λ (z : TermFacts). HasNumber x.number (z.of_protocol o) (requirement_by q)) (sym facts)
         (subst (HasNumber x.number (f.of_protocol o)) (sym stands) n))
 
-    own_written : (j : ℕ) (x : Numbered) (q : OwnedRequirement) (s : ℕ) → slice_get own_origin.course.all j ≡ Some x
+    own_written : (j : ℕ) (x : Numbered) (q : OwnedRequirement) (s : ℕ) → slice_get own_origin.all j ≡ Some x
         → requirement_by q ≡ requirement_of terms x.requirement → IsWritten assumptions (Required x.owner x.number q s)
     own_written j x q s e stands =
         let list = bare (signature_at w fn).requirements in
@@ -421,10 +373,8 @@ module _ (terms : List Term) (w : IdWorld) (fn : FuncId) (p : ProtocolsView) (m 
     each_written : (r k : ℕ) (v : System) (e : Equation) → slice_get (systems_of b) r ≡ Some v → slice_get v.given k ≡ Some e
         → IsWritten assumptions e.reason
     each_written r k v e at in_v = elim (get_either b.below.now b.own r v at) [
-      | inl h ↦ written_by terms below_origin below_plan b own_list refl refl below_all members history_symbols r v
-          (is.of_protocols.each r v h) assumptions below_written k e in_v
-      | inr h ↦ written_by terms own_origin own_plan b own_list refl refl own_all members history_symbols h.0 v
-          (is.of_list.each h.0 v h.2) assumptions own_written k e in_v
+      | inl i ↦ written_by below_rounds r v (is.of_protocols.each r v i) assumptions below_written k e in_v
+      | inr i ↦ written_by own_rounds i.0 v (is.of_list.each i.0 v i.2) assumptions own_written k e in_v
     ]
 
     pub fits_history : FitsHistory b assumptions
@@ -451,8 +401,9 @@ module _ (terms : List Term) (w : IdWorld) (fn : FuncId) (p : ProtocolsView) (m 
       let (last, at, rules) = last_is m.rounds some in
       let count = length-append b.below.now b.own in
       let own = own_length in
-      let place : length (systems_of b) - 1 ≡ length b.below.now + (length m.rounds - 1) = omega (arith, some, count, own) in
-      ap (rules_at b) place ∙ own_rules (length m.rounds - 1) last at ∙ rules
+      let below = below_length in
+      let place : length (systems_of b) - 1 ≡ length p.rounds + (length m.rounds - 1) = omega (arith, some, count, own, below) in
+      ap (rules_at b) place ∙ rules_are own_rounds (length m.rounds - 1) last at ∙ rules
 
   pub history_for : IsHistoryFor (world_by terms w) fn b
   history_for = record {
@@ -470,6 +421,6 @@ module _ (terms : List Term) (w : IdWorld) (fn : FuncId) (p : ProtocolsView) (m 
         (subst (λ rs. AreListRules (symbols_of w.lexicon) f (generic_params m.params) rs (rules_at b (length (systems_of b) - 1)))
         (sym list_now)
         (subst (AreListRules (symbols_of w.lexicon) f (generic_params m.params) own_list) (sym last_rules_are) rounds.machine.rules));
-    complete = subst IsComplete (sym last_rules_are) last_complete;
+    complete = subst IsComplete (sym last_rules_are) (last_complete own_rounds);
     in_text = subst (IsInText (symbols_of w.lexicon)) (λ i. WrittenList (sym params_now i) (sym list_now i)) rounds.machine.in_text;
   }

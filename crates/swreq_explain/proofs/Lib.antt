@@ -2,6 +2,7 @@ pub mod AlphabetLemmas
 pub mod AskedLemmas
 pub mod Fronts
 pub mod HistoryLemmas
+pub mod Makings
 pub mod NumberingLemmas
 pub mod RoundLemmas
 pub mod SideLemmas

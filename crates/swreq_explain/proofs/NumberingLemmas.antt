@@ -1,36 +1,27 @@
 -- Written requirements with their numbers, and their equations.
-use Rattle.std.proofs.Common.{◌≡◌, ◌∙◌, inl, inr, ℕ, zero, suc, ◌+◌, ◌-◌, ◌^◌, ◌<◌, ◌≤◌, All, Bool, List, [], ◌∷◌, ◌++◌, Option, Some, None, ap, ap₂, append_assoc, arith, drop, get_or, length, map, refl, slice_get, subst, sym, take, take_all, true, false}
-use Rattle.std.proofs.lemmas.Bool.{cases_lt}
-use Rattle.std.proofs.lemmas.List.{append-nil, drop_all, drop_more, get_or_past, length-map, map-append}
-use Rattle.std.proofs.lemmas.List.Elements.{All-get_or}
+use Rattle.std.proofs.Common.{◌≡◌, ◌∙◌, inl, inr, ℕ, zero, suc, ◌+◌, ◌-◌, ◌^◌, ◌<◌, ◌≤◌, All, Bool, List, [], ◌∷◌, ◌++◌, Option, Some, None}
+use Rattle.std.proofs.Common.{ap, ap₂, append_assoc, arith, drop, get_or, length, map, refl, slice_get, subst, sym, take, take_all, true}
+use Rattle.std.proofs.{Common.{false}, lemmas.{Bool.{cases_lt}, List.{append-nil, drop_all, drop_more, get_or_past, length-map}}}
+use Rattle.std.proofs.lemmas.List.{map-append, Elements.{All-get_or}}
 use Rattle.swreq_machine.proofs.swreq_lemmas.Elements.{contains_get, get_cases, get_contains, get_either, get_map, get_of_map}
-use Rattle.swreq_machine.specs.swreq_param.declared.ids.ParamId.{ParamId}
-use Rattle.swreq_machine.specs.swreq_param.declared.ids.ProtoId.{ProtoId}
-use Rattle.swreq_machine.specs.swreq_param.Terms.{Term}
-use Rattle.swreq_machine.specs.swreq_derive.declared.requirements.Requirement.{Requirement}
-use Rattle.swreq_machine.specs.swreq_derive.Derivation.{TermFacts, TermRequirement}
-use Rattle.swreq_machine.specs.swreq_derive.Derivation.TermRequirement.{Conforms, Equals, IsAnyObject}
-use Rattle.swreq_machine.specs.swreq_derive.Facts.{requirement_of}
-use Rattle.swreq_machine.specs.swreq_derive.Instances.{HasNumber}
-use Rattle.swreq_machine.specs.swreq_correspondence.Symbols.{Symbols, left_side, right_side}
-use Rattle.swreq_machine.specs.swreq_lowering.declared.ids.FuncId.{FuncId}
-use Rattle.swreq_machine.specs.swreq_lowering.declared.ids.Written.{Written}
-use Rattle.swreq_machine.specs.swreq_lowering.ByTable.{placed}
-use Rattle.swreq_machine.specs.swreq_rounds.Given.{items_of, of_self}
-use Rattle.swreq_machine.specs.swreq_rounds.Plan.{equation_of}
-use Rattle.swreq_machine.specs.swreq_symbols.Overs.{source_by}
-use Rattle.swreq_machine.specs.swreq_symbols.Known.{IsRequirementIn, IsTextOver}
 use Rattle.swreq_machine.proofs.swreq_symbols.OfText.{own_requirements, protocol_written, signature_written}
-use Rattle.swreq_machine.specs.swreq_lexicon.declared.pair.ProtocolName.{ProtocolName}
+use Rattle.swreq_machine.specs.swreq_param.{declared.ids.{ParamId.{ParamId}, ProtoId.{ProtoId}}, Terms.{Term}}
+use Rattle.swreq_machine.specs.swreq_derive.{declared.requirements.Requirement.{Requirement, TheVariants.{Conf}}, Derivation.{TermFacts}}
+use Rattle.swreq_machine.specs.swreq_derive.Derivation.{TermRequirement, TermRequirement.{Conforms, Equals, IsAnyObject}}
+use Rattle.swreq_machine.specs.{swreq_derive.{Facts.{requirement_of}, Instances.{HasNumber}}, swreq_correspondence.Symbols.{Symbols}}
+use Rattle.swreq_machine.specs.{swreq_correspondence.Symbols.{left_side, right_side}, swreq_lowering.declared.ids.FuncId.{FuncId}}
+use Rattle.swreq_machine.specs.{swreq_lowering.{declared.ids.Written.{Written}, ByTable.{placed}}, swreq_rounds.Plan.{equation_of}}
+use Rattle.swreq_machine.specs.swreq_symbols.{Overs.{source_by}, Known.{IsRequirementIn, IsTextOver}}
+use Rattle.swreq_machine.specs.{swreq_lexicon.declared.pair.ProtocolName.{ProtocolName}, swreq_valid.{Flags.{chosen}, Plans.{bare, listed}}}
+use Rattle.swreq_machine.specs.swreq_world.{ByTable.{world_by}, FactsAt.{facts_of}, Worlds.{IdWorld, requirements_of, signature_at}}
 use Rattle.swreq_births.specs.declared.history.Equation.{Equation}
-use Rattle.swreq_machine.specs.swreq_valid.Flags.{chosen}
-use Rattle.swreq_machine.specs.swreq_valid.Plans.{bare, listed}
-use Rattle.swreq_machine.specs.swreq_world.ByTable.{world_by}
-use Rattle.swreq_machine.specs.swreq_world.FactsAt.{facts_of}
-use Rattle.swreq_machine.specs.swreq_world.Worlds.{IdWorld, requirements_of, signature_at}
-use Rattle.swreq_explain.specs.declared.numbered.Numbered.{Numbered}
-use Rattle.swreq_explain.specs.Numbering.{AreBasic, AreEquationsOf, AreNumberedIn, IsBasicBy, IsEquationIn, item_by, numbered_from, numbered_in, sides_of, source_in}
-use Rattle.swreq_explain.specs.Uses.{Course}
+use Rattle.swreq_explain.specs.{declared.numbered.Numbered.{Numbered}, Numbering.{AreBasic, AreEquationsOf, AreNumberedIn, IsBasicBy}}
+use Rattle.swreq_explain.specs.{Numbering.{IsEquationIn, item_by, numbered_from, numbered_in, sides_of, source_in}, Uses.{Origin}}
+use Rattle.swreq_machine.specs.swreq_rounds.Given.{items_of, of_self}
+
+-- a requirement where a list has none
+abbrev pub no_requirement : Numbered
+no_requirement = record { owner = None; number = 0; requirement = Conf (record { place = 0 }) (record { rank = 0 }) }
 
 -- ---- words
 
@@ -51,24 +42,24 @@ right_by m params list (Some p) r = refl
 
 -- ---- equations
 
-module _ (m : Symbols) (terms : List Term) (c : Course) (n : ℕ) where
-  pub equations_at : (xs : List Numbered) (es : List Equation) → AreEquationsOf m terms c n xs es → (k : ℕ) (e : Equation)
-      → slice_get es k ≡ Some e → (x : Numbered) × (slice_get xs k ≡ Some x) × IsEquationIn m terms c n x e
+module _ (m : Symbols) (terms : List Term) (o : Origin) (n : ℕ) where
+  pub equations_at : (xs : List Numbered) (es : List Equation) → AreEquationsOf m terms o n xs es → (k : ℕ) (e : Equation)
+      → slice_get es k ≡ Some e → (x : Numbered) × (slice_get xs k ≡ Some x) × IsEquationIn m terms o n x e
   equations_at [] [] h k e is = cc
   equations_at [] (f ∷ es) h k e is = absurd h
   equations_at (x ∷ xs) [] h k e is = absurd h
-  equations_at (x ∷ xs) (f ∷ es) h zero e is = (x, refl, (let same : f ≡ e = cc in subst (IsEquationIn m terms c n x) same h.0))
+  equations_at (x ∷ xs) (f ∷ es) h zero e is = (x, refl, (let same : f ≡ e = cc in subst (IsEquationIn m terms o n x) same h.0))
   equations_at (x ∷ xs) (f ∷ es) h (suc k) e is = equations_at xs es h.1 k e is
 
-  pub equations_more : (xs : List Numbered) (es : List Equation) (x : Numbered) (e : Equation) → AreEquationsOf m terms c n xs es
-      → IsEquationIn m terms c n x e → AreEquationsOf m terms c n (xs ++ x ∷ []) (es ++ e ∷ [])
+  pub equations_more : (xs : List Numbered) (es : List Equation) (x : Numbered) (e : Equation) → AreEquationsOf m terms o n xs es
+      → IsEquationIn m terms o n x e → AreEquationsOf m terms o n (xs ++ x ∷ []) (es ++ e ∷ [])
   equations_more [] [] x e h i = (i, tt)
   equations_more [] (f ∷ es) x e h i = absurd h
   equations_more (y ∷ xs) [] x e h i = absurd h
   equations_more (y ∷ xs) (f ∷ es) x e h i = (h.0, equations_more xs es x e h.1 i)
 
   module _ (params : List ParamId) (list : List TermRequirement) where
-    pub equations_sides : (xs : List Numbered) (es : List Equation) → AreEquationsOf m terms c n xs es
+    pub equations_sides : (xs : List Numbered) (es : List Equation) → AreEquationsOf m terms o n xs es
         → map sides_of es ≡ map (equation_of m) (map (item_by terms params list) xs)
     equations_sides [] [] h = refl
     equations_sides [] (f ∷ es) h = absurd h

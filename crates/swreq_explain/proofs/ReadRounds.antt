@@ -1,14 +1,9 @@
 -- Rounds for a signature, over its list as it is read from a world over ids.
 use Rattle.std.proofs.Common.{◌≡◌, ◌<◌, List, length, refl}
-use Rattle.swreq_machine.specs.swreq_param.Terms.{Term}
-use Rattle.swreq_machine.specs.swreq_complete.declared.limit.Limits.{Limits}
-use Rattle.swreq_machine.specs.swreq_lowering.declared.ids.FuncId.{FuncId}
-use Rattle.swreq_machine.specs.swreq_world.ByTable.{world_by}
-use Rattle.swreq_machine.specs.swreq_world.Worlds.{IdWorld, signature_at}
-use Rattle.swreq_machine.specs.Machines.{IsMachineOf, MachineView, list_of, machine_plan}
-use Rattle.swreq_machine.specs.swreq_valid.Protocols.{ProtocolsView, protocols_of}
-use Rattle.swreq_machine.specs.swreq_valid.Plans.{bare, listed}
-use Rattle.swreq_machine.specs.swreq_valid.Rounds.{AreRounds, last_rules}
+use Rattle.swreq_machine.specs.{swreq_param.Terms.{Term}, swreq_complete.declared.limit.Limits.{Limits}}
+use Rattle.swreq_machine.specs.{swreq_lowering.declared.ids.FuncId.{FuncId}, swreq_world.{ByTable.{world_by}, Worlds.{IdWorld}}}
+use Rattle.swreq_machine.specs.{swreq_world.Worlds.{signature_at}, Machines.{IsMachineOf, MachineView, list_of, machine_plan}}
+use Rattle.swreq_machine.specs.swreq_valid.{Protocols.{ProtocolsView, protocols_of}, Plans.{bare, listed}, Rounds.{AreRounds, last_rules}}
 use Rattle.swreq_machine.proofs.OfSignatures.{as_read}
 use Rattle.swreq_explain.specs.Asked.{AreRoundsFor}
 

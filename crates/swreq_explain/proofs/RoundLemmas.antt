@@ -1,20 +1,15 @@
 -- The rounds of a plan, by their places.
-use Rattle.std.proofs.Common.{◌≡◌, ◌∙◌, ◌⊎◌, inl, inr, ℕ, zero, suc, ◌-◌, ◌<◌, ◌^◌, Bool, true, false, List, [], ◌∷◌, Option, Some, ap, arith, length, refl, replicate, slice_get, subst, sym}
-use Rattle.std.proofs.lemmas.List.{length-replicate}
+use Rattle.std.proofs.Common.{◌≡◌, ◌∙◌, ◌⊎◌, inl, inr, ℕ, zero, suc, ◌-◌, ◌<◌, ◌^◌, Bool, true, false, List, [], ◌∷◌, Option, Some, ap}
+use Rattle.std.proofs.{Common.{arith, length, refl, replicate, slice_get, subst, sym}, lemmas.List.{length-replicate}}
 use Rattle.std.proofs.lemmas.Option.{slice_get_within}
-use Rattle.swreq_machine.proofs.swreq_lemmas.Elements.{contains_get, get_contains, there_is}
-use Rattle.swreq_machine.specs.swreq_rule.declared.rules.Rule.{Rule}
-use Rattle.swreq_machine.specs.swreq_complete.Complete.{IsComplete}
-use Rattle.swreq_machine.specs.swreq_complete.Reached.{BeginsWith, IsReached}
-use Rattle.swreq_machine.specs.swreq_complete.declared.limit.Limits.{Limits}
-use Rattle.swreq_machine.proofs.swreq_complete.Ended.{pairs_meet}
-use Rattle.swreq_machine.proofs.swreq_complete.Outcome.{fresh_of_reached}
-use Rattle.swreq_machine.specs.swreq_rounds.Plan.{AreShown, AreShownByReduction, Item, Plan, given}
-use Rattle.swreq_machine.specs.swreq_rounds.Rounds.{Ends, Passed}
-use Rattle.swreq_machine.specs.swreq_valid.Flags.{Tells, TellsMore, chosen}
-use Rattle.swreq_machine.specs.swreq_valid.Rounds.{AreRounds, AreRoundsFrom, RoundView, ended_round, last_rules, short_round, stopped_round}
-use Rattle.swreq_machine.specs.swreq_valid.Rounds.AreRoundsFrom.{before_others, begun_anew, once_more, the_last}
-use Rattle.swreq_machine.proofs.swreq_valid.Flagged.{chosen_in, tells_length}
+use Rattle.swreq_machine.proofs.{swreq_lemmas.Elements.{contains_get, get_contains, there_is}, swreq_complete.Ended.{pairs_meet}}
+use Rattle.swreq_machine.proofs.{swreq_complete.Outcome.{fresh_of_reached}, swreq_valid.Flagged.{chosen_in, tells_length}}
+use Rattle.swreq_machine.specs.{swreq_rule.declared.rules.Rule.{Rule}, swreq_complete.{Complete.{IsComplete}, Reached.{BeginsWith}}}
+use Rattle.swreq_machine.specs.{swreq_complete.{Reached.{IsReached}, declared.limit.Limits.{Limits}}, swreq_rounds.Plan.{AreShown}}
+use Rattle.swreq_machine.specs.swreq_rounds.{Plan.{AreShownByReduction, Item, Plan, given}, Rounds.{Ends, Passed}}
+use Rattle.swreq_machine.specs.swreq_valid.{Flags.{Tells, TellsMore, chosen}, Rounds.{AreRounds, AreRoundsFrom, RoundView, ended_round}}
+use Rattle.swreq_machine.specs.swreq_valid.Rounds.{last_rules, short_round, stopped_round, AreRoundsFrom.{before_others, begun_anew}}
+use Rattle.swreq_machine.specs.swreq_valid.Rounds.AreRoundsFrom.{once_more, the_last}
 use Rattle.swreq_explain.specs.Uses.{HaveFlags}
 
 -- ---- flags

@@ -1,37 +1,26 @@
 -- Type parameters that are read in a derivation.
-use Rattle.std.proofs.Common.{◌≡◌, ◌∙◌, ◌-◌, List, [], ◌∷◌, ◌++◌, Option, None, Contains, ap, arith, length, length-append, subst, sym, take}
-use Rattle.std.proofs.Math.Seq.{take-append_seam}
-use Rattle.swreq_machine.specs.swreq_param.declared.ids.ParamId.{ParamId}
-use Rattle.swreq_machine.specs.swreq_param.declared.ids.ProtoId.{ProtoId}
-use Rattle.swreq_machine.specs.swreq_param.declared.ids.Step.{Step}
-use Rattle.swreq_machine.specs.swreq_param.Terms.Term.{Generic, Member}
-use Rattle.swreq_machine.specs.swreq_rule.declared.rules.Rule.{Rule}
-use Rattle.swreq_machine.specs.swreq_complete.Alike.{ReduceAlike}
-use Rattle.swreq_machine.specs.swreq_derive.Derivation.{Source}
-use Rattle.swreq_machine.specs.swreq_derive.Facts.{generic_params}
-use Rattle.swreq_machine.specs.swreq_correspondence.Shown.{ShowsValid}
-use Rattle.swreq_machine.specs.swreq_correspondence.Symbols.{symbol, word_of}
-use Rattle.swreq_readings.specs.declared.alphabet.Alphabet.{Alphabet}
-use Rattle.swreq_births.specs.Systems.{IsShown, source_of}
-use Rattle.swreq_births.specs.Types.{IsStepShown}
-use Rattle.swreq_births.proofs.ShownSteps as steps
-use Rattle.swreq_births.proofs.ShownSteps.{valid_front}
-use Rattle.swreq_machine.proofs.swreq_correspondence.Spelling.{spell-append}
-use Rattle.swreq_machine.specs.swreq_param.Tables.{IsOf, term_at}
-use Rattle.swreq_machine.specs.swreq_param.Terms.{Term}
-use Rattle.swreq_readings.specs.swreq_word.declared.symbols.Symbol.{Symbol}
-use Rattle.swreq_derivation.specs.declared.derivation.Derivation.{Derivation}
-use Rattle.swreq_derivation.specs.UnderWay.{AddsLines, AreEqualIds, AreStatedEqual}
-use Rattle.swreq_derivation.proofs.DerivationLemmas.{grows_then}
-use Rattle.swreq_readings.specs.Readable.{AllowsSymbol, AllowsWord}
+use Rattle.std.proofs.Common.{◌≡◌, ◌∙◌, ◌-◌, List, [], ◌∷◌, ◌++◌, Option, None, Contains, ap, arith, length, length-append, subst, sym}
+use Rattle.std.proofs.{Common.{take}, Math.Seq.{take-append_seam}}
+use Rattle.swreq_machine.specs.swreq_param.declared.ids.{ParamId.{ParamId}, ProtoId.{ProtoId}, AssocId.{AssocId}, Step.{Step}}
+use Rattle.swreq_machine.specs.swreq_param.declared.ids.{Step.TheVariants.{Bound as BoundStep, Name as NameStep}, TermId.{TermId}}
+use Rattle.swreq_machine.specs.swreq_param.{Terms.{Term, Term.{Generic, Member}}, Owned.{as_term}, Tables.{IsOf, term_at}}
+use Rattle.swreq_machine.specs.{swreq_rule.declared.rules.Rule.{Rule}, swreq_complete.Alike.{ReduceAlike}}
+use Rattle.swreq_machine.specs.swreq_derive.{Derivation.{Declares, Source, TermRequirement.{Conforms, IsAnyObject}}, Facts.{requirement_of}}
+use Rattle.swreq_machine.specs.{swreq_lexicon.declared.pair.ProtocolName.{ProtocolName}, swreq_correspondence.Shown.{ShowsValid}}
+use Rattle.swreq_machine.{specs.swreq_correspondence.Symbols.{symbol, word_of}, proofs.swreq_correspondence.Spelling.{spell-append}}
+use Rattle.swreq_readings.specs.{declared.alphabet.Alphabet.{Alphabet}, swreq_word.declared.symbols.Symbol.{Symbol}}
 use Rattle.swreq_readings.proofs.ReadingLemmas.{equal_as, equal_still, is_still, term_still, word_right, word_still}
-use Rattle.swreq_explain.specs.declared.validity.RoundReader.{RoundReader}
-use Rattle.swreq_explain.specs.declared.validity.ReadAs.{ReadAs}
-use Rattle.swreq_explain.specs.declared.validity.WordOfType.{WordOfType}
-use Rattle.swreq_explain.specs.Stating.{IsReadAt, IsReady, alphabet_at}
+use Rattle.swreq_births.{specs.{Systems.{FitsHistory, IsShown, source_of}, Types.{IsStepShown}}, proofs.ShownSteps.{valid_front}}
+use Rattle.swreq_derivation.specs.declared.{statements.Bound.{Bound, TheVariants.{AnyObject, Protocol}}, derivation.Derivation.{Derivation}}
+use Rattle.swreq_derivation.specs.UnderWay.{AddsLines, AreEqualIds, AreStatedEqual, Assumptions, IsStepTo, StatesBound, bound_on}
+use Rattle.swreq_derivation.proofs.DerivationLemmas.{grows_then}
+use Rattle.swreq_explain.specs.{declared.validity.{RoundReader.{RoundReader}, ReadAs.{ReadAs}, WordOfType.{WordOfType}}, Stating.{IsReadAt}}
+use Rattle.swreq_explain.specs.Stating.{IsReady, IsWordOf, alphabet_at, bounded, rules_of, symbol_of}
+use Rattle.swreq_births.proofs.ShownSteps as steps
+use Rattle.swreq_readings.specs.Readable.{AllowsSymbol, AllowsWord, IsGiven, IsOfStep}
 
 pub ready_still : (d : RoundReader) (s u : Derivation) → AddsLines s u → IsReady d s → IsReady d u
-ready_still d s u g h = record { system = h.system; t = is_still s u g d.t h.t }
+ready_still d s u g h = record { system = h.system; for_self = is_still s u g d.t h.for_self; owner = tt }
 
 module _ (d : RoundReader) (x : WordOfType) (t : Term) where
   pub read_still : (s u : Derivation) → AddsLines s u → (r : ReadAs) → IsReadAt d x t s r → IsReadAt d x t u r
@@ -56,6 +45,18 @@ module _ (d : RoundReader) (x : WordOfType) (t : Term) where
   vanished s r y longer h e w =
       let split = subst (AllowsWord (alphabet_at d) s t) e w in
       subst (λ z. AllowsSymbol (alphabet_at d) s z y) (sym h.word) (word_right (alphabet_at d) s t x.word.now (y ∷ []) split).0
+
+-- the requirement of an id is the requirement of its type parameter
+pub bound_is : (b : Bound) (terms : List Term) (t : TermId) (u : Term) → term_at terms t ≡ u
+    → requirement_of terms (bound_on b t) ≡ bounded b u
+bound_is (Protocol p) terms t u e = ap (λ z. Conforms z p) e
+bound_is AnyObject terms t u e = ap IsAnyObject e
+
+-- if lines allow the symbol of a bound, a line states the bound
+pub allowed_bound : (b : Bound) (g : Alphabet) (s : Derivation) (t : TermId) → AllowsSymbol g s (term_at s.table t) (symbol_of b)
+    → StatesBound s s t b
+allowed_bound (Protocol p) g s t h = h
+allowed_bound AnyObject g s t h = h
 
 -- If lines allow the word of a side with one symbol more, the side is still read, and they allow the symbol after what its word is read as.
 pub record IsLinked (d : RoundReader) (x : WordOfType) (t : Term) (s : Derivation) (r : ReadAs) (y : Symbol) : Type 0 where
@@ -107,6 +108,18 @@ module _ (g : Alphabet) (owner : Option ProtoId) (rules : List Rule) (t b : Term
   step_shown = subst (λ z. IsStepShown g rules z x) (sym front_is) (steps.step_shown g h.symbols h.facts s rules h.are b x member_shown)
 
 -- a generic parameter that the rules show valid is one of the list
-pub shown_generic : (g : Alphabet) (rules : List Rule) (t : Term) (p : ParamId) (w : List Symbol) → t ≡ Generic p → IsShown g None rules t w
-    → Contains (generic_params g.params) p
-shown_generic g rules t p w is h = subst (ShowsValid h.symbols h.facts (source_of g h.list None) (ReduceAlike rules)) is h.shown
+pub shown_generic : (d : RoundReader) (x : WordOfType) (p : ParamId) (t : Term) → as_term x.param.now ≡ Generic p → IsWordOf d x
+    → t ≡ Generic p
+    → (b : Assumptions) → FitsHistory d.history.now b → (g : ParamId) × (t ≡ Generic g) × Contains b.params g
+shown_generic d x p t is h stands b f =
+    let has = subst (ShowsValid h.symbols h.facts (source_of (alphabet_at d) h.list None) (ReduceAlike (rules_of d))) is h.shown in
+    (p, stands, subst (λ (z : List ParamId). Contains z p) (sym f.alphabet.params) has)
+
+-- the protocol of a step that is given declares the associated type that the step names
+pub given_by : (d : RoundReader) (s : Derivation) (t : Term) (x : Step) (n : ProtocolName) → IsGiven (alphabet_at d) s t x n
+    → (b : Assumptions) → FitsHistory d.history.now b → (e : AssocId) × Declares b.facts n.proto n.name e × IsStepTo x n.name e
+given_by d s t x n (k, h) b f = (record { rank = k }, f.alphabet.associated k n h.0, by x h.1)
+  where
+    by : (y : Step) → IsOfStep y k n → IsStepTo y n.name (record { rank = k })
+    by (NameStep a) e = sym e
+    by (BoundStep e) same = λ i. record { rank = same i }

@@ -1,50 +1,27 @@
 -- What lines are derived from, over a table that has grown.
-use Rattle.std.proofs.Common.{◌≡◌, ◌∙◌, ℕ, ◌<◌, List, [], ◌∷◌, Contains, Some, ap, length, map, refl, slice_get, subst, sym}
-use Rattle.swreq_machine.proofs.swreq_lemmas.Elements.{contains_get, get_contains}
-use Rattle.swreq_machine.proofs.swreq_lemmas.Members.{contains_of_map, first_member, later_member}
-use Rattle.swreq_machine.specs.swreq_param.declared.ids.ProtoId.{ProtoId}
-use Rattle.swreq_machine.specs.swreq_param.Tables.{Extends}
-use Rattle.swreq_machine.specs.swreq_param.Terms.{Term}
-use Rattle.swreq_machine.specs.swreq_derive.declared.lines.Line.{Line}
-use Rattle.swreq_machine.specs.swreq_derive.declared.requirements.Requirement.{Requirement}
-use Rattle.swreq_machine.specs.swreq_derive.declared.requirements.Requirement.TheVariants.{Conf, Layout, Same}
-use Rattle.swreq_machine.specs.swreq_derive.Derivation.{TermFacts, TermRequirement}
-use Rattle.swreq_machine.specs.swreq_param.declared.ids.ParamId.{ParamId}
-use Rattle.swreq_machine.specs.swreq_derive.Derivation.TermRequirement.{Conforms}
-use Rattle.swreq_machine.specs.swreq_derive.Facts.{IdFacts, IsRequirementOver, generic_params, requirement_of}
-use Rattle.swreq_machine.specs.swreq_derive.Instances.{IsDerivation}
-use Rattle.swreq_machine.specs.swreq_derive.Lines.{AreDerived, AreLinesOf, line_of}
-use Rattle.swreq_machine.specs.swreq_lowering.declared.ids.FuncId.{FuncId}
-use Rattle.swreq_machine.specs.swreq_lowering.Requirements.{PlacedRequirement}
+use Rattle.std.proofs.Common.{◌≡◌, ◌∙◌, ℕ, ◌<◌, List, [], ◌∷◌, Contains, Some, ap, arith, length, map, refl, slice_get, subst, sym}
+use Rattle.std.proofs.lemmas.List.{length-map}
+use Rattle.swreq_machine.proofs.swreq_lemmas.{Elements.{contains_get, get_contains}, Members.{contains_of_map, first_member, later_member}}
+use Rattle.swreq_machine.proofs.{swreq_lowering.Growing.{requirement_stays}, swreq_symbols.Growing.{text_stays, world_stays}}
+use Rattle.swreq_machine.proofs.swreq_symbols.OfText.{are_facts, facts_are, requirements_placed, signature_is}
+use Rattle.swreq_machine.specs.swreq_param.{declared.ids.{ProtoId.{ProtoId}, ParamId.{ParamId}}, Tables.{Extends}, Terms.{Term}}
+use Rattle.swreq_machine.specs.swreq_derive.declared.{lines.Line.{Line}, requirements.Requirement.{Requirement, TheVariants.{Conf, Layout}}}
+use Rattle.swreq_machine.specs.swreq_derive.{declared.requirements.Requirement.TheVariants.{Same}, Derivation.{TermFacts, TermRequirement}}
+use Rattle.swreq_machine.specs.swreq_derive.{Derivation.TermRequirement.{Conforms}, Facts.{IdFacts, IsRequirementOver, generic_params}}
+use Rattle.swreq_machine.specs.swreq_derive.{Facts.{requirement_of}, Instances.{IsDerivation}, Lines.{AreDerived, AreLinesOf, line_of}}
+use Rattle.swreq_machine.specs.swreq_lowering.{declared.ids.FuncId.{FuncId}, Requirements.{PlacedRequirement}}
+use Rattle.swreq_machine.specs.{swreq_correspondence.Symbols.{Symbols, left_side, right_side}, swreq_lexicon.Views.{LexiconView}}
+use Rattle.swreq_machine.specs.swreq_symbols.{Known.{IsRequirementIn, IsTextOver}, Meaning.{symbols_of}, Overs.{source_by}}
+use Rattle.swreq_machine.specs.{swreq_valid.{Flags.{chosen}, Protocols.{ProtocolsView}}, swreq_world.ByTable.{IsOverTable, signature_by}}
+use Rattle.swreq_machine.specs.swreq_world.{ByTable.{world_by}, FactsAt.{facts_at, facts_of, written_list}, Worlds.{IdWorld, SignatureOver}}
+use Rattle.swreq_machine.specs.swreq_world.Worlds.{TextWorld, signature_at}
 use Rattle.swreq_derivation.specs.UnderWay.{AllIn, AreIdsIn, Assumptions, ContinuesFrom, IsDerivedFrom}
 use Rattle.swreq_derivation.specs.declared.derivation.Derivation.{Derivation}
-use Rattle.swreq_births.specs.declared.history.History.{History}
-use Rattle.swreq_births.specs.declared.history.Equation.{Equation}
-use Rattle.swreq_births.specs.declared.history.System.{System}
-use Rattle.swreq_births.specs.Systems.{FitsHistory}
-use Rattle.swreq_machine.specs.swreq_correspondence.Symbols.{Symbols, left_side, right_side}
-use Rattle.swreq_machine.specs.swreq_lexicon.Views.{LexiconView}
-use Rattle.swreq_machine.proofs.swreq_lowering.Growing.{requirement_stays}
-use Rattle.swreq_machine.specs.swreq_symbols.Known.{IsRequirementIn, IsTextOver}
-use Rattle.swreq_machine.specs.swreq_symbols.Meaning.{symbols_of}
-use Rattle.swreq_machine.specs.swreq_symbols.Overs.{source_by}
-use Rattle.swreq_machine.specs.swreq_valid.Flags.{chosen}
-use Rattle.swreq_machine.specs.swreq_valid.Protocols.{ProtocolsView}
-use Rattle.swreq_machine.proofs.swreq_symbols.Growing.{world_stays}
-use Rattle.swreq_machine.proofs.swreq_symbols.OfText.{are_facts, facts_are, requirements_placed, signature_is}
-use Rattle.swreq_machine.specs.swreq_world.ByTable.{IsOverTable, world_by}
-use Rattle.swreq_machine.specs.swreq_world.FactsAt.{facts_at, facts_of, written_list}
-use Rattle.swreq_machine.specs.swreq_world.Worlds.{IdWorld, SignatureOver, TextWorld, signature_at}
-use Rattle.swreq_explain.specs.declared.numbered.Numbered.{Numbered}
-use Rattle.swreq_explain.specs.declared.history.TextHistory.{TextHistory}
-use Rattle.swreq_explain.specs.Histories.{IsHistoryFor, IsTextHistory, assumptions_of, protocols_origin}
-use Rattle.swreq_explain.specs.Numbering.{AreEquationsOf, AreNumberedIn, IsEquationOf}
-use Rattle.swreq_explain.specs.Rounds.{IsSystemOf, Origin}
-use Rattle.swreq_explain.specs.Uses.{Course}
-use Rattle.swreq_explain.specs.Written.{AreWritten, IsAssumptionsOver}
-use Rattle.swreq_explain.proofs.NumberingLemmas.{protocols_in_text, required_in_text}
-use Rattle.swreq_explain.proofs.RoundLemmas.{chosen_of}
-use Rattle.swreq_explain.proofs.TextLines.{lines_are_of}
+use Rattle.swreq_births.specs.{declared.history.{History.{History}, Equation.{Equation}, System.{System}}, Systems.{FitsHistory}}
+use Rattle.swreq_explain.specs.{declared.{numbered.Numbered.{Numbered}, history.TextHistory.{TextHistory}}, Histories.{IsHistoryFor}}
+use Rattle.swreq_explain.specs.{Histories.{IsTextHistory, assumptions_of, protocols_origin}, Numbering.{AreEquationsOf, AreNumberedIn}}
+use Rattle.swreq_explain.specs.{Numbering.{IsEquationOf}, Rounds.{IsSystemOf}, Uses.{Origin}, Written.{AreWritten, IsAssumptionsOver}}
+use Rattle.swreq_explain.proofs.{NumberingLemmas.{protocols_in_text, required_in_text}, RoundLemmas.{chosen_of}, TextLines.{lines_are_of}}
 
 module _ (old new : List Term) (w : IdWorld) (f : FuncId) where
   list_over : (terms : List Term) → written_list (signature_at (world_by terms w) f) ≡ map (requirement_of terms) (facts_at w f).written
@@ -82,6 +59,19 @@ module _ (terms : List Term) (w : IdWorld) (f : FuncId) (text : IsTextOver terms
       (subst (λ (z : TermFacts). IsDerivation z (generic_params m.params) (map (requirement_of terms) m.written) (map (line_of terms) ls))
       (facts_are w terms f) d) ids
 
+-- What is written by a history for a signature is a derivation over its facts, and each line is one of the text.
+module _ (old new : List Term) (w : IdWorld) (f : FuncId) (b : History) (ls : List Line) (text : IsTextOver old w)
+    (is : IsHistoryFor (world_by old w) f b) (written : AreWritten old new b ls) where
+  pub written_derived : AreDerived new (facts_at w f) ls
+  written_derived = written.derived (assumptions_of (world_by old w) f) (facts_at w f) is.fits
+      (assumptions_over old new w f written.extends text.table)
+
+  pub written_lines : AreLinesOf new (facts_at w f) ls
+  written_lines =
+      let e = length-map w.signatures (signature_by old) in
+      let l = is.signature in
+      lines_of_text new w f (text_stays old new written.extends w text) (omega (arith, l, e)) ls written_derived written.ids
+
 -- The history still answers for the signature over a table that has grown.
 pub history_stays : (old new : List Term) (w : IdWorld) (f : FuncId) (b : History) → Extends old new → IsOverTable old w
     → IsHistoryFor (world_by old w) f b
@@ -103,7 +93,7 @@ module _ (old new : List Term) (more : Extends old new) where
           reason = record { requirement = is.reason.requirement; stands = is.reason.stands ∙ same; is = is.reason.is };
         }
 
-    equations_stay : (c : Course) (k : ℕ) (xs : List Numbered) (es : List Equation) → AreNumberedIn old x xs
+    equations_stay : (c : Origin) (k : ℕ) (xs : List Numbered) (es : List Equation) → AreNumberedIn old x xs
         → AreEquationsOf m old c k xs es → AreEquationsOf m new c k xs es
     equations_stay c k [] [] known h = h
     equations_stay c k [] (e ∷ es) known h = absurd h
@@ -113,7 +103,7 @@ module _ (old new : List Term) (more : Extends old new) where
       equations_stay c k xs es (λ q i. known q (later_member n q xs i)) rest,
     )
 
-    system_stays : (o : Origin) (k : ℕ) (v : System) → AreNumberedIn old x o.course.all → IsSystemOf m old o k v → IsSystemOf m new o k v
+    system_stays : (o : Origin) (k : ℕ) (v : System) → AreNumberedIn old x o.all → IsSystemOf m old o k v → IsSystemOf m new o k v
     system_stays o k v known is = record {
       round = is.round;
       there = is.there;
@@ -127,25 +117,25 @@ module _ (old new : List Term) (more : Extends old new) where
         given_are = is.given.given_are;
         sides = is.given.sides;
         are_basic = is.given.are_basic;
-        are_of = equations_stay o.course k used is.given.more known_used is.given.are_of;
+        are_of = equations_stay o k used is.given.more known_used is.given.are_of;
       };
     }
       where
         used : List Numbered
-        used = chosen o.course.all is.round.used
+        used = chosen o.all is.round.used
 
         known_used : AreNumberedIn old x used
         known_used n i =
             let (j, at) = contains_get used n i in
-            let (place, there) = chosen_of o.course.all is.round.used j n at in
-            known n (get_contains o.course.all place n there)
+            let (place, there) = chosen_of o.all is.round.used j n at in
+            known n (get_contains o.all place n there)
 
   -- What all histories of a text have in common stays so over a table that has grown.
   pub text_history_stays : (w : IdWorld) (p : ProtocolsView) (b : TextHistory) → IsTextOver old w → IsTextHistory old w p b → IsTextHistory
       new w p b
   text_history_stays w p b text h =
       let o : Origin = protocols_origin w p.rounds in
-      let known : AreNumberedIn old w.lexicon o.course.all = protocols_in_text old w text w.lexicon.written_order in
+      let known : AreNumberedIn old w.lexicon o.all = protocols_in_text old w text w.lexicon.written_order in
       record {
         world = h.world;
         self_id = λ q k t o at.
@@ -157,17 +147,19 @@ module _ (old new : List Term) (more : Extends old new) where
         };
       }
 
--- What is written in a derivation without lines is written over its table.
-pub written_over : (s0 s : Derivation) (history : History) (ls : List Line) → s0.lines ≡ [] → ContinuesFrom (FitsHistory history) s0 s
-    → ((m : IdFacts) → AreDerived s.table m s.lines → AreDerived s.table m ls) → AllIn s.table ls → AreWritten s0.table s.table history ls
-written_over s0 s history ls none continues part ids = record {
-  extends = continues.grows.extends;
-  derived = λ b m fits over. part m (of b m over (continues.derives b fits (first b)));
-  ids = ids;
-}
+-- What is written in a derivation that had no lines over the old table, and now has the new one, is written over the new table.
+pub written_over : (old new : List Term) (s0 s : Derivation) (history : History) (ls : List Line) → s0 ≡ record { table = old; lines = [] }
+    → new ≡ s.table → ContinuesFrom (FitsHistory history) s0 s
+    → ((m : IdFacts) → AreDerived s.table m s.lines → AreDerived s.table m ls) → AllIn s.table ls → AreWritten old new history ls
+written_over old new s0 s history ls begin end continues part ids =
+    subst (λ (z : List Term). AreWritten old z history ls) (sym end) (record {
+      extends = subst (λ (v : Derivation). Extends v.table s.table) begin continues.grows.extends;
+      derived = λ b m fits over. part m (of b m over (continues.derives b fits (first b)));
+      ids = ids;
+    })
   where
     first : (b : Assumptions) → IsDerivedFrom b s0
-    first b = subst (λ (z : List Line). IsDerivation b.facts b.params b.written (map (line_of s0.table) z)) (sym none) (λ k l e. cc)
+    first b = subst (IsDerivedFrom b) (sym begin) (λ k l e. cc)
 
     of : (b : Assumptions) (m : IdFacts) → IsAssumptionsOver s.table m b → IsDerivedFrom b s → AreDerived s.table m s.lines
     of b m over d =

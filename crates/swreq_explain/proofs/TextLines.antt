@@ -1,34 +1,20 @@
 -- The lines of a derivation over the facts of a world mention only what the world has.
 use Rattle.std.proofs.Common.{◌≡◌, ℕ, zero, suc, ◌-◌, ◌<◌, List, [], ◌∷◌, Contains, Some, arith, length, map, slice_get, subst, sym, take}
 use Rattle.swreq_machine.proofs.swreq_lemmas.Elements.{contains_get, get_contains, get_map, get_of_map}
-use Rattle.swreq_machine.specs.swreq_param.declared.ids.ParamId.{ParamId}
-use Rattle.swreq_machine.specs.swreq_param.declared.ids.ProtoId.{ProtoId}
-use Rattle.swreq_machine.specs.swreq_param.declared.ids.NameId.{NameId}
-use Rattle.swreq_machine.specs.swreq_param.declared.ids.AssocId.{AssocId}
-use Rattle.swreq_machine.specs.swreq_param.Terms.{Term}
-use Rattle.swreq_machine.specs.swreq_derive.declared.lines.DerivRule.{DerivRule}
-use Rattle.swreq_machine.specs.swreq_derive.declared.lines.DerivRule.TheVariants as Rule
-use Rattle.swreq_machine.specs.swreq_derive.declared.lines.Line.{Line}
-use Rattle.swreq_machine.specs.swreq_derive.declared.requirements.Requirement.TheVariants.{Conf, Layout, Same}
-use Rattle.swreq_machine.specs.swreq_derive.declared.requirements.Statement.{Statement}
-use Rattle.swreq_machine.specs.swreq_derive.declared.requirements.Statement.TheVariants.{Holds, Valid}
-use Rattle.swreq_machine.specs.swreq_derive.Derivation.{Declares, TermFacts, TermRequirement, TermStatement}
-use Rattle.swreq_machine.specs.swreq_derive.Derivation.TermRequirement.{Conforms, Equals, IsAnyObject}
-use Rattle.swreq_machine.specs.swreq_derive.Derivation.TermStatement.{IsValid, Requires}
-use Rattle.swreq_machine.specs.swreq_derive.Facts.{IdFacts, IsStatementOver, statement_of}
+use Rattle.swreq_machine.proofs.{swreq_derive.LineLemmas.{get_take}, swreq_symbols.{Declared.{of_text}, Symbols.{text_law}}}
+use Rattle.swreq_machine.specs.swreq_param.declared.ids.{ParamId.{ParamId}, ProtoId.{ProtoId}, NameId.{NameId}, AssocId.{AssocId}}
+use Rattle.swreq_machine.specs.{swreq_param.Terms.{Term}, swreq_derive.declared.lines.{DerivRule.{DerivRule}, Line.{Line}}}
+use Rattle.swreq_machine.specs.swreq_derive.declared.requirements.{Requirement.TheVariants.{Conf, Layout, Same}, Statement.{Statement}}
+use Rattle.swreq_machine.specs.swreq_derive.{declared.requirements.Statement.TheVariants.{Holds, Valid}, Derivation.{Declares, TermFacts}}
+use Rattle.swreq_machine.specs.swreq_derive.Derivation.{TermRequirement, TermStatement, TermRequirement.{Conforms, Equals, IsAnyObject}}
+use Rattle.swreq_machine.specs.swreq_derive.{Derivation.TermStatement.{IsValid, Requires}, Facts.{IdFacts, IsStatementOver, statement_of}}
 use Rattle.swreq_machine.specs.swreq_derive.Instances.{AreStated, HasNumber, IsDerivation, IsInstance, TermLine, statements_of}
-use Rattle.swreq_machine.specs.swreq_derive.Lines.{AreLinesOf, IsRuleOf, line_of}
-use Rattle.swreq_machine.proofs.swreq_derive.LineLemmas.{get_take}
-use Rattle.swreq_machine.specs.swreq_correspondence.Symbols.{AreOfText}
-use Rattle.swreq_machine.specs.swreq_lexicon.Views.{IsName, IsProtocol, LexiconView}
+use Rattle.swreq_machine.specs.{swreq_derive.Lines.{AreLinesOf, IsRuleOf, line_of}, swreq_correspondence.Symbols.{AreOfText}}
+use Rattle.swreq_machine.specs.{swreq_lexicon.Views.{IsName, IsProtocol, LexiconView}, swreq_symbols.Meaning.{symbols_of}}
+use Rattle.swreq_machine.specs.swreq_world.{Closed.{IsClosed}, FactsAt.{facts_of}, Worlds.{TextWorld}}
 use Rattle.swreq_lines.specs.LineTexts.{HasLineIds, HasRuleIds, HasStatementIds, fields_of}
 use Rattle.swreq_derivation.specs.UnderWay.{AreIdsIn}
-use Rattle.swreq_machine.specs.swreq_symbols.Meaning.{symbols_of}
-use Rattle.swreq_machine.proofs.swreq_symbols.Declared.{of_text}
-use Rattle.swreq_machine.proofs.swreq_symbols.Symbols.{text_law}
-use Rattle.swreq_machine.specs.swreq_world.Closed.{IsClosed}
-use Rattle.swreq_machine.specs.swreq_world.FactsAt.{facts_of}
-use Rattle.swreq_machine.specs.swreq_world.Worlds.{TextWorld}
+use Rattle.swreq_machine.specs.swreq_derive.declared.lines.DerivRule.TheVariants as Rule
 
 module _ (w : TextWorld) (closed : IsClosed w) (m : IdFacts) (protocols : m.protocols ≡ length w.lexicon.protocols)
     (names : m.names ≡ length w.lexicon.names)

@@ -1,20 +1,11 @@
 -- What lines are written for: a requirement, and the rounds that it follows from.
 use Rattle.std.specs.Prelude.{◌≡◌, ◌<◌, List, length}
-use Rattle.swreq_machine.specs.swreq_param.Terms.{Term}
-use Rattle.swreq_machine.specs.swreq_derive.declared.requirements.Requirement.{Requirement}
-use Rattle.swreq_machine.specs.swreq_derive.Derivation.{Derivable}
-use Rattle.swreq_machine.specs.swreq_derive.Derivation.TermStatement.{Requires}
-use Rattle.swreq_machine.specs.swreq_derive.Facts.{requirement_of}
-use Rattle.swreq_machine.specs.swreq_complete.declared.limit.Limits.{Limits}
-use Rattle.swreq_machine.specs.swreq_lowering.declared.ids.FuncId.{FuncId}
-use Rattle.swreq_machine.specs.swreq_world.ByTable.{world_by}
-use Rattle.swreq_machine.specs.swreq_world.FactsAt.{facts_of, source_of, written_list}
-use Rattle.swreq_machine.specs.swreq_world.Worlds.{IdWorld, signature_at}
-use Rattle.swreq_machine.specs.swreq_symbols.Known.{IsRequirementIn}
-use Rattle.swreq_machine.specs.Machines.{IsMachineOf, MachineView}
-use Rattle.swreq_machine.specs.OfSignatures.{signature_plan}
-use Rattle.swreq_machine.specs.swreq_valid.Protocols.{ProtocolsView, protocols_of}
-use Rattle.swreq_machine.specs.swreq_valid.Rounds.{AreRounds, last_rules}
+use Rattle.swreq_machine.specs.{swreq_param.Terms.{Term}, swreq_derive.declared.requirements.Requirement.{Requirement}}
+use Rattle.swreq_machine.specs.swreq_derive.{Derivation.{Derivable, TermStatement.{Requires}}, Facts.{requirement_of}}
+use Rattle.swreq_machine.specs.{swreq_complete.declared.limit.Limits.{Limits}, swreq_lowering.declared.ids.FuncId.{FuncId}}
+use Rattle.swreq_machine.specs.swreq_world.{ByTable.{world_by}, FactsAt.{facts_of, source_of, written_list}, Worlds.{IdWorld, signature_at}}
+use Rattle.swreq_machine.specs.{swreq_symbols.Known.{IsRequirementIn}, Machines.{IsMachineOf, MachineView}, OfSignatures.{signature_plan}}
+use Rattle.swreq_machine.specs.swreq_valid.{Protocols.{ProtocolsView, protocols_of}, Rounds.{AreRounds, last_rules}}
 
 -- The requirement is of the text, and derivable from the list of the signature.
 pub record IsYes (terms : List Term) (w : IdWorld) (f : FuncId) (r : Requirement) : Type 0 where

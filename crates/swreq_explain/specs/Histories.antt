@@ -1,31 +1,19 @@
 -- The history of a machine.
 use Rattle.std.specs.Prelude.{◌≡◌, ◌↔◌, ◌<◌, ◌-◌, ◌^◌, ℕ, [], List, None, Option, Some, length, slice_get}
-use Rattle.swreq_machine.specs.swreq_param.declared.ids.ProtoId.{ProtoId}
-use Rattle.swreq_machine.specs.swreq_param.declared.ids.TermId.{TermId}
-use Rattle.swreq_machine.specs.swreq_param.Tables.{term_at}
-use Rattle.swreq_machine.specs.swreq_param.Terms.{Term, self}
-use Rattle.swreq_machine.specs.swreq_derive.declared.known.Params.{Params}
-use Rattle.swreq_machine.specs.swreq_derive.declared.requirements.Requirement.TheVariants.{Conf}
-use Rattle.swreq_machine.specs.swreq_derive.Facts.{generic_params}
-use Rattle.swreq_machine.specs.swreq_correspondence.Symbols.{IsInText}
-use Rattle.swreq_machine.specs.swreq_complete.Complete.{IsComplete}
-use Rattle.swreq_machine.specs.swreq_lowering.declared.ids.FuncId.{FuncId}
+use Rattle.swreq_machine.specs.swreq_param.{declared.ids.{ProtoId.{ProtoId}, TermId.{TermId}}, Tables.{term_at}, Terms.{Term, self}}
+use Rattle.swreq_machine.specs.swreq_derive.declared.{known.Params.{Params}, requirements.Requirement.TheVariants.{Conf}}
+use Rattle.swreq_machine.specs.{swreq_derive.Facts.{generic_params}, swreq_correspondence.Symbols.{IsInText}}
+use Rattle.swreq_machine.specs.{swreq_complete.Complete.{IsComplete}, swreq_lowering.declared.ids.FuncId.{FuncId}}
+use Rattle.swreq_machine.specs.{swreq_rounds.Presents.{AreListRules}, swreq_symbols.Meaning.{symbols_of}, Machines.{MachineView}}
+use Rattle.swreq_machine.specs.swreq_valid.{Protocols.{ProtocolsView}, Plans.{bare}, Rounds.{RoundView, last_rules}}
+use Rattle.swreq_machine.specs.swreq_world.{FactsAt.{facts_of, source_of, written_list}, Worlds.{IdWorld, TextWorld, requirements_of}}
+use Rattle.swreq_machine.specs.swreq_world.{ByTable.{world_by}, Worlds.{signature_at}}
 use Rattle.swreq_readings.specs.declared.alphabet.Alphabet.{Alphabet}
-use Rattle.swreq_machine.specs.swreq_rounds.Given.{basic_equations}
-use Rattle.swreq_machine.specs.swreq_rounds.Presents.{AreListRules}
 use Rattle.swreq_derivation.specs.UnderWay.{Assumptions}
-use Rattle.swreq_machine.specs.swreq_symbols.Meaning.{symbols_of}
-use Rattle.swreq_births.specs.declared.history.History.{History}
-use Rattle.swreq_births.specs.Systems.{AreSymbols, FitsHistory, IsHistory, rules_at, systems_of}
-use Rattle.swreq_machine.specs.Machines.{MachineView}
-use Rattle.swreq_machine.specs.swreq_valid.Protocols.{ProtocolsView}
-use Rattle.swreq_machine.specs.swreq_valid.Plans.{bare}
-use Rattle.swreq_machine.specs.swreq_valid.Rounds.{RoundView, last_rules}
-use Rattle.swreq_machine.specs.swreq_world.FactsAt.{facts_of, source_of, written_list}
-use Rattle.swreq_machine.specs.swreq_world.Worlds.{IdWorld, TextWorld, requirements_of, signature_at}
-use Rattle.swreq_explain.specs.declared.history.TextHistory.{TextHistory}
-use Rattle.swreq_explain.specs.Numbering.{numbered_from, numbered_in}
-use Rattle.swreq_explain.specs.Rounds.{AreSystemsOf, Origin}
+use Rattle.swreq_births.specs.{declared.history.History.{History}, Systems.{AreSymbols, FitsHistory, IsHistory, rules_at, systems_of}}
+use Rattle.swreq_explain.specs.{declared.history.TextHistory.{TextHistory}, Numbering.{numbered_from, numbered_in}, Rounds.{AreSystemsOf}}
+use Rattle.swreq_explain.specs.Uses.{Origin}
+use Rattle.swreq_machine.specs.swreq_rounds.Given.{basic_equations}
 
 -- It is the id of `Self` in each requirement `[T : Q]` of a protocol.
 abbrev pub IsSelfId : List Term → IdWorld → Option TermId → Type 0
@@ -42,24 +30,22 @@ pub record IsAlphabetOf (terms : List Term) (w : IdWorld) (params : Params) (g :
 abbrev pub protocols_origin : IdWorld → List RoundView → Origin
 protocols_origin w rounds = record {
   base = 0;
-  below = 0;
   members = w.lexicon.symbols;
   basic = basic_equations (symbols_of w.lexicon);
-  course = record { all = numbered_in w w.lexicon.written_order; rounds = rounds; first = 0 };
+  all = numbered_in w w.lexicon.written_order;
+  rounds = rounds;
+  first = 0;
 }
 
 -- The rounds of a list begin with the rules of the last round of the protocols.
 abbrev pub list_origin : IdWorld → FuncId → ProtocolsView → MachineView → Origin
 list_origin w f p m = record {
   base = length (last_rules p.rounds);
-  below = length p.rounds - 1;
   members = w.lexicon.symbols;
   basic = [];
-  course = record {
-    all = numbered_from None 1 (bare (signature_at w f).requirements);
-    rounds = m.rounds;
-    first = length p.rounds;
-  };
+  all = numbered_from None 1 (bare (signature_at w f).requirements);
+  rounds = m.rounds;
+  first = length p.rounds;
 }
 
 -- It is of the world, with the id of `Self`, and the systems are those of the rounds of the protocols.
@@ -98,3 +84,7 @@ pub record IsHistoryFor (w : TextWorld) (f : FuncId) (b : History) : Type 0 wher
       (rules_at b (length (systems_of b) - 1))
   pub complete : IsComplete (rules_at b (length (systems_of b) - 1))
   pub in_text : IsInText (symbols_of w.lexicon) (source_of (signature_at w f))
+
+-- The history is that of the signature of the world over a table.
+abbrev pub IsHistoryOver : List Term → IdWorld → FuncId → History → Type 0
+IsHistoryOver terms w f b = IsHistoryFor (world_by terms w) f b

@@ -1,28 +1,16 @@
 -- Written requirements with their numbers, and the equations of those that a round uses.
-use Rattle.std.specs.Prelude.{◌≡◌, ℕ, suc, List, [], ◌∷◌, ◌++◌, Option, Some, None, Contains, slice_get}
-use Rattle.swreq_machine.specs.swreq_param.declared.ids.ProtoId.{ProtoId}
-use Rattle.swreq_machine.specs.swreq_param.Terms.{Term}
-use Rattle.swreq_machine.specs.swreq_derive.declared.requirements.Requirement.{Requirement}
-use Rattle.swreq_machine.specs.swreq_derive.Derivation.{Source, TermRequirement}
-use Rattle.swreq_machine.specs.swreq_derive.Derivation.Source.{SelfOf, Written as WrittenList}
-use Rattle.swreq_machine.specs.swreq_derive.Facts.{requirement_of}
-use Rattle.swreq_machine.specs.swreq_param.declared.ids.ParamId.{ParamId}
+use Rattle.std.specs.Prelude.{◌≡◌, ◌+◌, ◌<◌, ◌^◌, ℕ, suc, length, List, [], ◌∷◌, ◌++◌, Option, Some, None, Contains, slice_get}
+use Rattle.swreq_machine.specs.swreq_param.{declared.ids.{ProtoId.{ProtoId}, ParamId.{ParamId}}, Terms.{Term}}
+use Rattle.swreq_machine.specs.swreq_derive.{declared.requirements.Requirement.{Requirement}, Derivation.{Source, TermRequirement}}
+use Rattle.swreq_machine.specs.swreq_derive.{Derivation.Source.{SelfOf, Written as WrittenList}, Facts.{requirement_of}}
 use Rattle.swreq_machine.specs.swreq_correspondence.Symbols.{Symbols, Word, left_side, right_side}
+use Rattle.swreq_machine.specs.{swreq_lexicon.{declared.pair.ProtocolName.{ProtocolName}, Views.{LexiconView}}, swreq_rounds.Plan.{Item}}
+use Rattle.swreq_machine.specs.swreq_symbols.{declared.text.Text.{Text}, Known.{IsRequirementIn}, Overs.{source_by}}
+use Rattle.swreq_machine.specs.{swreq_valid.{Rounds.{RoundView}, Plans.{bare}}, swreq_world.Worlds.{IdWorld, requirements_of}}
 use Rattle.swreq_readings.specs.swreq_word.declared.symbols.Symbol.TheVariants.{Member, Name, Proto}
-use Rattle.swreq_machine.specs.swreq_lexicon.declared.pair.ProtocolName.{ProtocolName}
-use Rattle.swreq_machine.specs.swreq_lexicon.Views.{LexiconView}
-use Rattle.swreq_machine.specs.swreq_rounds.Plan.{Item}
-use Rattle.swreq_machine.specs.swreq_symbols.Known.{IsRequirementIn}
-use Rattle.swreq_machine.specs.swreq_symbols.Overs.{source_by}
-use Rattle.swreq_births.specs.declared.history.Equation.{Equation}
-use Rattle.swreq_births.specs.declared.history.OwnedRequirement.{OwnedRequirement}
-use Rattle.swreq_births.specs.declared.history.Reason.{Reason}
-use Rattle.swreq_births.specs.declared.history.Reason.TheVariants.{Doubled, Named as NamedBy, Required}
-use Rattle.swreq_births.specs.Systems.{requirement_by}
-use Rattle.swreq_machine.specs.swreq_valid.Plans.{bare}
-use Rattle.swreq_machine.specs.swreq_world.Worlds.{IdWorld, requirements_of}
-use Rattle.swreq_explain.specs.declared.numbered.Numbered.{Numbered}
-use Rattle.swreq_explain.specs.Uses.{Course, IsShownBy}
+use Rattle.swreq_births.specs.declared.history.{Equation.{Equation}, OwnedRequirement.{OwnedRequirement}, Reason.{Reason}}
+use Rattle.swreq_births.specs.{declared.history.Reason.TheVariants.{Doubled, Named as NamedBy, Required}, Systems.{requirement_by}}
+use Rattle.swreq_explain.specs.{declared.numbered.Numbered.{Numbered}, Uses.{HaveFlags, IsShownBy, Origin}}
 
 -- ---- numbers
 
@@ -39,6 +27,12 @@ numbered_in w (p ∷ ps) = numbered_from (Some p) 1 (bare (requirements_of w p))
 -- The type parameters of the requirements are of the table, and their protocols are of the text.
 abbrev pub AreNumberedIn : List Term → LexiconView → List Numbered → Type 0
 AreNumberedIn terms x all = (n : Numbered) → Contains all n → IsRequirementIn terms x n.requirement
+
+-- The requirements are of the text, each round has a flag for each of them, and the system of each round has a place of 64 bits.
+pub record AreMadeOf (t : Text) (all : List Numbered) (rounds : List RoundView) (first : ℕ) : Type 0 where
+  pub of_text : AreNumberedIn t.table.now t.world.now.lexicon all
+  pub flags : HaveFlags (length all) rounds
+  pub room : first + length rounds < 2 ^ 64
 
 -- what a requirement is read over: [τ_0_0 : P], or the list with these generic parameters
 abbrev pub source_in : List ParamId → List TermRequirement → Option ProtoId → Source
@@ -78,12 +72,12 @@ pub record IsEquationOf (m : Symbols) (terms : List Term) (x : Numbered) (shown 
   pub reason : IsReasonOf terms x shown e.reason
 
 -- It is the equation of the requirement in the round k.
-abbrev pub IsEquationIn : Symbols → List Term → Course → ℕ → Numbered → Equation → Type 0
-IsEquationIn m terms c k x e = (shown : ℕ) × IsShownBy c k x shown × IsEquationOf m terms x shown e
+abbrev pub IsEquationIn : Symbols → List Term → Origin → ℕ → Numbered → Equation → Type 0
+IsEquationIn m terms o k x e = (shown : ℕ) × IsShownBy o.all o.rounds o.first k x shown × IsEquationOf m terms x shown e
 
 -- They are the equations of these requirements in the round k, in order.
-abbrev pub AreEquationsOf : Symbols → List Term → Course → ℕ → List Numbered → List Equation → Type 0
-AreEquationsOf m terms c k [] [] = Unit {0}
-AreEquationsOf m terms c k [] (e ∷ es) = ⊥
-AreEquationsOf m terms c k (x ∷ xs) [] = ⊥
-AreEquationsOf m terms c k (x ∷ xs) (e ∷ es) = IsEquationIn m terms c k x e × AreEquationsOf m terms c k xs es
+abbrev pub AreEquationsOf : Symbols → List Term → Origin → ℕ → List Numbered → List Equation → Type 0
+AreEquationsOf m terms o k [] [] = Unit {0}
+AreEquationsOf m terms o k [] (e ∷ es) = ⊥
+AreEquationsOf m terms o k (x ∷ xs) [] = ⊥
+AreEquationsOf m terms o k (x ∷ xs) (e ∷ es) = IsEquationIn m terms o k x e × AreEquationsOf m terms o k xs es

@@ -1,17 +1,18 @@
 -- Which round uses a requirement first, and so which rules show its type parameters valid.
 use Rattle.std.specs.Prelude.{◌≡◌, ℕ, ◌+◌, ◌-◌, ◌<◌, ◌≤◌, true, List, Some, length, slice_get}
+use Rattle.swreq_machine.specs.{swreq_correspondence.Symbols.{Word}, swreq_lexicon.declared.pair.ProtocolName.{ProtocolName}}
 use Rattle.swreq_machine.specs.swreq_valid.Rounds.{RoundView}
-use Rattle.swreq_explain.specs.declared.numbered.Makings.{Makings}
 use Rattle.swreq_explain.specs.declared.numbered.Numbered.{Numbered}
 
--- The rounds of a plan, the requirements that they may use, and the place of the system of the first round.
-pub record Course : Type 0 where
+-- What the systems of rounds are made from: how many rules the base has, which is the system before the first round's, the member names
+-- and the basic equations, the written requirements that the rounds may use, the rounds, and the place of the first round's system.
+pub record Origin : Type 0 where
+  pub base : ℕ
+  pub members : List ProtocolName
+  pub basic : List (Word × Word)
   pub all : List Numbered
   pub rounds : List RoundView
   pub first : ℕ
-
-abbrev pub course_of : Makings → Course
-course_of m = record { all = m.all.now; rounds = m.rounds.now; first = m.first }
 
 -- Each round has this many flags.
 abbrev pub HaveFlags : ℕ → List RoundView → Type 0
@@ -28,10 +29,10 @@ pub record UsesFirst (rounds : List RoundView) (k place : ℕ) : Type 0 where
 
 -- The rules of this system show the requirement that the round k uses. It is the system of the round before the first round that uses the
 -- requirement.
-pub record IsShownBy (c : Course) (k : ℕ) (x : Numbered) (system : ℕ) : Type 0 where
+pub record IsShownBy (all : List Numbered) (rounds : List RoundView) (first k : ℕ) (x : Numbered) (system : ℕ) : Type 0 where
   pub place : ℕ
-  pub there : slice_get c.all place ≡ Some x
+  pub there : slice_get all place ≡ Some x
   pub round : ℕ
   pub within : round ≤ k
-  pub first_use : UsesFirst c.rounds round place
-  pub system_is : system ≡ c.first + round - 1
+  pub first_use : UsesFirst rounds round place
+  pub system_is : system ≡ first + round - 1

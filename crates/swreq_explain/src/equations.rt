@@ -1,66 +1,40 @@
 //! The equations of rounds, with their reasons.
-ghost use Rattle.std.specs.{Prelude.{◌≡◌, ◌+◌, ◌<◌, ◌^◌, ◌++◌, ◌∷◌, [], IfOk, List, OnOk, Some, length, map, slice_get}, Bool.{if◌then◌else◌, nat_eq}};
-ghost use Rattle.swreq_machine.specs.swreq_derive.Facts.{requirement_of};
-ghost use Rattle.swreq_machine.specs.swreq_lowering.ByTable.{HasIdsOf};
-ghost use Rattle.swreq_machine.specs.swreq_symbols.{Known.{IsRequirementIn, IsTextOver}, Meaning.{symbols_of}};
-ghost use Rattle.swreq_machine.specs.swreq_lexicon.declared.pair.ProtocolName.{ProtocolName as PairView};
+ghost use Rattle.std.specs.{Prelude.{◌≡◌, ◌<◌, ◌++◌, ◌∷◌, [], IfOk, List, OnOk, Some, length, map, slice_get}, Bool.{if◌then◌else◌, nat_eq}};
+ghost use Rattle.swreq_machine.specs.{swreq_derive.Facts.{requirement_of}, swreq_lowering.ByTable.{HasIdsOf}, swreq_symbols.Meaning.{symbols_of}};
+ghost use Rattle.swreq_machine.specs.{swreq_lexicon.declared.pair.ProtocolName.{ProtocolName as PairView}, swreq_valid.{Flags.{chosen}, Rounds.{RoundView}}};
 ghost use Rattle.swreq_births.specs.{declared.history.Equation.{Equation as EquationView}, Systems.{requirement_by}};
-ghost use Rattle.swreq_machine.specs.swreq_valid.{Flags.{chosen}, Rounds.{RoundView}};
-ghost use Rattle.swreq_machine.specs.swreq_world.Closed.{AreIds};
-ghost use Rattle.swreq_explain.specs.{Numbering.{AreBasic, AreEquationsOf, IsEquationOf, sides_of}, Rounds.{AreOfText}, Uses.{course_of}};
+ghost use Rattle.swreq_explain.specs.{declared.numbered.Numbered.{Numbered as NumberedView}, Numbering.{AreBasic, AreEquationsOf, IsEquationIn, sides_of}, Rounds.{origin_of}, Uses.{Uses}};
 ghost use Rattle.swreq_machine.specs.swreq_rounds.Given as basics;
-ghost use Rattle.swreq_births.specs.declared.history.Reason.TheVariants as reasons;
 
-use crate::numbered::{Makings, Numbered, shown_by};
+use crate::numbered::{Makings, shown_by, uses};
 use std::alloc::{AllocError, Global};
 use swreq_births::{Equation, OwnedRequirement, Reason};
 use swreq_machine::derive::Requirement;
-use swreq_machine::param::{NameId, ParamTable, ProtoId};
+use swreq_machine::param::{ParamTable, ProtoId};
 use swreq_machine::symbols::equation;
 use swreq_machine::word::{Symbol, Word};
 use swreq_machine::world::World;
 
-/// The word of these symbols.
-fn word_of(alloc: Global, symbols: &[Symbol]) -> Result<Word, AllocError>
-    ensures { IfOk result (λ w. w ≡ symbols.now) }
+/// A basic equation: its left side, the symbol of its right side, and its reason.
+fn basic_equation(
+    alloc: Global,
+    left: &[Symbol],
+    right: Symbol,
+    reason: Reason,
+) -> Result<Equation, AllocError>
+    ensures { IfOk result
+        (λ e. e ≡ record { left = left.now; right = right ∷ []; reason = reason }) }
 {
-    let symbols = Vec::from_slice(alloc, symbols)?;
-    Ok(Word::new(symbols))
-}
-
-/// The equation `[P][P] = [P]`.
-fn doubled(alloc: Global, p: ProtoId) -> Result<Equation, AllocError>
-    ensures left { IfOk result (λ e. e.left ≡ (basics.doubled p).0) }
-    ensures right { IfOk result (λ e. e.right ≡ (basics.doubled p).1) }
-    ensures reason { IfOk result (λ e. e.reason ≡ reasons.Doubled p) }
-{
-    let left = word_of(alloc, &[Symbol::Proto(p.rank), Symbol::Proto(p.rank)])?;
-    let right = word_of(alloc, &[Symbol::Proto(p.rank)])?;
+    let left = Vec::from_slice(alloc, left)?;
+    let right = Vec::from_slice(alloc, &[right])?;
     Ok(Equation {
-        left,
-        right,
-        reason: Reason::Doubled { proto: p },
+        left: Word::new(left),
+        right: Word::new(right),
+        reason,
     })
 }
 
-/// The equation `[P]·A = [P:A]`, where `[P:A]` has this rank.
-fn named(alloc: Global, p: ProtoId, a: NameId, rank: u64) -> Result<Equation, AllocError>
-    ensures left { IfOk result
-        (λ e. e.left ≡ (basics.named p (record { proto = p; name = a }) rank).0) }
-    ensures right { IfOk result
-        (λ e. e.right ≡ (basics.named p (record { proto = p; name = a }) rank).1) }
-    ensures reason { IfOk result (λ e. e.reason ≡ reasons.Named rank) }
-{
-    let left = word_of(alloc, &[Symbol::Proto(p.rank), Symbol::Name(a.rank)])?;
-    let right = word_of(alloc, &[Symbol::Member(rank)])?;
-    Ok(Equation {
-        left,
-        right,
-        reason: Reason::Named { rank },
-    })
-}
-
-/// Puts the equation of the member symbol last, if the symbol is one of the protocol.
+/// Puts the equation `[P]·A = [P:A]` last, where `[P:A]` has this rank, if this is a symbol of the protocol.
 fn add_member(
     alloc: Global,
     world: &World,
@@ -81,12 +55,13 @@ fn add_member(
     if member.proto.rank != p.rank {
         return Ok(());
     }
-    let e = named(alloc, p, member.name, rank)?;
+    let left = [Symbol::Proto(p.rank), Symbol::Name(member.name.rank)];
+    let e = basic_equation(alloc, &left, Symbol::Member(rank), Reason::Named { rank })?;
     given.push(e)?;
     Ok(())
 }
 
-/// Puts the basic equations of the protocol last.
+/// Puts the basic equations of the protocol last: `[P][P] = [P]`, and those of its member names.
 fn add_protocol(
     alloc: Global,
     world: &World,
@@ -98,7 +73,13 @@ fn add_protocol(
         (basics.doubled p ∷ basics.named_from p 0 (symbols_of world.now.lexicon).members)) }
     ensures basic { OnOk result (AreBasic world.now.lexicon.symbols given.new.items) }
 {
-    let e = doubled(alloc, p)?;
+    let symbol = Symbol::Proto(p.rank);
+    let e = basic_equation(
+        alloc,
+        &[symbol, symbol],
+        symbol,
+        Reason::Doubled { proto: p },
+    )?;
     given.push(e)?;
     for rank in 0..world.members() {
         add_member(alloc, world, p, rank, given)?;
@@ -106,17 +87,19 @@ fn add_protocol(
     Ok(())
 }
 
-/// The basic equations: for each protocol, in written order, the equation of its symbol and then those of its member names.
-pub(crate) fn basic(alloc: Global, world: &World) -> Result<Vec<Equation>, AllocError>
-    requires { AreIds world.now.lexicon }
-    ensures sides { IfOk result
-        (λ v. map sides_of v.items ≡ basics.basic_equations (symbols_of world.now.lexicon)) }
-    ensures basic { IfOk result (λ v. AreBasic world.now.lexicon.symbols v.items) }
+/// The basic equations, if the rounds have them: for each protocol, in written order, those of the protocol.
+pub(crate) fn basic(makings: Makings<'_>) -> Result<Vec<Equation>, AllocError>
+    ensures sides { IfOk result (λ v. map sides_of v.items ≡ (origin_of makings.entry).basic) }
+    ensures basic { IfOk result (λ v. AreBasic (origin_of makings.entry).members v.items) }
 {
-    let mut given = Vec::new(alloc);
+    let mut given = Vec::new(makings.alloc);
+    if !makings.basic {
+        return Ok(given);
+    }
+    let world = makings.text.world;
     for k in 0..world.protocols() {
         let p = world.proto_at(k);
-        add_protocol(alloc, world, p, &mut given)?;
+        add_protocol(makings.alloc, world, p, &mut given)?;
     }
     Ok(given)
 }
@@ -147,20 +130,18 @@ pub(crate) fn owned(
     }
 }
 
-/// The equation of a requirement. The rules of the system `shown` show its type parameters valid.
-fn equation_of(
-    alloc: Global,
-    world: &World,
-    table: &ParamTable,
-    x: Numbered,
-    shown: usize,
-) -> Result<Equation, AllocError>
-    requires text { IsTextOver table.now world.now }
-    requires x { IsRequirementIn table.now world.now.lexicon x.requirement }
-    ensures { IfOk result (IsEquationOf (symbols_of world.now.lexicon) table.now x shown) }
+/// The equation of the requirement at this place, which the round uses.
+fn equation_of(makings: Makings<'_>, round: usize, place: usize) -> Result<Equation, AllocError>
+    requires place { place < length makings.all.now }
+    requires used { Uses makings.rounds.now round place }
+    ensures { IfOk result (λ e. (x : NumberedView) → slice_get makings.entry.all.now place ≡ Some x
+        → IsEquationIn (symbols_of makings.entry.text.world.now.lexicon)
+        makings.entry.text.table.now (origin_of makings.entry) round x e) }
 {
-    let (left, right) = equation(alloc, world, table, x.owner, &x.requirement)?;
-    let requirement = owned(alloc, table, x.requirement)?;
+    let shown = shown_by(makings, round, place);
+    let x = makings.all[place];
+    let (left, right) = equation(makings.alloc, &makings.text, x.owner, &x.requirement)?;
+    let requirement = owned(makings.alloc, makings.text.table, x.requirement)?;
     Ok(Equation {
         left,
         right,
@@ -179,22 +160,17 @@ pub(crate) fn add_used(
     round: usize,
     given: &mut Vec<Equation>,
 ) -> Result<(), AllocError>
-    requires of_text { AreOfText makings }
-    requires round { round < length makings.rounds.now }
-    requires room { makings.first + round < 2 ^ 64 }
-    ensures { OnOk result ((r : RoundView) → slice_get makings.entry.rounds.now round ≡ Some r
-        → (more : List EquationView)
-        × (given.new.items ≡ given.old.items ++ more)
-        × AreEquationsOf (symbols_of makings.entry.world.now.lexicon) makings.entry.table.now
-        (course_of makings.entry) round
+    requires { round < length makings.rounds.now }
+    ensures { OnOk result
+        ((r : RoundView) → slice_get makings.entry.rounds.now round ≡ Some r
+        → (more : List EquationView) × (given.new.items ≡ given.old.items ++ more)
+        × AreEquationsOf (symbols_of makings.entry.text.world.now.lexicon)
+        makings.entry.text.table.now (origin_of makings.entry) round
         (chosen makings.entry.all.now r.used) more) }
 {
-    let used = makings.rounds.used(round);
     for k in 0..makings.all.len() {
-        if used[k] {
-            let shown = shown_by(makings, round, k);
-            let x = makings.all[k];
-            let e = equation_of(makings.alloc, makings.world, makings.table, x, shown)?;
+        if uses(makings, round, k) {
+            let e = equation_of(makings, round, k)?;
             given.push(e)?;
         }
     }

@@ -1,19 +1,16 @@
 //! The history of a machine, over what is the same for all signatures of its text.
-ghost use Rattle.std.specs.Prelude.{◌≡◌, IfOk, ◌+◌, ◌<◌, ◌^◌, OnOk, length};
-ghost use Rattle.swreq_machine.specs.swreq_complete.declared.limit.Limits.{Limits};
-ghost use Rattle.swreq_machine.specs.swreq_symbols.{Known.{IsTextOver}, Meaning.{symbols_of}};
-ghost use Rattle.swreq_machine.specs.swreq_valid.{Protocols.{protocols_of}, Rounds.{AreRounds}};
-ghost use Rattle.swreq_machine.specs.swreq_world.{ByTable.{world_by}};
-ghost use Rattle.swreq_explain.specs.{Histories.{IsTextHistory, protocols_origin, IsHistoryFor, list_origin}, Rounds.{AreSystemsOf}, Asked.{AreRoundsFor}};
+ghost use Rattle.std.specs.{Prelude.{◌≡◌, ◌↔◌, ◌+◌, ◌<◌, ◌^◌, IfOk, OnOk, Some, length}, Bool.{Decides}};
+ghost use Rattle.swreq_machine.specs.{swreq_param.{Tables.{IsOf, term_at}, Terms.{self}}, swreq_complete.declared.limit.Limits.{Limits}, swreq_symbols.{Known.{IsTextOver}, Texts.{world_of}}};
+ghost use Rattle.swreq_machine.specs.{swreq_valid.{Protocols.{protocols_of}, Rounds.{AreRounds}}, swreq_world.ByTable.{world_by}};
+ghost use Rattle.swreq_explain.specs.{Histories.{IsTextHistory, protocols_origin, IsHistoryFor, list_origin}, Rounds.{AreSystemsIn, IsSystemIn, origin_of}, Asked.{AreRoundsFor}};
 
-use crate::numbered::{Makings, add_numbered, protocols_numbered};
-use crate::self_id::id_of_self;
-use crate::systems::systems_of;
+use crate::equations::{add_used, basic};
+use crate::numbered::{Makings, add_numbered, all_numbered};
 use std::alloc::{AllocError, Global};
 use swreq_births::{History, System};
 use swreq_machine::Machine;
 use swreq_machine::lowering::FuncId;
-use swreq_machine::param::{ParamTable, TermId};
+use swreq_machine::param::{ParamId, ParamTable, TermId};
 use swreq_machine::symbols::Text;
 use swreq_machine::valid::Protocols;
 use swreq_machine::world::World;
@@ -25,37 +22,89 @@ use swreq_text::Seq;
 #[derive(Drop)]
 pub struct TextHistory<'b> {
     pub world: &'b World,
-    /// The id of `Self` in the requirements of the protocols, or None if no protocol inherits one.
+    /// The id of `Self`, or None if the table has none.
     pub self_id: Option<TermId>,
     pub systems: Seq<System>,
+}
+
+/// The system of a round.
+fn system_of(makings: Makings<'_>, round: usize) -> Result<System, AllocError>
+    requires { round < length makings.rounds.now }
+    ensures { IfOk result (IsSystemIn makings.entry.text (origin_of makings.entry) round) }
+{
+    let mut given = basic(makings)?;
+    add_used(makings, round, &mut given)?;
+    let rules = makings.rounds.written_out(makings.alloc, round)?;
+    Ok(System {
+        base: makings.base,
+        below: makings.first.saturating_sub(1),
+        rules: Seq::new(rules),
+        given: Seq::new(given),
+    })
+}
+
+/// The systems of the rounds.
+fn systems_of(makings: Makings<'_>) -> Result<Vec<System>, AllocError>
+    ensures { IfOk result (λ v. AreSystemsIn makings.entry.text (origin_of makings.entry) v.items) }
+{
+    let mut systems = Vec::new(makings.alloc);
+    for k in 0..makings.rounds.count() {
+        let system = system_of(makings, k)?;
+        systems.push(system)?;
+    }
+    Ok(systems)
 }
 
 /// The systems of the rounds of the protocols.
 fn protocols_systems(
     alloc: Global,
-    world: &World,
-    table: &ParamTable,
+    text: &Text<'_>,
     protocols: &Protocols,
 ) -> Result<Vec<System>, AllocError>
-    requires text { IsTextOver table.now world.now }
-    requires rounds { (limits : Limits) × AreRounds limits
-        (protocols_of (world_by table.now world.now)) protocols.now.rounds }
-    ensures { IfOk result (λ v. AreSystemsOf (symbols_of world.now.lexicon) table.now
-        (protocols_origin world.now protocols.now.rounds) v.items) }
+    requires { (limits : Limits) × AreRounds limits (protocols_of (world_of text.now))
+        protocols.now.rounds }
+    ensures { IfOk result (λ v. AreSystemsIn text.now
+        (protocols_origin text.now.world.now protocols.now.rounds) v.items) }
 {
-    let all = protocols_numbered(alloc, world)?;
-    let systems = systems_of(Makings {
+    let all = all_numbered(alloc, text)?;
+    let rounds = protocols.rounds();
+    check_places(0, rounds.count())?;
+    let makings = Makings {
         alloc,
-        world,
-        table,
+        text: *text,
         basic: true,
         all: &all,
-        rounds: protocols.rounds(),
+        rounds,
         base: 0,
-        below: 0,
         first: 0,
-    })?;
+    };
+    let systems = systems_of(makings)?;
     Ok(systems)
+}
+
+/// Whether the id stands for `Self`.
+fn is_self(table: &ParamTable, t: TermId) -> bool
+    requires { IsOf table.now t }
+    ensures { Decides result (term_at table.now t ≡ self) }
+{
+    match table.split(t) {
+        None => table.head(t) == (ParamId { depth: 0, index: 0 }),
+        Some(_) => false,
+    }
+}
+
+/// The id of `Self`, or None if the table has none.
+fn id_of_self(table: &ParamTable) -> Option<TermId>
+    ensures { (t : TermId) → IsOf table.now t → (term_at table.now t ≡ self) ↔ (result ≡ Some t) }
+{
+    // No two type parameters of the table are equal.
+    let count = table.len();
+    for place in 0..count {
+        if is_self(table, TermId { place }) {
+            return Some(TermId { place });
+        }
+    }
+    None
 }
 
 /// What is the same for the histories of all signatures of a text.
@@ -70,45 +119,53 @@ pub fn text_history_of<'b>(
         (protocols_of (world_by table.now world.now)) protocols.now.rounds }
     ensures { IfOk result (IsTextHistory table.now world.now protocols.now) }
 {
-    let systems = protocols_systems(alloc, world, table, protocols)?;
+    let systems = protocols_systems(alloc, &Text { world, table }, protocols)?;
     Ok(TextHistory {
         world,
-        self_id: id_of_self(world, table),
+        self_id: id_of_self(table),
         systems: Seq::new(systems),
     })
 }
 
-/// The systems of the rounds of the machine of a signature, where this many systems stand before them.
+/// Whether each system after these has a place of 64 bits. Past these there is no room, which is answered as if memory ran out.
+fn check_places(first: usize, count: usize) -> Result<(), AllocError>
+    ensures { OnOk result (first + count < 2 ^ 64) }
+{
+    match first.checked_add(count) {
+        Some(_) => Ok(()),
+        None => Err(AllocError),
+    }
+}
+
+/// The systems of the rounds of the machine of a signature. Those of the protocols stand before them.
 fn own_systems(
     alloc: Global,
     text: &Text<'_>,
     protocols: &Protocols,
     machine: &Machine<'_>,
     f: FuncId,
-    first: usize,
 ) -> Result<Vec<System>, AllocError>
-    requires text { IsTextOver text.now.table.now text.now.world.now }
-    requires rounds { AreRoundsFor text.now.table.now text.now.world.now f protocols.now
-        machine.now }
-    requires first { first ≡ length protocols.now.rounds }
-    ensures systems { IfOk result (λ v. AreSystemsOf (symbols_of text.now.world.now.lexicon)
-        text.now.table.now (list_origin text.now.world.now f protocols.now machine.now) v.items) }
-    ensures places { OnOk result (first + length machine.now.rounds < 2 ^ 64) }
+    requires { AreRoundsFor text.now.table.now text.now.world.now f protocols.now machine.now }
+    ensures systems { IfOk result (λ v. AreSystemsIn text.now
+        (list_origin text.now.world.now f protocols.now machine.now) v.items) }
+    ensures places { OnOk result
+        (length protocols.now.rounds + length machine.now.rounds < 2 ^ 64) }
 {
     let list = text.world.bare_signature(alloc, f)?;
     let mut all = Vec::new(alloc);
     add_numbered(None, &list, &mut all)?;
-    let systems = systems_of(Makings {
+    let first = protocols.rounds().count();
+    check_places(first, machine.rounds().count())?;
+    let makings = Makings {
         alloc,
-        world: text.world,
-        table: text.table,
+        text: *text,
         basic: false,
         all: &all,
         rounds: machine.rounds(),
         base: protocols.rules().count(),
-        below: first.saturating_sub(1),
         first,
-    })?;
+    };
+    let systems = systems_of(makings)?;
     Ok(systems)
 }
 
@@ -122,21 +179,20 @@ pub fn history_of<'b>(
     machine: &Machine<'_>,
     f: FuncId,
 ) -> Result<History<'b>, AllocError>
-    requires text { IsTextOver text.now.table.now text.now.world.now }
     requires base { IsTextHistory text.now.table.now text.now.world.now protocols.now base.now }
     requires rounds { AreRoundsFor text.now.table.now text.now.world.now f protocols.now
         machine.now }
-    ensures { IfOk result (IsHistoryFor (world_by text.now.table.now text.now.world.now) f) }
+    ensures { IfOk result (IsHistoryFor (world_of text.now) f) }
 {
-    let below = base.systems.items();
-    let systems = own_systems(alloc, text, protocols, machine, f, below.len())?;
+    let systems = own_systems(alloc, text, protocols, machine, f)?;
+    let alphabet = Alphabet {
+        world: base.world,
+        self_id: base.self_id,
+        params: machine.params(),
+    };
     Ok(History {
-        alphabet: Alphabet {
-            world: base.world,
-            self_id: base.self_id,
-            params: machine.params(),
-        },
-        below,
+        alphabet,
+        below: base.systems.items(),
         own: Seq::new(systems),
     })
 }

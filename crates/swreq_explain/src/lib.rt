@@ -6,11 +6,8 @@ mod equations;
 mod explaining;
 mod history;
 mod numbered;
-mod self_id;
 mod stating;
-mod systems;
 mod validity;
-mod writing;
 
 pub use explaining::{derivation_of, explain, explain_by};
 pub use history::{TextHistory, history_of, text_history_of};

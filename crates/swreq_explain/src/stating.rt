@@ -1,112 +1,83 @@
 //! How requirements of a list are stated.
-ghost use Rattle.std.specs.Prelude.{◌≡◌, IfOk, None, OnOk};
-ghost use Rattle.swreq_machine.specs.swreq_param.{Owned.{as_term}, Tables.{IsOf, term_at}};
-ghost use Rattle.swreq_machine.specs.swreq_derive.{Derivation.TermRequirement.{Conforms, Equals, IsAnyObject}, Derivation.TermStatement.{Requires}};
-ghost use Rattle.swreq_readings.specs.swreq_word.declared.symbols.Symbol.TheVariants.{Layout, Proto};
-ghost use Rattle.swreq_machine.specs.swreq_complete.Alike.{ReduceAlike};
-ghost use Rattle.swreq_derivation.specs.UnderWay.{AreStatedEqual, ContinuesFrom, States};
-ghost use Rattle.swreq_births.specs.Systems.{FitsHistory, HasShownSides, requirement_by};
-ghost use Rattle.swreq_explain.specs.Stating.{IsReady, IsWordOf, Vanishes, alphabet_at, rules_of};
+ghost use Rattle.std.specs.Prelude.{IfOk, IsTrue, OnOk};
+ghost use Rattle.swreq_machine.specs.{swreq_param.{Owned.{as_term}, Tables.{IsOf}}, swreq_derive.Derivation.{TermRequirement.{Equals}, TermStatement.{Requires}}};
+ghost use Rattle.swreq_derivation.specs.UnderWay.{ContinuesFrom, States, StatesBound};
+ghost use Rattle.swreq_births.specs.Systems.{FitsHistory, requirement_by};
+ghost use Rattle.swreq_explain.specs.Stating.{AreEquated, CanEquate, CanRead, CanState, Vanishes, bounded, symbol_of};
 
 use crate::validity::{RoundReader, WordOfType, read_side, reflect};
 use std::alloc::AllocError;
-use swreq_births::{OwnedRequirement, conform_by_member, link};
-use swreq_derivation::{Derivation, add_same_conf, add_same_layout, add_symm, add_trans, are_one};
-use swreq_machine::param::{ProtoId, TermId};
+use swreq_births::{History, OwnedRequirement, ReadingPlace, conform_by_member, link};
+use swreq_derivation::{Bound, Derivation, add_same_bound, add_symm, add_trans, are_one};
+use swreq_machine::param::TermId;
 use swreq_machine::word::Symbol;
 
-/// States that the type parameter conforms to the protocol. The protocol's symbol vanishes after the word of the type parameter.
-pub(crate) fn state_conformance(
-    reader: RoundReader<'_>,
+/// States that the type parameter conforms to the bound, if one written requirement of a protocol gives it, and answers whether one does.
+fn bound_by_member(
+    history: &History<'_>,
     derivation: &mut Derivation,
-    side: WordOfType<'_>,
-    p: ProtoId,
-    longer: &[Symbol],
-) -> Result<(), AllocError>
-    requires ready { IsReady reader derivation.old }
-    requires side { IsWordOf reader side }
-    requires vanishes { Vanishes reader side (Proto p.rank) longer.now }
-    ensures says { OnOk result
-        (States derivation.new (Requires (Conforms (as_term side.entry.param.now) p))) }
-    ensures continues { ContinuesFrom (FitsHistory reader.entry.history.now) derivation.old
-        derivation.new }
+    t: TermId,
+    bound: Bound,
+) -> Result<bool, AllocError>
+    requires { IsOf derivation.old.table t }
+    ensures says { IfOk result
+        (λ done. IsTrue done → StatesBound derivation.old derivation.new t bound) }
+    ensures continues { ContinuesFrom (FitsHistory history.now) derivation.old derivation.new }
 {
-    let ids = read_side(reader, derivation, side)?;
-    if conform_by_member(reader.history, derivation, ids.itself, p)? {
-        return Ok(());
+    match bound {
+        Bound::Protocol(p) => conform_by_member(history, derivation, t, p),
+        Bound::AnyObject => Ok(false),
     }
-    link(
-        reader.history,
-        derivation,
-        reader.system,
-        reader.t,
-        side.word,
-        longer,
-    )?;
-    add_same_conf(derivation, ids.itself, ids.word, p)?;
-    Ok(())
 }
 
-/// States that the type parameter conforms to `AnyObject`. The symbol of `AnyObject` vanishes after the word of the type parameter.
-pub(crate) fn state_layout(
+/// States that the type parameter conforms to the bound. The symbol of the bound vanishes after the word of the type parameter.
+fn state_bound(
     reader: RoundReader<'_>,
     derivation: &mut Derivation,
     side: WordOfType<'_>,
+    bound: Bound,
     longer: &[Symbol],
 ) -> Result<(), AllocError>
-    requires ready { IsReady reader derivation.old }
-    requires side { IsWordOf reader side }
-    requires vanishes { Vanishes reader side Layout longer.now }
+    requires side { CanRead reader derivation.old side }
+    requires vanishes { Vanishes reader side (symbol_of bound) longer.now }
     ensures says { OnOk result
-        (States derivation.new (Requires (IsAnyObject (as_term side.entry.param.now)))) }
+        (States derivation.new (Requires (bounded bound (as_term side.entry.param.now)))) }
     ensures continues { ContinuesFrom (FitsHistory reader.entry.history.now) derivation.old
         derivation.new }
 {
+    let scope = ReadingPlace {
+        system: reader.system,
+        owner: None,
+        for_self: reader.t,
+    };
     let ids = read_side(reader, derivation, side)?;
-    link(
-        reader.history,
-        derivation,
-        reader.system,
-        reader.t,
-        side.word,
-        longer,
-    )?;
-    add_same_layout(derivation, ids.itself, ids.word)?;
-    Ok(())
+    if bound_by_member(reader.history, derivation, ids.itself, bound)? {
+        return Ok(());
+    }
+    link(reader.history, derivation, scope, side.word, longer)?;
+    add_same_bound(derivation, ids.itself, ids.word, bound)
 }
 
 /// States that two type parameters are equal, unless they are identical. The rules reduce their words to one word. Answers their ids.
-pub(crate) fn equate(
+fn equate(
     reader: RoundReader<'_>,
     derivation: &mut Derivation,
     left: WordOfType<'_>,
     right: WordOfType<'_>,
 ) -> Result<(TermId, TermId), AllocError>
-    requires ready { IsReady reader derivation.old }
-    requires left { IsWordOf reader left }
-    requires right { IsWordOf reader right }
-    requires alike { ReduceAlike (rules_of reader) right.word.now left.word.now }
-    ensures ids { IfOk result (λ r. IsOf derivation.new.table r.0 × IsOf derivation.new.table
-        r.1) }
-    ensures first { IfOk result
-        (λ r. term_at derivation.new.table r.0 ≡ as_term left.entry.param.now) }
-    ensures last { IfOk result (λ r. term_at derivation.new.table r.1
-        ≡ as_term right.entry.param.now) }
-    ensures equal { OnOk result (AreStatedEqual derivation.new (as_term left.entry.param.now)
-        (as_term right.entry.param.now)) }
+    requires { CanEquate reader derivation.old left right }
+    ensures equated { IfOk result (AreEquated left.entry right.entry derivation.new) }
     ensures continues { ContinuesFrom (FitsHistory reader.entry.history.now) derivation.old
         derivation.new }
 {
+    let scope = ReadingPlace {
+        system: reader.system,
+        owner: None,
+        for_self: reader.t,
+    };
     let first = read_side(reader, derivation, left)?;
     let last = read_side(reader, derivation, right)?;
-    link(
-        reader.history,
-        derivation,
-        reader.system,
-        reader.t,
-        right.word,
-        left.word,
-    )?;
+    link(reader.history, derivation, scope, right.word, left.word)?;
     add_trans(derivation, last.itself, last.word, first.word)?;
     add_symm(derivation, last.itself, first.word)?;
     add_trans(derivation, first.itself, first.word, last.itself)?;
@@ -120,10 +91,7 @@ fn state_equality(
     left: WordOfType<'_>,
     right: WordOfType<'_>,
 ) -> Result<(), AllocError>
-    requires ready { IsReady reader derivation.old }
-    requires left { IsWordOf reader left }
-    requires right { IsWordOf reader right }
-    requires alike { ReduceAlike (rules_of reader) right.word.now left.word.now }
+    requires { CanEquate reader derivation.old left right }
     ensures says { OnOk result (States derivation.new
         (Requires (Equals (as_term left.entry.param.now) (as_term right.entry.param.now)))) }
     ensures continues { ContinuesFrom (FitsHistory reader.entry.history.now) derivation.old
@@ -144,28 +112,22 @@ pub(crate) fn state_requirement(
     left: &[Symbol],
     right: &[Symbol],
 ) -> Result<(), AllocError>
-    requires ready { IsReady reader derivation.old }
-    requires sides { HasShownSides (alphabet_at reader) None
-        (rules_of reader) r.now left.now right.now }
-    requires alike { ReduceAlike (rules_of reader) right.now left.now }
+    requires { CanState reader derivation.old r.now left.now right.now }
     ensures says { OnOk result (States derivation.new (Requires (requirement_by r.now))) }
     ensures continues { ContinuesFrom (FitsHistory reader.entry.history.now) derivation.old
         derivation.new }
 {
     match r {
-        OwnedRequirement::Conf { subject, proto } => {
-            let side = WordOfType {
-                param: subject,
-                word: right,
-            };
-            state_conformance(reader, derivation, side, *proto, left)
+        OwnedRequirement::Conf {
+            subject: param,
+            proto,
+        } => {
+            let side = WordOfType { param, word: right };
+            state_bound(reader, derivation, side, Bound::Protocol(*proto), left)
         }
-        OwnedRequirement::Layout { subject } => {
-            let side = WordOfType {
-                param: subject,
-                word: right,
-            };
-            state_layout(reader, derivation, side, left)
+        OwnedRequirement::Layout { subject: param } => {
+            let side = WordOfType { param, word: right };
+            state_bound(reader, derivation, side, Bound::AnyObject, left)
         }
         OwnedRequirement::Same { left: t, right: u } => {
             let first = WordOfType {

@@ -1,17 +1,15 @@
 //! Type parameters of a list, read in a derivation, and how it is stated that they are valid.
-ghost use Rattle.std.specs.Prelude.{IfOk, ◌≡◌, MatchOption, OnOk};
-ghost use Rattle.swreq_machine.specs.swreq_param.{Tables.{term_at, IsOf}, Owned.{as_term}, Terms.Term.{Generic, Member}};
-ghost use Rattle.swreq_derivation.specs.UnderWay.{ContinuesFrom, AreStatedEqual, States};
+ghost use Rattle.std.specs.Prelude.{IfOk, ◌≡◌, OnOk};
+ghost use Rattle.swreq_machine.specs.{swreq_param.{Tables.{term_at, IsOf}, Owned.{as_term}, Terms.Term.{Member}}, swreq_derive.Derivation.{TermRequirement.{Equals}, TermStatement.{IsValid}}};
+ghost use Rattle.swreq_machine.specs.swreq_derive.Derivation.TermStatement.{Requires};
+ghost use Rattle.swreq_derivation.specs.UnderWay.{AreEqualIds, ContinuesFrom, States};
 ghost use Rattle.swreq_births.specs.Systems.{FitsHistory};
-ghost use Rattle.swreq_explain.specs.Stating.{IsReadAt, IsReady, IsWordOf, alphabet_at};
-ghost use Rattle.swreq_machine.specs.swreq_derive.{Derivation.TermRequirement.{Equals}, Derivation.TermStatement.{IsValid, Requires}};
+ghost use Rattle.swreq_explain.specs.Stating.{CanRead, IsReadAt, IsSplitOf, alphabet_at};
 ghost use Rattle.swreq_readings.specs.Readable.{IsGiven};
 
 use std::alloc::{AllocError, Global};
 use swreq_births::{History, ReadingPlace, declare, read_type};
-use swreq_derivation::{
-    Derivation, add_assoc_decl, add_assoc_name, add_generic, add_reflex, add_same_conf,
-};
+use swreq_derivation::{Bound, Derivation, add_generic, add_member, add_reflex, add_same_bound};
 use swreq_machine::lexicon::ProtocolName;
 use swreq_machine::param::{Step, TermId, TypeParam};
 use swreq_machine::word::Symbol;
@@ -22,7 +20,6 @@ use swreq_text::Seq;
 /// generic parameters, so any type parameter will do for `t`.
 #[derive(Clone, Copy)]
 pub(crate) struct RoundReader<'a> {
-    pub alloc: Global,
     pub history: &'a History<'a>,
     pub system: usize,
     pub t: TermId,
@@ -48,8 +45,7 @@ pub(crate) fn read_side(
     derivation: &mut Derivation,
     side: WordOfType<'_>,
 ) -> Result<ReadAs, AllocError>
-    requires ready { IsReady reader derivation.old }
-    requires side { IsWordOf reader side }
+    requires { CanRead reader derivation.old side }
     ensures read { IfOk result
         (IsReadAt reader.entry side.entry
         (term_at derivation.old.table reader.entry.t) derivation.new) }
@@ -68,18 +64,14 @@ pub(crate) fn read_side(
 
 /// The type parameter without its last step, and that step, or None for a generic parameter.
 fn split(alloc: Global, t: &TypeParam) -> Result<Option<(TypeParam, Step)>, AllocError>
-    ensures { IfOk result (λ o. MatchOption o (as_term t.now ≡ Generic t.now.head)
-        (λ b. as_term t.now ≡ Member (as_term b.0) b.1)) }
+    ensures { IfOk result (IsSplitOf t.now) }
 {
     match t.steps.items() {
         [] => Ok(None),
         [front @ .., last] => {
             let steps = Vec::from_slice(alloc, front)?;
-            let base = TypeParam {
-                head: t.head,
-                steps: Seq::new(steps),
-            };
-            Ok(Some((base, *last)))
+            let (head, steps) = (t.head, Seq::new(steps));
+            Ok(Some((TypeParam { head, steps }, *last)))
         }
     }
 }
@@ -93,12 +85,9 @@ fn validate_member(
     step: Step,
     named: ProtocolName,
 ) -> Result<TermId, AllocError>
-    requires ready { IsReady reader derivation.old }
-    requires ids { IsOf derivation.old.table base.itself × IsOf derivation.old.table base.word }
+    requires base { AreEqualIds derivation.old base.itself base.word }
     requires given { IsGiven (alphabet_at reader) derivation.old
         (term_at derivation.old.table base.word) step named }
-    requires equal { AreStatedEqual derivation.old (term_at derivation.old.table base.itself)
-        (term_at derivation.old.table base.word) }
     ensures is_of { IfOk result (IsOf derivation.new.table) }
     ensures stands { IfOk result
         (λ v. term_at derivation.new.table v ≡ Member
@@ -109,12 +98,10 @@ fn validate_member(
         derivation.new }
 {
     let v = derivation.member(base.itself, step)?;
-    add_same_conf(derivation, base.itself, base.word, named.proto)?;
+    let bound = Bound::Protocol(named.proto);
+    add_same_bound(derivation, base.itself, base.word, bound)?;
     let of = (named.proto, named.name);
-    match step {
-        Step::Name(_) => add_assoc_name(derivation, base.itself, of, v)?,
-        Step::Bound(_) => add_assoc_decl(derivation, base.itself, of, v)?,
-    }
+    add_member(derivation, base.itself, of, step, v)?;
     Ok(v)
 }
 
@@ -124,8 +111,7 @@ fn validate(
     derivation: &mut Derivation,
     side: WordOfType<'_>,
 ) -> Result<TermId, AllocError>
-    requires ready { IsReady reader derivation.old }
-    requires side { IsWordOf reader side }
+    requires { CanRead reader derivation.old side }
     ensures is_of { IfOk result (IsOf derivation.new.table) }
     ensures stands { IfOk result
         (λ v. term_at derivation.new.table v ≡ as_term side.entry.param.now) }
@@ -133,7 +119,7 @@ fn validate(
     ensures continues { ContinuesFrom (FitsHistory reader.entry.history.now) derivation.old
         derivation.new }
 {
-    match split(reader.alloc, side.param)? {
+    match split(derivation.alloc(), side.param)? {
         None => {
             let t = derivation.param(side.param.head)?;
             add_generic(derivation, t)?;
@@ -164,14 +150,12 @@ pub(crate) fn reflect(
     derivation: &mut Derivation,
     side: WordOfType<'_>,
 ) -> Result<(), AllocError>
-    requires ready { IsReady reader derivation.old }
-    requires side { IsWordOf reader side }
+    requires { CanRead reader derivation.old side }
     ensures says { OnOk result (States derivation.new
         (Requires (Equals (as_term side.entry.param.now) (as_term side.entry.param.now)))) }
     ensures continues { ContinuesFrom (FitsHistory reader.entry.history.now) derivation.old
         derivation.new }
 {
     let t = validate(reader, derivation, side)?;
-    add_reflex(derivation, t)?;
-    Ok(())
+    add_reflex(derivation, t)
 }

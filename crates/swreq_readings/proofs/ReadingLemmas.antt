@@ -1,17 +1,24 @@
 -- What lines allow after a type parameter, in a derivation and on the derivations that it grows to.
-use Rattle.std.proofs.Common.{◌≡◌, inl, inr, ℕ, zero, suc, ◌+◌, ◌<◌, Bool, List, [], ◌∷◌, ◌++◌, length, drop, take, get_or, slice_get, ◌≤◌}
-use Rattle.std.proofs.Common.{arith, Option, Some, None, MatchOption, true, false, refl, sym, ap, subst, ◌∙◌}
-use Rattle.std.{proofs.lemmas.{List.{drop_all, drop_more, take_more}, Option.{MatchOption-at_some, same_Some}}, specs.Bool.{Decides}}
-use Rattle.swreq_derive.specs.swreq_param.declared.ids.{NameId.{NameId}, TermId.{TermId}, Step.{Step}}
+use Rattle.std.proofs.Common.{◌≡◌, inl, inr, ℕ, zero, suc, ◌+◌, ◌<◌, Bool, List, [], ◌∷◌, ◌++◌, length, drop, take, get_or, slice_get}
+use Rattle.std.proofs.Common.{arith, Option, Some, MatchOption, true, false, refl, sym, ap, subst, ◌∙◌}
+use Rattle.std.proofs.lemmas.{List.{drop_more, take_more}, Option.{MatchOption-at_some, get_or_from_slice_get, same_Some}}
+use Rattle.std.specs.Bool.{Decides}
+use Rattle.swreq_derive.specs.swreq_param.declared.ids.{NameId.{NameId}, ProtoId.{ProtoId}, TermId.{TermId}, Step.{Step}}
 use Rattle.swreq_derive.specs.swreq_param.{declared.ids.Step.TheVariants.{Name as NameStep}, Tables.{IsOf, term_at}, Terms.{Term}}
 use Rattle.swreq_derive.specs.Derivation.{TermRequirement.{Conforms, IsAnyObject}, TermStatement.{Requires}}
 use Rattle.swreq_word.specs.declared.symbols.Symbol.{Symbol, TheVariants.{Proto, Member, Param, Name, Layout}}
 use Rattle.swreq_derivation.specs.declared.{derivation.Derivation.{Derivation}, statements.Bound.{Bound}}
 use Rattle.swreq_derivation.specs.declared.statements.Bound.TheVariants.{AnyObject, Protocol}
 use Rattle.swreq_derivation.specs.UnderWay.{AddsLines, AreEqualIds, AreStatedEqual, States, StatesBound}
-use Rattle.swreq_readings.specs.{declared.alphabet.Alphabet.{Alphabet}, Alphabets.{lexicon}}
+use Rattle.swreq_readings.specs.declared.alphabet.Alphabet.{Alphabet}
+use Rattle.swreq_derive.specs.declared.requirements.Requirement.{Requirement, TheVariants.{Conf}}
+use Rattle.swreq_readings.specs.Inherited.{IsParentBy}
+use Rattle.swreq_readings.specs.Alphabets.{IsFromAbove, IsMember, IsParentAt, IsParentFor, lexicon, written_at}
+use Rattle.swreq_derive.proofs.swreq_lemmas.Stable.{less_stable, truncated_map}
+use Rattle.swreq_world.specs.swreq_lexicon.Views.{IsProtocol, depth}
+use mathlib.Core.Logic.{∥∥₁_elim}
 use Rattle.swreq_readings.specs.Readable.{read_symbol, read_word, IsGiven, IsGivenAt, IsOfStep, IsReadAs, AreReadEqual, AllowsName}
-use Rattle.swreq_readings.specs.Readable.{AllowsSymbol, AllowsWord}
+use Rattle.swreq_readings.specs.Readable.{AllowsSymbol, AllowsWord, IsCarried}
 use Rattle.swreq_world.specs.swreq_lexicon.declared.pair.ProtocolName.{ProtocolName}
 use Rattle.swreq_derivation.proofs.DerivationLemmas as derivations
 
@@ -36,6 +43,28 @@ module _ (g : Alphabet) (s u : Derivation) (grows : AddsLines s u) where
   pub word_still : (t : Term) (w : List Symbol) → AllowsWord g s t w → AllowsWord g u t w
   word_still t [] h = h
   word_still t (x ∷ w) h = (symbol_still t x h.0, word_still (read_symbol g t x) w h.1)
+
+-- ---- written inheritance
+
+module _ (g : Alphabet) where
+  pub goes_down : (p q : ProtoId) (k : ℕ) → IsParentAt g p k q → depth (lexicon g) q < depth (lexicon g) p
+  goes_down p q k at = less_stable _ _ (truncated_map (λ h. h.goes_down p q k at) g.inherited)
+
+  pub of_text : (p : ProtoId) (a : NameId) → IsMember g p a → IsProtocol (lexicon g) p
+  of_text p a is = less_stable _ _ (truncated_map (λ h. h.of_text p a is) g.inherited)
+
+  -- a protocol that does not declare its member name is written to inherit one that has it
+  pub has_parent : (p : ProtoId) (a : NameId) → IsFromAbove g p a → ((k : ℕ) (q : ProtoId) → IsParentFor g p a k q → ⊥) → ⊥
+  has_parent p a is none = ∥∥₁_elim g.inherited (λ x y. absurd x) (λ h. elim (h.from p a is.0) [
+    | inl declared ↦ is.1 declared
+    | inr w ↦ none w.0 w.1 (w.2, w.3)
+  ])
+
+  -- the requirement at the place where P inherits Q is `[Self : Q]`
+  pub parent_here : (p q : ProtoId) (a : NameId) (k : ℕ) (d : Requirement) (list : List Requirement) → list ≡ written_at g p
+      → IsParentFor g p a k q → IsParentBy g.self_id (get_or list k d) q × IsMember g q a
+  parent_here p q a k d list e ((s, id, at), is) =
+      ((s, id, get_or_from_slice_get list k (Conf s q) d (ap (λ z. slice_get z k) e ∙ at)), is)
 
 -- ---- words one after the other
 
@@ -94,13 +123,6 @@ module _ (g : Alphabet) (s : Derivation) (t : Term) (a : NameId) where
   pub given_named : AllowsName g s t a → (n : ProtocolName) × IsGiven g s t (NameStep a) n
   given_named w = (record { proto = w.0; name = a }, (w.1.0, (w.1.1, refl, w.2)))
 
-  -- a search finds such an associated type if and only if lines allow the name
-  pub name_told : (o : Option ProtocolName) (b : Bool) → MatchOption o ((n : ProtocolName) → IsGiven g s t (NameStep a) n → ⊥)
-      (IsGiven g s t (NameStep a))
-      → MatchOption o (b ≡ false) (λ n. b ≡ true) → Decides b (AllowsName g s t a)
-  name_told (Some n) b h e = ((λ i. named_given n h), λ w. e)
-  name_told None b h e = ((λ i. absurd cc), λ w. absurd (let m = given_named w in h m.0 m.1))
-
 -- what is said of the associated type with a rank, of the pair that stands there
 pub given_at : (g : Alphabet) (s : Derivation) (t : Term) (x : Step) (k : ℕ) (n m : ProtocolName)
     → slice_get (lexicon g).associated k ≡ Some n → IsGivenAt g s t x k m
@@ -110,6 +132,9 @@ given_at g s t x k n m e w =
     subst (λ (z : ProtocolName). IsOfStep x k z × States s (Requires (Conforms t z.proto))) same (w.1, w.2)
 
 -- ---- ids of a derivation that grows
+
+pub equal_as : (s : Derivation) (a b t u : Term) → a ≡ t → b ≡ u → AreStatedEqual s t u → AreStatedEqual s a b
+equal_as s a b t u e f w = subst (λ z. AreStatedEqual s z b) (sym e) (subst (AreStatedEqual s t) (sym f) w)
 
 module _ (s u : Derivation) (grows : AddsLines s u) where
   pub is_still : (t : TermId) → IsOf s.table t → IsOf u.table t
@@ -122,32 +147,18 @@ module _ (s u : Derivation) (grows : AddsLines s u) where
   bound_still t (Protocol p) h w = subst (λ z. States u (Requires (Conforms z p))) (sym (term_still t h)) (grows.stays _ w)
   bound_still t AnyObject h w = subst (λ z. States u (Requires (IsAnyObject z))) (sym (term_still t h)) (grows.stays _ w)
 
-  -- if the grown derivation says that what two ids stood for is equal, it says the same of what they stand for now
-  pub equal_now : (t v : TermId) → IsOf s.table t → IsOf s.table v → AreStatedEqual u (term_at s.table t) (term_at s.table v)
-      → AreStatedEqual u (term_at u.table t) (term_at u.table v)
-  equal_now t v h k w = subst (λ z. AreStatedEqual u z (term_at u.table v)) (sym (term_still t h))
-      (subst (AreStatedEqual u (term_at s.table t)) (sym (term_still v k)) w)
+  -- if the grown derivation says that what two ids stood for is equal, the ids are equal on it
+  pub equal_ids_now : (t v : TermId) → IsOf s.table t → IsOf s.table v → AreStatedEqual u (term_at s.table t) (term_at s.table v)
+      → AreEqualIds u t v
+  equal_ids_now t v h k w = (is_still t h, is_still v k, equal_as u _ _ _ _ (term_still t h) (term_still v k) w)
 
-  pub equals_still : (t v : TermId) → IsOf s.table t → IsOf s.table v → AreStatedEqual s (term_at s.table t) (term_at s.table v)
-      → AreStatedEqual u (term_at u.table t) (term_at u.table v)
-  equals_still t v h k w = equal_now t v h k (again w)
+  -- ids that a derivation says are equal are equal in the grown derivation
+  pub equal_ids_still : (t v : TermId) → AreEqualIds s t v → AreEqualIds u t v
+  equal_ids_still t v w = equal_ids_now t v w.0 w.1 (again w.2)
     where
       again : {y z : Term} → AreStatedEqual s y z → AreStatedEqual u y z
       again (inl e) = inl e
       again (inr w) = inr (grows.stays _ w)
-
--- ids that a derivation says are equal are equal in the grown derivation
-pub equal_ids_still : (s u : Derivation) → AddsLines s u → (t v : TermId) → AreEqualIds s t v → AreEqualIds u t v
-equal_ids_still s u grows t v w =
-    (is_still s u grows t w.0, is_still s u grows v w.1, equals_still s u grows t v w.0 w.1 w.2)
-
--- if the grown derivation says that what two ids stood for is equal, the ids are equal on it
-pub equal_ids_now : (s u : Derivation) → AddsLines s u → (t v : TermId) → IsOf s.table t → IsOf s.table v
-    → AreStatedEqual u (term_at s.table t) (term_at s.table v) → AreEqualIds u t v
-equal_ids_now s u grows t v h k w = (is_still s u grows t h, is_still s u grows v k, equal_now s u grows t v h k w)
-
-pub equal_as : (s : Derivation) (a b t u : Term) → a ≡ t → b ≡ u → AreStatedEqual s t u → AreStatedEqual s a b
-equal_as s a b t u e f w = subst (λ z. AreStatedEqual s z b) (sym e) (subst (AreStatedEqual s t) (sym f) w)
 
 -- if lines allow a symbol after an id, they allow it after that id in the grown derivation
 pub symbol_now : (g : Alphabet) (s u : Derivation) → AddsLines s u → (t : TermId) (x : Symbol) → IsOf s.table t → AllowsSymbol g s
@@ -157,56 +168,42 @@ symbol_now g s u grows t x h w = subst (λ z. AllowsSymbol g u z x) (sym (term_s
 
 -- ---- a word carried, symbol by symbol
 
--- The symbols before this place are carried from a to b. After them, a's word is read as t and b's as u.
-pub record IsCarrying (g : Alphabet) (s : Derivation) (a b : Term) (w : List Symbol) (k : ℕ) (t u : Term) : Type 0 where
-  pub left : AllowsWord g s t (drop k w)
-  pub first : read_word g t (drop k w) ≡ read_word g a w
-  pub second : read_word g u (drop k w) ≡ read_word g b w
-  pub whole : (v : Derivation) → AddsLines s v → AllowsWord g v u (drop k w) → AllowsWord g v b w
-  pub equal : AreStatedEqual s t u
+-- lines allow the symbol at a place after what the symbols before it are read as
+pub symbol_after : (g : Alphabet) (s n : Derivation) (t u : TermId) (w : List Symbol) (k : ℕ) (d : Symbol) (m : TermId × TermId)
+    → AddsLines s n → k < length w → AllowsWord g s (term_at s.table t) w → IsCarried g s n t u (take k w) m
+    → AllowsSymbol g n (term_at n.table m.0) (get_or w k d)
+symbol_after g s n t u w k d m grows within h c = subst (λ z. AllowsSymbol g n z (get_or w k d)) (sym c.first)
+    (symbol_still g s n grows _ (get_or w k d) (says_place g s (term_at s.table t) w k d within h))
 
-pub carrying_from : (g : Alphabet) (s : Derivation) (a b : Term) (w : List Symbol) → AllowsWord g s a w → AreStatedEqual s a b
-    → IsCarrying g s a b w 0 a b
-carrying_from g s a b w h e = record { left = h; first = refl; second = refl; whole = λ v i y. y; equal = e }
+-- A word is carried, and then another one from there.
+pub carried_then : (g : Alphabet) (s n v : Derivation) (t u : TermId) (w x : List Symbol) (m r : TermId × TermId) → AddsLines n v
+    → IsCarried g s n t u w m → IsCarried g n v m.0 m.1 x r → IsCarried g s v t u (w ++ x) r
+carried_then g s n v t u w x m r grows a b = record {
+  word = word_both g v (term_at s.table u) w x (word_still g n v grows _ w a.word) (subst (λ z. AllowsWord g v z x) a.second b.word);
+  first = b.first ∙ ap (λ z. read_word g z x) a.first ∙ sym (read_on g (term_at s.table t) w x);
+  second = b.second ∙ ap (λ z. read_word g z x) a.second ∙ sym (read_on g (term_at s.table u) w x);
+  equal = b.equal;
+}
 
-pub carrying_on : (g : Alphabet) (s n : Derivation) (a b : Term) (w : List Symbol) (k : ℕ) (d : Symbol) (t u t' u' : Term)
-    → IsCarrying g s a b w k t u → AddsLines s n → k < length w
-    → t' ≡ read_symbol g t (get_or w k d) → u' ≡ read_symbol g u (get_or w k d) → AllowsSymbol g n u (get_or w k d)
-    → AreStatedEqual n (read_symbol g t (get_or w k d)) (read_symbol g u (get_or w k d))
-    → IsCarrying g n a b w (k + 1) t' u'
-carrying_on g s n a b w k d t u t' u' c grows h e f says equal =
-    let x = get_or w k d in
-    let p : drop k w ≡ x ∷ drop (k + 1) w = drop_more w k d h in
-    record {
-      left = subst (λ z. AllowsWord g n z (drop (k + 1) w)) (sym e)
-          ((subst (AllowsWord g n t) p (word_still g s n grows t (drop k w) c.left)).1);
-      first = read_step g t t' (read_word g a w) w k d h e c.first;
-      second = read_step g u u' (read_word g b w) w k d h f c.second;
-      whole = λ v i y. c.whole v (derivations.grows_then grows i)
-          (subst (AllowsWord g v u) (sym p) (symbol_still g n v i u x says, subst (λ z. AllowsWord g v z (drop (k + 1) w)) f y));
-      equal = equal_as n t' u' (read_symbol g t x) (read_symbol g u x) e f equal;
-    }
+-- ---- words that are read alike
 
--- the whole word is carried: lines allow it after b too, and it is read as equal type parameters after a and after b
-pub record IsCarried (g : Alphabet) (s : Derivation) (a b : Term) (w : List Symbol) (t u : Term) : Type 0 where
-  pub word : AllowsWord g s b w
-  pub first : t ≡ read_word g a w
-  pub second : u ≡ read_word g b w
-  pub equal : AreStatedEqual s (read_word g a w) (read_word g b w)
+-- Two words are read after T, one after the other: these ids stand for what they are read as.
+module _ (g : Alphabet) {s m n : Derivation} (t : TermId) (h : IsOf s.table t) (u v : List Symbol) (f : AddsLines s m) (k : AddsLines m n)
+    (a b : TermId) (of_a : IsOf m.table a) (is_a : term_at m.table a ≡ read_word g (term_at s.table t) u) (of_b : IsOf n.table b)
+    (is_b : term_at n.table b ≡ read_word g (term_at m.table t) v) where
+  pub first_read : term_at n.table a ≡ read_word g (term_at s.table t) u
+  first_read = term_still m n k a of_a ∙ is_a
 
-pub all_carried : (g : Alphabet) (s : Derivation) (a b : Term) (w : List Symbol) (k : ℕ) (t u : Term) → IsCarrying g s a b w k t u
-    → length w ≤ k → IsCarried g s a b w t u
-all_carried g s a b w k t u c h =
-    let e : drop k w ≡ [] = drop_all k w h in
-    let f : t ≡ read_word g a w = sym (ap (read_word g t) e) ∙ c.first in
-    let n : u ≡ read_word g b w = sym (ap (read_word g u) e) ∙ c.second in
-    record {
-      word = c.whole s (derivations.grown_by_none s) (subst (AllowsWord g s u) (sym e) tt);
-      first = f;
-      second = n;
-      equal = equal_as s
-          (read_word g a w) (read_word g b w) t u (sym f) (sym n) c.equal;
-    }
+  pub second_read : term_at n.table b ≡ read_word g (term_at s.table t) v
+  second_read = is_b ∙ ap (λ z. read_word g z v) (term_still s m f t h)
+
+  -- if the words are read alike, the ids are equal
+  pub alike_ids : AreStatedEqual s (read_word g (term_at s.table t) u) (read_word g (term_at s.table t) v) → AreEqualIds n a b
+  alike_ids w = (
+    is_still m n k a of_a,
+    of_b,
+    equal_as n _ _ _ _ first_read second_read (equal_still g s n (derivations.grows_then f k) _ _ w),
+  )
 
 -- ---- a side put in place of another
 

@@ -1,11 +1,11 @@
 -- What words are read by: the world of a text, and the generic parameters of a list.
-use Rattle.std.specs.Prelude.{◌≡◌, ◌⊎◌, ◌<◌, ◌≤◌, ◌+◌, ◌^◌, ℕ, Some, List, get_or, length, map, slice_get}
-use Rattle.swreq_derive.specs.{declared.requirements.Requirement.{Requirement, TheVariants.{Conf}}, swreq_param.Terms.{self}}
-use Rattle.swreq_derive.specs.{swreq_param.declared.ids.{NameId.{NameId}, ProtoId.{ProtoId}, TermId.{TermId}}, Derivation.{Declares}}
+use Rattle.std.specs.Prelude.{◌≡◌, ◌+◌, ℕ, Some, List, get_or, slice_get}
+use Rattle.swreq_derive.specs.{declared.requirements.Requirement.{Requirement}, swreq_param.Terms.{self}}
+use Rattle.swreq_derive.specs.{swreq_param.declared.ids.{NameId.{NameId}, ProtoId.{ProtoId}}, Derivation.{Declares}}
 use Rattle.swreq_derive.specs.{Derivation.TermRequirement.{Conforms}, Facts.{generic_params}, Instances.{HasNumber}}
 use Rattle.swreq_derivation.specs.UnderWay.{Assumptions}
-use Rattle.swreq_world.specs.swreq_lexicon.{declared.pair.ProtocolName.{ProtocolName}, Lexicons.{pair}, Views.{IsProtocol, LexiconView}}
-use Rattle.swreq_world.specs.Worlds.{requirements_of}
+use Rattle.swreq_world.specs.swreq_lexicon.{declared.pair.ProtocolName.{ProtocolName}, Lexicons.{pair}, Views.{LexiconView}}
+use Rattle.swreq_readings.specs.Inherited.{IsDeclaredIn, IsMemberIn, IsParentIn, written_in}
 use Rattle.swreq_readings.specs.declared.alphabet.Alphabet.{Alphabet}
 
 abbrev pub lexicon : Alphabet → LexiconView
@@ -17,21 +17,19 @@ member_at g k = get_or (lexicon g).symbols k (pair (record { rank = 0 }) (record
 
 -- P declares A.
 abbrev pub IsDeclared : Alphabet → ProtoId → NameId → Type 0
-IsDeclared g p a = (k : ℕ) × (slice_get (lexicon g).associated k ≡ Some (pair p a))
+IsDeclared g = IsDeclaredIn (lexicon g)
 
 -- A is a member name of P.
 abbrev pub IsMember : Alphabet → ProtoId → NameId → Type 0
-IsMember g p a = (k : ℕ) × (slice_get (lexicon g).symbols k ≡ Some (pair p a))
-
--- ---- written inheritance
+IsMember g = IsMemberIn (lexicon g)
 
 -- the requirements of P, over ids
 abbrev pub written_at : Alphabet → ProtoId → List Requirement
-written_at g p = map (λ r. r.requirement) (requirements_of g.world.now p)
+written_at g = written_in g.world.now
 
 -- The requirement of P at the place k, counted from 0, is `[Self : Q]`.
 abbrev pub IsParentAt : Alphabet → ProtoId → ℕ → ProtoId → Type 0
-IsParentAt g p k q = (s : TermId) × (g.self_id ≡ Some s) × (slice_get (written_at g p) k ≡ Some (Conf s q))
+IsParentAt g = IsParentIn g.world.now g.self_id
 
 -- At the place k P inherits Q, which has the member name A.
 abbrev pub IsParentFor : Alphabet → ProtoId → NameId → ℕ → ProtoId → Type 0
@@ -40,17 +38,6 @@ IsParentFor g p a k q = IsParentAt g p k q × IsMember g q a
 -- A is a member name of P, and P does not declare A.
 abbrev pub IsFromAbove : Alphabet → ProtoId → NameId → Type 0
 IsFromAbove g p a = IsMember g p a × (IsDeclared g p a → ⊥)
-
--- Numbers of 32 bits count the requirements of each protocol. Each protocol has a depth that is at most the number of protocols, and that
--- is greater than the depth of each protocol that it inherits. If A is a member name of P, then P is a protocol of the text, and it
--- declares A, or is written to inherit a protocol with the member name A.
-pub record IsInherited (g : Alphabet) : Type 0 where
-  pub short : (p : ProtoId) → length (written_at g p) < 2 ^ 32
-  pub depth : ProtoId → ℕ
-  pub bounded : (p : ProtoId) → depth p ≤ length (lexicon g).protocols
-  pub goes_down : (p q : ProtoId) (k : ℕ) → IsParentAt g p k q → depth q < depth p
-  pub of_text : (p : ProtoId) (a : NameId) → IsMember g p a → IsProtocol (lexicon g) p
-  pub from : (p : ProtoId) (a : NameId) → IsMember g p a → IsDeclared g p a ⊎ ((k : ℕ) × (q : ProtoId) × IsParentFor g p a k q)
 
 -- Each associated type is the one of the facts with the same rank. What a protocol is written to inherit is one of its requirements in the
 -- facts. The generic parameters are those of the list.

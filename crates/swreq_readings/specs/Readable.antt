@@ -3,14 +3,14 @@
 -- A generic parameter is read as itself after any type parameter, and the rest of the word is read after it. So a word that begins with one
 -- is read as the same type parameter after every type parameter.
 use Rattle.std.specs.Prelude.{◌≡◌, ◌<◌, ℕ, List, [], ◌∷◌, Some, length, slice_get, Contains}
-use Rattle.swreq_derive.specs.swreq_param.declared.ids.{AssocId.{AssocId}, NameId.{NameId}, ProtoId.{ProtoId}, Step.{Step}}
+use Rattle.swreq_derive.specs.swreq_param.declared.ids.{NameId.{NameId}, ProtoId.{ProtoId}, Step.{Step}}
 use Rattle.swreq_derive.specs.swreq_param.declared.ids.{Step.TheVariants.{Bound, Name as NameStep}, TermId.{TermId}}
 use Rattle.swreq_derive.specs.swreq_param.{Tables.{IsOf, term_at}, Terms.{Term, Term.{Generic, Member as MemberOf}}}
 use Rattle.swreq_derive.specs.{Derivation.{TermRequirement.{Conforms, IsAnyObject}, TermStatement.{Requires}}, Facts.{generic_params}}
 use Rattle.swreq_word.specs.declared.symbols.Symbol.{Symbol, TheVariants.{Proto, Member, Param, Name, Layout}}
 use Rattle.swreq_derivation.specs.declared.derivation.Derivation.{Derivation}
-use Rattle.swreq_derivation.specs.UnderWay.{AreEqualIds, AreStatedEqual, IsIdOfMember, States}
-use Rattle.swreq_readings.specs.declared.{alphabet.Alphabet.{Alphabet}, members.Members.{Members}}
+use Rattle.swreq_derivation.specs.UnderWay.{AreEqualIds, AreStatedEqual, States}
+use Rattle.swreq_readings.specs.declared.alphabet.Alphabet.{Alphabet}
 use Rattle.swreq_readings.specs.Alphabets.{IsDeclared, lexicon, member_at}
 use Rattle.swreq_world.specs.swreq_lexicon.declared.pair.ProtocolName.{ProtocolName}
 
@@ -47,12 +47,6 @@ IsGivenAt g s t x k n = (slice_get (lexicon g).associated k ≡ Some n) × IsOfS
 abbrev pub IsGiven : Alphabet → Derivation → Term → Step → ProtocolName → Type 0
 IsGiven g s t x n = (k : ℕ) × IsGivenAt g s t x k n
 
--- They are the members of t by the bound step and by the unbound step, and a type parameter that equals the member by the unbound step.
-pub record AreMembers (s : Derivation) (t : TermId) (d : AssocId) (a : NameId) (m : Members) : Type 0 where
-  pub bound : IsIdOfMember s t (Bound d) m.bound
-  pub plain : IsIdOfMember s t (NameStep a) m.plain
-  pub equal : AreEqualIds s m.plain m.last
-
 -- Lines allow the symbol after t.
 abbrev pub AllowsSymbol : Alphabet → Derivation → Term → Symbol → Type 0
 AllowsSymbol g s t (Proto q) = States s (Requires (Conforms t (record { rank = q })))
@@ -61,6 +55,13 @@ AllowsSymbol g s t (Member k) = (k < length (lexicon g).symbols) × States s (Re
 AllowsSymbol g s t (Param d i) = Contains (generic_params g.params) (record { depth = d; index = i })
 AllowsSymbol g s t (Name a) = AllowsName g s t (record { rank = a })
 AllowsSymbol g s t Layout = States s (Requires (IsAnyObject t))
+
+-- Lines allow the symbol after T, and T and U are equal. The ids stand for what the symbol is read as after T and after U.
+pub record CanCarry (g : Alphabet) (s : Derivation) (t u : TermId) (x : Symbol) (m : TermId × TermId) : Type 0 where
+  pub symbol : AllowsSymbol g s (term_at s.table t) x
+  pub equal : AreEqualIds s t u
+  pub first : IsIdAfter g s t x m.0
+  pub second : IsIdAfter g s u x m.1
 
 -- Lines allow the word after t: each symbol is allowed after what the symbols before it are read as.
 abbrev pub AllowsWord : Alphabet → Derivation → Term → List Symbol → Type 0
@@ -80,3 +81,10 @@ ReadsAlike g old s t u v = AreReadEqual g s (term_at old.table t) u v
 -- Lines allow the word after t, and the id stands for what it is read as.
 abbrev pub IsReadAs : Alphabet → Derivation → Term → List Symbol → TermId → Type 0
 IsReadAs g s t w u = IsOf s.table u × AllowsWord g s t w × (term_at s.table u ≡ read_word g t w)
+
+-- Lines allow the word after what U stood for. The ids are equal, and stand for what the word is read as after T and after U.
+pub record IsCarried (g : Alphabet) (old new : Derivation) (t u : TermId) (w : List Symbol) (m : TermId × TermId) : Type 0 where
+  pub word : AllowsWord g new (term_at old.table u) w
+  pub first : term_at new.table m.0 ≡ read_word g (term_at old.table t) w
+  pub second : term_at new.table m.1 ≡ read_word g (term_at old.table u) w
+  pub equal : AreEqualIds new m.0 m.1

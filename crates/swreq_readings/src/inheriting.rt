@@ -1,11 +1,11 @@
 //! The names that lines allow after a type parameter since its protocol inherits them.
-ghost use Rattle.std.specs.{Prelude.{◌≡◌, ◌<◌, ◌+◌, ℕ, IfOk, MatchOption, OnOk, Some, length}, Bool.{Decides}};
-ghost use Rattle.swreq_derive.specs.swreq_param.Tables.{IsOf, term_at};
-ghost use Rattle.swreq_derivation.specs.UnderWay.{ContinuesFrom, StatesConformance};
-ghost use Rattle.swreq_world.specs.swreq_lexicon.Views.{IsProtocol};
-ghost use Rattle.swreq_readings.specs.{Alphabets.{Fits, IsFromAbove, IsInherited, IsMember, IsParentFor, lexicon, written_at}, Readable.{AllowsName}};
+ghost use Rattle.std.specs.{Prelude.{◌≡◌, ◌+◌, ℕ, IfOk, MatchOption, OnOk, Some}, Bool.{Decides}};
+ghost use Rattle.swreq_derive.specs.swreq_param.Tables.{term_at};
+ghost use Rattle.swreq_derive.specs.declared.requirements.{Requirement.TheVariants.{Conf}, Statement.TheVariants.{Holds}};
+ghost use Rattle.swreq_derivation.specs.UnderWay.{ContinuesFrom, IsPremise};
+ghost use Rattle.swreq_readings.specs.{Alphabets.{Fits, IsDeclared, IsFromAbove, IsMember, IsParentFor}, Inherited.{IsParentBy}, Readable.{AllowsName}};
 
-use crate::alphabet::{Alphabet, declares, is_member};
+use crate::alphabet::Alphabet;
 use std::alloc::AllocError;
 use swreq_derivation::{Derivation, Origin, add_requirement};
 use swreq_derive::Requirement;
@@ -18,6 +18,26 @@ struct Parent {
     proto: ProtoId,
 }
 
+/// Whether P declares A.
+fn declares(alphabet: &Alphabet<'_>, protocol: ProtoId, name: NameId) -> bool
+    ensures { Decides result (IsDeclared alphabet.now protocol name) }
+{
+    match alphabet.world.lexicon().declares(protocol, name) {
+        Some(_) => true,
+        None => false,
+    }
+}
+
+/// Whether A is a member name of P.
+fn is_member(alphabet: &Alphabet<'_>, protocol: ProtoId, name: NameId) -> bool
+    ensures { Decides result (IsMember alphabet.now protocol name) }
+{
+    match alphabet.world.lexicon().member_rank(protocol, name) {
+        Some(_) => true,
+        None => false,
+    }
+}
+
 /// Whether the id is that of `Self`.
 fn is_self(alphabet: &Alphabet<'_>, t: TermId) -> bool
     ensures { Decides result (alphabet.now.self_id ≡ Some t) }
@@ -28,19 +48,13 @@ fn is_self(alphabet: &Alphabet<'_>, t: TermId) -> bool
     }
 }
 
-/// The protocol that P inherits by the requirement at this place, if it has the member name A.
-fn parent_at(
-    alphabet: &Alphabet<'_>,
-    protocol: ProtoId,
-    name: NameId,
-    place: usize,
-) -> Option<ProtoId>
-    requires protocol { IsProtocol (lexicon alphabet.now) protocol }
-    requires place { place < length (written_at alphabet.now protocol) }
-    ensures { MatchOption result ((q : ProtoId) → IsParentFor alphabet.now protocol name place q →
-        ⊥) (IsParentFor alphabet.now protocol name place) }
+/// The protocol Q of a requirement `[Self : Q]`, if it has the member name A.
+fn parent_by(alphabet: &Alphabet<'_>, requirement: Requirement, name: NameId) -> Option<ProtoId>
+    ensures { MatchOption result
+        ((q : ProtoId) → IsParentBy alphabet.now.self_id requirement q
+        × IsMember alphabet.now q name → ⊥)
+        (λ q. IsParentBy alphabet.now.self_id requirement q × IsMember alphabet.now q name) }
 {
-    let requirement = alphabet.world.bare_requirements(protocol)[place];
     match requirement {
         Requirement::Conf { subject, proto } => {
             if is_self(alphabet, subject) && is_member(alphabet, proto, name) {
@@ -55,13 +69,13 @@ fn parent_at(
 
 /// A requirement by which P inherits a protocol with the member name A.
 fn parent_for(alphabet: &Alphabet<'_>, protocol: ProtoId, name: NameId) -> Parent
-    requires inherited { IsInherited alphabet.now }
-    requires member { IsFromAbove alphabet.now protocol name }
+    requires { IsFromAbove alphabet.now protocol name }
     ensures { (k : ℕ) × (result.number ≡ k + 1)
         × IsParentFor alphabet.now protocol name k result.proto }
 {
-    for k in 0..alphabet.world.bare_requirements(protocol).len() {
-        match parent_at(alphabet, protocol, name, k) {
+    let written = alphabet.world.bare_requirements(protocol);
+    for k in 0..written.len() {
+        match parent_by(alphabet, written[k], name) {
             Some(proto) => {
                 return Parent {
                     number: k as u32 + 1,
@@ -82,14 +96,11 @@ fn step_up(
     protocol: ProtoId,
     name: NameId,
 ) -> Result<ProtoId, AllocError>
-    requires inherited { IsInherited alphabet.now }
     requires member { IsFromAbove alphabet.now protocol name }
-    requires subject { IsOf derivation.old.table subject }
-    requires conforms { StatesConformance derivation.old derivation.old subject protocol }
+    requires conforms { IsPremise derivation.old (Holds (Conf subject protocol)) }
     ensures table { derivation.new.table ≡ derivation.old.table }
     ensures parent { IfOk result (λ q. (k : ℕ) × IsParentFor alphabet.now protocol name k q) }
-    ensures conforms { IfOk result
-        (λ q. StatesConformance derivation.old derivation.new subject q) }
+    ensures conforms { IfOk result (λ q. IsPremise derivation.new (Holds (Conf subject q))) }
     ensures continues { ContinuesFrom (Fits alphabet.now) derivation.old derivation.new }
 {
     let parent = parent_for(alphabet, protocol, name);
@@ -112,19 +123,14 @@ pub fn inherit(
     protocol: ProtoId,
     name: NameId,
 ) -> Result<(), AllocError>
-    requires inherited { IsInherited alphabet.now }
     requires member { IsMember alphabet.now protocol name }
-    requires subject { IsOf derivation.old.table subject }
-    requires conforms { StatesConformance derivation.old derivation.old subject protocol }
+    requires conforms { IsPremise derivation.old (Holds (Conf subject protocol)) }
     ensures name { OnOk result (AllowsName alphabet.now derivation.new
         (term_at derivation.old.table subject) name) }
     ensures continues { ContinuesFrom (Fits alphabet.now) derivation.old derivation.new }
 {
     let mut at = protocol;
-    for k in 0..alphabet.world.protocols() {
-        if declares(alphabet, at, name) {
-            return Ok(());
-        }
+    while !declares(alphabet, at, name) {
         at = step_up(alphabet, derivation, subject, at, name)?;
     }
     Ok(())

@@ -11,11 +11,11 @@ mod putting;
 mod reading;
 mod telling;
 
-pub use along::{carry_all, carry_bound, carry_name};
-pub use alphabet::{Alphabet, declared_at, member_at};
+pub use along::carry_bound;
+pub use alphabet::Alphabet;
 pub use inheriting::inherit;
 pub use members::equal_member;
 pub use putting::{Sides, join, put_side, replace, replace_back, turn};
-pub use reading::{read_symbol, read_word};
+pub use reading::{member_at, read_symbol, read_word};
 pub use swreq_world::lexicon::ProtocolName;
-pub use telling::{are_read_equal, given_step, is_of_step};
+pub use telling::{are_read_equal, declared_at, given_step, is_of_step};

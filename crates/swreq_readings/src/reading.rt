@@ -2,13 +2,29 @@
 ghost use Rattle.std.specs.Prelude.{◌≡◌, IfOk};
 ghost use Rattle.swreq_derive.specs.swreq_param.Tables.{IsOf, term_at};
 ghost use Rattle.swreq_derivation.specs.UnderWay.{Continues};
-ghost use Rattle.swreq_readings.specs.Readable.{read_symbol, read_word};
+ghost use Rattle.swreq_readings.specs.{Alphabets.{member_at}, Readable.{read_symbol, read_word}};
 
-use crate::alphabet::{Alphabet, member_at};
+use crate::alphabet::Alphabet;
 use std::alloc::AllocError;
 use swreq_derivation::Derivation;
-use swreq_derive::param::{NameId, ParamId, Step, TermId};
+use swreq_derive::param::{NameId, ParamId, ProtoId, Step, TermId};
 use swreq_word::Symbol;
+use swreq_world::lexicon::ProtocolName;
+
+/// The protocol and the name of the member symbol with this rank.
+pub fn member_at(alphabet: &Alphabet<'_>, rank: u64) -> ProtocolName
+    ensures { result ≡ member_at alphabet.now rank }
+{
+    let lexicon = alphabet.world.lexicon();
+    if rank < lexicon.members() {
+        lexicon.member_at(rank)
+    } else {
+        ProtocolName {
+            proto: ProtoId { rank: 0 },
+            name: NameId { rank: 0 },
+        }
+    }
+}
 
 /// The type parameter that a symbol after T is read as.
 pub fn read_symbol(

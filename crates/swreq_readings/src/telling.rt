@@ -1,21 +1,30 @@
 //! The associated types that steps name, whether lines allow words, and whether they state that words are read alike.
-ghost use Rattle.std.specs.{Prelude.{MatchOption, IfOk}, Bool.{Decides}};
+ghost use Rattle.std.specs.{Prelude.{◌≡◌, ◌<◌, IfOk, MatchOption, Some, length, slice_get}, Bool.{Decides}};
 ghost use Rattle.swreq_derive.specs.swreq_param.Tables.{IsOf, term_at};
+ghost use Rattle.swreq_derive.specs.declared.requirements.{Requirement.TheVariants.{Same}, Statement.TheVariants.{Holds}};
 ghost use Rattle.swreq_derive.specs.{Derivation.TermRequirement.{Conforms}, Derivation.TermStatement.{Requires}};
-ghost use Rattle.swreq_derivation.specs.UnderWay.{States, AreStatedEqual, Continues};
+ghost use Rattle.swreq_derivation.specs.UnderWay.{AreIdsIn, AreStatedEqual, Continues, States};
 ghost use Rattle.swreq_world.specs.swreq_lexicon.declared.pair.ProtocolName.{ProtocolName as PairView};
-ghost use Rattle.swreq_readings.specs.{Alphabets.{IsDeclared}, Readable.{AllowsName, IsGiven, IsOfStep, AllowsSymbol, AllowsWord, IsReadAs, ReadsAlike}};
+ghost use Rattle.swreq_readings.specs.{Alphabets.{IsDeclared, lexicon}, Readable.{AllowsName, IsGiven, IsOfStep, AllowsSymbol, AllowsWord, IsReadAs, ReadsAlike}};
 ghost use Rattle.swreq_word.specs.declared.symbols.Symbol.TheVariants.{Member};
 
-use crate::alphabet::{Alphabet, declared_at, member_at};
-use crate::reading::read_symbol;
+use crate::alphabet::Alphabet;
+use crate::reading::{member_at, read_symbol};
 use std::alloc::AllocError;
 use swreq_derivation::{
-    Derivation, are_one, conf_statement, is_stated, layout_statement, same_statement,
+    Bound, Derivation, are_one, bound_statement, conf_statement, is_stated, same_statement,
 };
-use swreq_derive::param::{NameId, ParamId, ProtoId, Step, TermId};
+use swreq_derive::param::{AssocId, NameId, ParamId, ProtoId, Step, TermId};
 use swreq_word::Symbol;
 use swreq_world::lexicon::ProtocolName;
+
+/// The protocol and the name of the associated type with this rank.
+pub fn declared_at(alphabet: &Alphabet<'_>, rank: u32) -> ProtocolName
+    requires { rank < length (lexicon alphabet.now).associated }
+    ensures { slice_get (lexicon alphabet.now).associated rank ≡ Some result }
+{
+    alphabet.world.lexicon().assoc(AssocId { rank })
+}
 
 /// Whether the step names the associated type with this rank.
 pub fn is_of_step(step: Step, rank: u32, named: ProtocolName) -> bool
@@ -24,26 +33,6 @@ pub fn is_of_step(step: Step, rank: u32, named: ProtocolName) -> bool
     match step {
         Step::Name(a) => named.name.rank == a.rank,
         Step::Bound(d) => d.rank == rank,
-    }
-}
-
-/// Whether the step names the associated type with this rank, and a line states that T conforms to its protocol.
-fn is_given_at(
-    derivation: &Derivation,
-    subject: TermId,
-    step: Step,
-    rank: u32,
-    named: ProtocolName,
-) -> bool
-    requires subject { IsOf derivation.now.table subject }
-    ensures { Decides result (IsOfStep step rank named
-        × States derivation.now
-        (Requires (Conforms (term_at derivation.now.table subject) named.proto))) }
-{
-    if is_of_step(step, rank, named) {
-        is_stated(derivation, conf_statement(subject, named.proto))
-    } else {
-        false
     }
 }
 
@@ -62,7 +51,8 @@ pub fn given_step(
 {
     for k in 0..alphabet.world.lexicon().associated() {
         let named = declared_at(alphabet, k);
-        if is_given_at(derivation, subject, step, k, named) {
+        let conforms = conf_statement(subject, named.proto);
+        if is_of_step(step, k, named) && is_stated(derivation, conforms) {
             return Some(named);
         }
     }
@@ -91,7 +81,7 @@ pub(crate) fn declarer(
 
 /// Whether lines allow the name after T.
 fn allows_name(alphabet: &Alphabet, derivation: &Derivation, subject: TermId, name: NameId) -> bool
-    requires subject { IsOf derivation.now.table subject }
+    requires { IsOf derivation.now.table subject }
     ensures { Decides result (AllowsName alphabet.now derivation.now
         (term_at derivation.now.table subject) name) }
 {
@@ -103,7 +93,7 @@ fn allows_name(alphabet: &Alphabet, derivation: &Derivation, subject: TermId, na
 
 /// Whether lines allow the member symbol with this rank after T.
 fn allows_member(alphabet: &Alphabet, derivation: &Derivation, subject: TermId, rank: u64) -> bool
-    requires subject { IsOf derivation.now.table subject }
+    requires { IsOf derivation.now.table subject }
     ensures { Decides result
         (AllowsSymbol alphabet.now derivation.now
         (term_at derivation.now.table subject) (Member rank)) }
@@ -125,13 +115,13 @@ fn allows_symbol(
     subject: TermId,
     symbol: Symbol,
 ) -> bool
-    requires subject { IsOf derivation.now.table subject }
+    requires { IsOf derivation.now.table subject }
     ensures { Decides result (AllowsSymbol alphabet.now derivation.now
         (term_at derivation.now.table subject) symbol) }
 {
     match symbol {
         Symbol::Proto(rank) => is_stated(derivation, conf_statement(subject, ProtoId { rank })),
-        Symbol::Layout => is_stated(derivation, layout_statement(subject)),
+        Symbol::Layout => is_stated(derivation, bound_statement(subject, Bound::AnyObject)),
         Symbol::Name(rank) => allows_name(alphabet, derivation, subject, NameId { rank }),
         Symbol::Member(rank) => allows_member(alphabet, derivation, subject, rank),
         Symbol::Param(depth, index) => alphabet.params.has(ParamId { depth, index }),
@@ -145,7 +135,7 @@ fn read_if_allowed(
     subject: TermId,
     word: &[Symbol],
 ) -> Result<Option<TermId>, AllocError>
-    requires subject { IsOf derivation.old.table subject }
+    requires { IsOf derivation.old.table subject }
     ensures told { IfOk result (λ o. MatchOption o (AllowsWord alphabet.now derivation.new (term_at
         derivation.old.table subject) word.now → ⊥) (IsReadAs alphabet.now derivation.new (term_at
         derivation.old.table subject) word.now)) }
@@ -163,8 +153,7 @@ fn read_if_allowed(
 
 /// Whether the two ids are one, or a line states that they are equal.
 fn are_equal(derivation: &Derivation, left: TermId, right: TermId) -> bool
-    requires left { IsOf derivation.now.table left }
-    requires right { IsOf derivation.now.table right }
+    requires { AreIdsIn derivation.now.table (Holds (Same left right)) }
     ensures { Decides result (AreStatedEqual derivation.now (term_at derivation.now.table left)
         (term_at derivation.now.table right)) }
 {

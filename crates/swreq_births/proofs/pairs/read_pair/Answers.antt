@@ -1,69 +1,90 @@
-use Rattle.std.proofs.Common.{◌≡◌, ◌⊎◌, inl, inr, ℕ, ◌+◌, ◌-◌, ◌<◌, ◌≤◌, List, ◌++◌, length, take, drop, refl, sym, ap, ap₂, subst, ◌∙◌}
-use Rattle.std.proofs.{Common.{arith, length-append}, lemmas.Result.{on_ok_weaker}}
+use Rattle.std.proofs.Common.{◌++◌, drop, take, refl, sym, ap, ap₂, subst, ◌∙◌}
 use Rattle.swreq_param.specs.Tables.{term_at}
-use Rattle.swreq_correspondence.specs.swreq_word.declared.symbols.Symbol.{Symbol}
-use Rattle.swreq_complete.specs.{swreq_rule.declared.rules.Rule.{Rule}, swreq_pair.Pairs.{ContainmentPair, OverlapPair}}
-use Rattle.swreq_readings.specs.Readable.{AllowsWord, read_word}
-use Rattle.swreq_births.proofs.{Alike.{both_as, front_read}, PairParts.{contained}}
+use Rattle.swreq_readings.{specs.Readable.{AllowsWord, read_word}, proofs.ReadingLemmas.{both_still, is_still, term_still}}
+use Rattle.swreq_derivation.proofs.DerivationLemmas.{continues_anyway, continues_then, grows_then}
+use Rattle.swreq_births.{specs.Pairs.{past}, proofs.Alike.{both_as, word_met}}
 use Rattle.swreq_births.proofs.pairs.read_pair.Goals as goal
 
--- A left side that does not reach past the end of the first one stands in it.
-word_in : (a b : Rule) (at : ℕ) → ((l : List Symbol) × (r : List Symbol) × OverlapPair a b at l r)
-    ⊎ ((l : List Symbol) × (r : List Symbol) × ContainmentPair a b at l r)
-    → length b.left ≤ length a.left - at → a.left ≡ take at a.left ++ (b.left ++ drop (at + length b.left) a.left)
-word_in a b at (inr p) h = (contained a b at p.0 p.1 p.2).word
-word_in a b at (inl p) h =
-    let o = p.2.overlap in
-    let longer : 0 < length o.after = o.after_some in
-    absurd (omega (
-      arith,
-      h,
-      ap length o.first_is,
-      length-append o.before o.common,
-      ap length o.second_is,
-      length-append o.common o.after,
-      longer,
-      o.at_is,
-    ))
-
-pub read_inside-requires-clause-first : goal.read_inside-requires-clause-first
-read_inside-requires-clause-first c =
-    let s = c.args.derivation.now in
-    let a = c.args.first.now in
-    let b = c.args.second.now in
-    let word : c.symbols-word.result.now ≡ a.left = c.symbols-word.ensures in
-    let from : c.rule_sides-sides.result.from.now ≡ b.left = c.rule_sides-sides.ensures.from in
-    let within : length b.left ≤ length a.left - c.args.at = omega (arith, c.if-sides-rest.true, ap length word, ap length from) in
-    let f : c.first_symbols-before.result.now ≡ take c.args.at a.left = c.first_symbols-before.ensures ∙ ap (take c.args.at) word in
-    let h : c.later_symbols-after.result.now ≡ drop (c.args.at + length b.left) a.left = c.later_symbols-after.ensures
-    ∙ ap₂ (λ y z. drop (c.args.at + length y) z) from word in
-    both_as c.args.alphabet.now s (term_at s.table c.args.subject) _ a.left _ a.right _ refl
-    (word_in a b c.args.at c.requires.pair within ∙ ap₂ (λ y z. y ++ (b.left ++ z)) (sym f) (sym h)
-    ∙ ap (λ z. c.first_symbols-before.result.now ++ (z ++ c.later_symbols-after.result.now)) (sym from)) (sym c.symbols-reduct.ensures)
-    c.requires.first
-
-pub returns-then-sides-rest-clause-containment : goal.returns-then-sides-rest-clause-containment
-returns-then-sides-rest-clause-containment c =
-    let t = term_at c.args.derivation.now.table c.args.subject in
-    let a = c.args.first.now in
-    let b = c.args.second.now in
-    let word : c.symbols-word.result.now ≡ a.left = c.symbols-word.ensures in
-    let f : c.first_symbols-before.result.now ≡ take c.args.at a.left = c.first_symbols-before.ensures ∙ ap (take c.args.at) word in
-    let h : c.later_symbols-after.result.now ≡ drop (c.args.at + length b.left) a.left = c.later_symbols-after.ensures
-    ∙ ap₂ (λ y z. drop (c.args.at + length y) z) c.rule_sides-sides.ensures.from word in
-    on_ok_weaker c.read_inside.result (λ both l r p.
-    let k = contained a b c.args.at l r p in
-    both_as c.args.alphabet.now c.read_inside.new.derivation t t _ l _ r refl (c.symbols-reduct.ensures ∙ sym k.left_is)
-    (ap (λ z. c.first_symbols-before.result.now ++ (z ++ c.later_symbols-after.result.now)) c.rule_sides-sides.ensures.to
-    ∙ ap₂ (λ y z. y ++ (b.right ++ z)) f h ∙ sym k.right_is) both) c.read_inside.ensures.both
-
-pub read_across-requires-clause-second : goal.read_across-requires-clause-second
-read_across-requires-clause-second c =
+pub put_in-requires : goal.put_in-requires
+put_in-requires c =
     let g = c.args.alphabet.now in
     let s = c.args.derivation.now in
-    let t = term_at s.table c.args.subject in
-    let front = c.first_symbols-before.ensures ∙ ap (take c.args.at) c.symbols-word.ensures in record {
-      before = subst (AllowsWord g s t) (sym front) (front_read g s t c.args.first.now.left c.args.at c.requires.first.left);
-      both = both_as g s _ _ _ _ _ _ (ap (read_word g t) (sym front)) (sym c.rule_sides-sides.ensures.from)
-          (sym c.rule_sides-sides.ensures.to) c.requires.second;
+    let top = term_at s.table c.args.subject in
+    let whole = c.rule_sides-whole.ensures in
+    let after = c.later_symbols-after.ensures
+    ∙ ap₂ past c.rule_sides-part.ensures.from (c.later_symbols-rest.ensures ∙ ap (drop c.args.at) whole.from) in record {
+      subject = c.requires.subject;
+      both = both_as g s top top _ _ _ _ refl (sym whole.from) (sym whole.to) c.requires.whole;
+      word = subst (AllowsWord g s top) (ap₂ (λ y z. y ++ z) (sym whole.from) (sym after))
+          (word_met g s top c.args.first.now c.args.second.now c.args.at c.requires.meet c.requires.whole.left c.requires.part.left);
     }
+
+pub put_in-requires-2 : goal.put_in-requires-2
+put_in-requires-2 c =
+    let g = c.args.alphabet.now in
+    let s = c.args.derivation.now in
+    let s1 = c.put_in.new.derivation in
+    let t = c.args.subject in
+    let put = c.in_ok-word.ensures in
+    let whole = c.rule_sides-whole.ensures.from in
+    let part = c.rule_sides-part.ensures in
+    let rest = c.later_symbols-rest.ensures ∙ ap (drop c.args.at) whole in
+    let after = c.later_symbols-after.ensures ∙ ap₂ past part.from rest in
+    let front = c.first_symbols-before.ensures ∙ ap (take c.args.at) whole in
+    let behind = c.later_symbols-behind.ensures ∙ ap₂ past rest part.from in
+    let now = sym (term_still s s1 put.continues.grows t c.requires.subject) in
+    let word = put.from ∙ ap₂ (λ y z. y ++ z) whole after ∙ c.requires.meet
+    ∙ sym (ap₂ (λ y z. y ++ z) front (ap₂ (λ y z. y ++ z) part.from behind)) in record {
+      subject = is_still s s1 put.continues.grows t c.requires.subject;
+      both = both_as g s1 _ _ _ _ _ _ (ap₂ (read_word g) now (sym front)) (sym part.from) (sym part.to)
+          (both_still g s s1 put.continues.grows _ _ _ c.requires.part);
+      word = subst (λ z. AllowsWord g s1 z (c.first_symbols-before.result.now ++ (c.rule_sides-part.result.from.now
+          ++ c.later_symbols-behind.result.now))) now (subst (AllowsWord g s1 (term_at s.table t)) word put.both.left);
+    }
+
+pub join_at-requires : goal.join_at-requires
+join_at-requires c =
+    let g = c.args.alphabet.now in
+    let s = c.args.derivation.now in
+    let s1 = c.put_in.new.derivation in
+    let s2 = c.put_in-2.new.derivation in
+    let t = c.args.subject in
+    let put = c.in_ok-word.ensures in
+    let both = c.in_ok-right.ensures in
+    let whole = c.rule_sides-whole.ensures.from in
+    let part = c.rule_sides-part.ensures.from in
+    let rest = c.later_symbols-rest.ensures ∙ ap (drop c.args.at) whole in
+    let after = c.later_symbols-after.ensures ∙ ap₂ past part rest in
+    let front = c.first_symbols-before.ensures ∙ ap (take c.args.at) whole in
+    let behind = c.later_symbols-behind.ensures ∙ ap₂ past rest part in
+    let word = put.from ∙ ap₂ (λ y z. y ++ z) whole after ∙ c.requires.meet
+    ∙ sym (ap₂ (λ y z. y ++ z) front (ap₂ (λ y z. y ++ z) part behind)) in
+    let grows = grows_then put.continues.grows both.continues.grows in
+    let via = sym c.deref.ensures.value in
+    let is = is_still s s1 put.continues.grows t c.requires.subject in record {
+      subject = is_still s s2 grows t c.requires.subject;
+      first = both_as g s2 _ _ _ _ _ _ (sym (term_still s s2 grows t c.requires.subject)) via (sym c.deref-2.ensures.value)
+          (both_still g s1 s2 both.continues.grows _ _ _ put.both);
+      second = both_as g s2 _ _ _ _ _ _ (sym (term_still s1 s2 both.continues.grows t is)) (both.from ∙ sym word ∙ via)
+          (sym c.deref-3.ensures.value) both.both;
+    }
+
+pub returns-clause-both : goal.returns-clause-both
+returns-clause-both c =
+    let grows = grows_then c.in_ok-word.ensures.continues.grows c.in_ok-right.ensures.continues.grows in
+    both_as c.args.alphabet.now c.join_at.new.derivation _ _ _ _ _ _
+    (term_still c.args.derivation.now c.put_in-2.new.derivation grows c.args.subject c.requires.subject) c.deref-2.ensures.value
+    c.deref-3.ensures.value c.in_ok-join_at.ensures.both
+
+pub returns-clause-continues : goal.returns-clause-continues
+returns-clause-continues c =
+    continues_then (continues_then c.in_ok-word.ensures.continues c.in_ok-right.ensures.continues) (continues_anyway
+    c.in_ok-join_at.ensures.continues)
+
+pub returns-in_err-right-clause-continues : goal.returns-in_err-right-clause-continues
+returns-in_err-right-clause-continues c = continues_then c.in_ok-word.ensures.continues c.in_err-right.ensures.continues
+
+pub returns-in_err-join_at-clause-continues : goal.returns-in_err-join_at-clause-continues
+returns-in_err-join_at-clause-continues c =
+    continues_then (continues_then c.in_ok-word.ensures.continues c.in_ok-right.ensures.continues) (continues_anyway
+    c.in_err-join_at.ensures.continues)

@@ -3,7 +3,12 @@ pub mod Paths
 pub mod Rules
 pub mod Requirements
 pub mod TypeParameters
-use Rattle.swreq_derivation.proofs.DerivationLemmas.{continues_anyway, continues_if, continues_then}
+use Rattle.std.proofs.Common.{arith, refl, subst, sym}
+use Rattle.swreq_complete.specs.swreq_pair.Pairs.{IsNumberOf}
+use Rattle.swreq_derivation.proofs.DerivationLemmas.{continues_anyway, continues_if, continues_then, grows_then}
+use Rattle.swreq_readings.proofs.ReadingLemmas.{is_still}
+use Rattle.swreq_births.proofs.{Alike.{both_as}, Equations.{scope_still, sides_as}, Headed.{paired_at}, PathSteps.{is_number}}
+use Rattle.swreq_births.proofs.Readings.{bound_put}
 use Rattle.swreq_births.proofs.unfolding.+lines_of_rule.Answers.Paths as paths
 use Rattle.swreq_births.proofs.unfolding.+lines_of_rule.Answers.Rules as rules
 use Rattle.swreq_births.proofs.unfolding.+lines_of_rule.Answers.Requirements as requirements
@@ -47,7 +52,9 @@ pub lines_of_rule-lines_of_rule-requires : goal.lines_of_rule-lines_of_rule-requ
 lines_of_rule-lines_of_rule-requires = rules.lines_of_rule-lines_of_rule-requires
 
 pub lines_of_rule-returns-then-said-clause-both : goal.lines_of_rule-returns-then-said-clause-both
-lines_of_rule-returns-then-said-clause-both = rules.lines_of_rule-returns-then-said-clause-both
+lines_of_rule-returns-then-said-clause-both t c =
+    both_as c.args.history.now.alphabet c.are_read_equal.new.derivation _ _ _ _ _ _ refl c.symbols-left.ensures c.symbols-right.ensures
+    (c.in_ok-said.ensures.told.0 c.if-said.true)
 
 pub lines_of_rule-equation_at-equation-requires : goal.lines_of_rule-equation_at-equation-requires
 lines_of_rule-equation_at-equation-requires = rules.lines_of_rule-equation_at-equation-requires
@@ -61,34 +68,32 @@ lines_of_rule-settle-requires = rules.lines_of_rule-settle-requires
 pub lines_of_rule-from_pair-requires : goal.lines_of_rule-from_pair-requires
 lines_of_rule-from_pair-requires = rules.lines_of_rule-from_pair-requires
 
-pub lines_of_rule-returns-in_ok-settle-in-Given : goal.lines_of_rule-returns-in_ok-settle-in-Given
-lines_of_rule-returns-in_ok-settle-in-Given = rules.lines_of_rule-returns-in_ok-settle-in-Given
+pub lines_of_rule-returns-in_ok-give_equation-in-Given : goal.lines_of_rule-returns-in_ok-give_equation-in-Given
+lines_of_rule-returns-in_ok-give_equation-in-Given = rules.lines_of_rule-returns-in_ok-give_equation-in-Given
 
-pub lines_of_rule-returns-in_ok-from_pair-in-Pair : goal.lines_of_rule-returns-in_ok-from_pair-in-Pair
-lines_of_rule-returns-in_ok-from_pair-in-Pair = rules.lines_of_rule-returns-in_ok-from_pair-in-Pair
+pub lines_of_rule-returns-in-Pair : goal.lines_of_rule-returns-in-Pair
+lines_of_rule-returns-in-Pair = rules.lines_of_rule-returns-in-Pair
 
 -- ---- a rule born of a pair
 
 pub from_pair-rule_of-first-requires : goal.from_pair-rule_of-first-requires
-from_pair-rule_of-first-requires = rules.from_pair-rule_of-first-requires
+from_pair-rule_of-first-requires t c =
+    let (first, second, p) = paired_at c.requires.asked.rule c.args.place c.requires.born in
+    subst (λ z. IsNumberOf z c.args.place.i) (sym c.all_rules-rules.ensures) (is_number _ _ _ p.is_first)
 
 pub from_pair-rule_of-second-requires : goal.from_pair-rule_of-second-requires
-from_pair-rule_of-second-requires = rules.from_pair-rule_of-second-requires
+from_pair-rule_of-second-requires t c =
+    let (first, second, p) = paired_at c.requires.asked.rule c.args.place c.requires.born in
+    subst (λ z. IsNumberOf z c.args.place.j) (sym c.all_rules-rules.ensures) (is_number _ _ _ p.is_second)
 
 pub from_pair-lines_of_rule-requires : goal.from_pair-lines_of_rule-requires
 from_pair-lines_of_rule-requires = rules.from_pair-lines_of_rule-requires
-
-pub from_pair-first_symbols-part-requires : goal.from_pair-first_symbols-part-requires
-from_pair-first_symbols-part-requires = rules.from_pair-first_symbols-part-requires
 
 pub from_pair-lines_of_rule-requires-2 : goal.from_pair-lines_of_rule-requires-2
 from_pair-lines_of_rule-requires-2 = rules.from_pair-lines_of_rule-requires-2
 
 pub from_pair-read_pair-requires : goal.from_pair-read_pair-requires
 from_pair-read_pair-requires = rules.from_pair-read_pair-requires
-
-pub from_pair-pair_sides-requires : goal.from_pair-pair_sides-requires
-from_pair-pair_sides-requires = rules.from_pair-pair_sides-requires
 
 pub from_pair-settle-requires : goal.from_pair-settle-requires
 from_pair-settle-requires = rules.from_pair-settle-requires
@@ -101,11 +106,11 @@ from_pair-returns = rules.from_pair-returns
 pub give_equation-returns-in-Doubled-clause-both : goal.give_equation-returns-in-Doubled-clause-both
 give_equation-returns-in-Doubled-clause-both = requirements.give_equation-returns-in-Doubled-clause-both
 
-pub give_equation-give_member-requires : goal.give_equation-give_member-requires
-give_equation-give_member-requires = requirements.give_equation-give_member-requires
+pub give_equation-inherit-requires : goal.give_equation-inherit-requires
+give_equation-inherit-requires = requirements.give_equation-inherit-requires
 
-pub give_equation-returns-in_ok-give_member-in-Named-clause-both : goal.give_equation-returns-in_ok-give_member-in-Named-clause-both
-give_equation-returns-in_ok-give_member-in-Named-clause-both = requirements.give_equation-returns-in_ok-give_member-in-Named-clause-both
+pub give_equation-returns-in-Named-clause-both : goal.give_equation-returns-in-Named-clause-both
+give_equation-returns-in-Named-clause-both = requirements.give_equation-returns-in-Named-clause-both
 
 pub give_equation-give_required-requires : goal.give_equation-give_required-requires
 give_equation-give_required-requires = requirements.give_equation-give_required-requires
@@ -115,29 +120,28 @@ give_equation-returns-in-Required-clause-continues = requirements.give_equation-
 
 -- ---- requirements
 
-pub give_required-read_type-requires : goal.give_required-read_type-requires
-give_required-read_type-requires = requirements.give_required-read_type-requires
-
-pub give_required-read_type-requires-in-Layout : goal.give_required-read_type-requires-in-Layout
-give_required-read_type-requires-in-Layout = requirements.give_required-read_type-requires-in-Layout
-
-pub give_required-read_type-requires-in-Same : goal.give_required-read_type-requires-in-Same
-give_required-read_type-requires-in-Same = requirements.give_required-read_type-requires-in-Same
-
-pub give_required-read_type-requires-in-Same-2 : goal.give_required-read_type-requires-in-Same-2
-give_required-read_type-requires-in-Same-2 = requirements.give_required-read_type-requires-in-Same-2
-
 pub give_required-give_bound-requires : goal.give_required-give_bound-requires
-give_required-give_bound-requires = requirements.give_required-give_bound-requires
+give_required-give_bound-requires t c =
+    (omega (arith, c.decreases), (c.requires.scope, (sides_as _ _ _ _ _ _ _ c.in-Conf.is c.requires.shown).0))
 
-pub give_required-returns-in_ok-u-in-Conf-clause-continues : goal.give_required-returns-in_ok-u-in-Conf-clause-continues
-give_required-returns-in_ok-u-in-Conf-clause-continues = requirements.give_required-returns-in_ok-u-in-Conf-clause-continues
+pub give_required-returns-in-Conf : goal.give_required-returns-in-Conf
+give_required-returns-in-Conf = requirements.give_required-returns-in-Conf
 
 pub give_required-give_bound-requires-in-Layout : goal.give_required-give_bound-requires-in-Layout
-give_required-give_bound-requires-in-Layout = requirements.give_required-give_bound-requires-in-Layout
+give_required-give_bound-requires-in-Layout t c =
+    (omega (arith, c.decreases), (c.requires.scope, (sides_as _ _ _ _ _ _ _ c.in-Layout.is c.requires.shown).0))
 
-pub give_required-returns-in_ok-u-in-Layout-clause-continues : goal.give_required-returns-in_ok-u-in-Layout-clause-continues
-give_required-returns-in_ok-u-in-Layout-clause-continues = requirements.give_required-returns-in_ok-u-in-Layout-clause-continues
+pub give_required-returns-in-Layout : goal.give_required-returns-in-Layout
+give_required-returns-in-Layout = requirements.give_required-returns-in-Layout
+
+pub give_required-read_type-requires : goal.give_required-read_type-requires
+give_required-read_type-requires t c =
+    (omega (arith, c.decreases), (c.requires.scope, (sides_as _ _ _ _ _ _ _ c.in-Same.is c.requires.shown).0))
+
+pub give_required-read_type-requires-in-Same : goal.give_required-read_type-requires-in-Same
+give_required-read_type-requires-in-Same t c =
+    let shown = sides_as _ _ _ _ _ _ _ c.in-Same.is c.requires.shown in
+    (omega (arith, c.decreases), (scope_still c.requires.scope c.in_ok-u-in-Same.ensures.continues.grows, shown.1))
 
 pub give_required-give_same-requires : goal.give_required-give_same-requires
 give_required-give_same-requires = requirements.give_required-give_same-requires
@@ -145,19 +149,46 @@ give_required-give_same-requires = requirements.give_required-give_same-requires
 pub give_required-returns-in_ok-v-in-Same-clause-continues : goal.give_required-returns-in_ok-v-in-Same-clause-continues
 give_required-returns-in_ok-v-in-Same-clause-continues = requirements.give_required-returns-in_ok-v-in-Same-clause-continues
 
+-- ---- requirements of a bound
+
+pub give_bound-read_type-requires : goal.give_bound-read_type-requires
+give_bound-read_type-requires t c = (omega (arith, c.decreases), (c.requires.scope, c.requires.shown))
+
+pub give_bound-add_requirement-requires : goal.give_bound-add_requirement-requires
+give_bound-add_requirement-requires = requirements.give_bound-add_requirement-requires
+
+pub give_bound-read_word-requires : goal.give_bound-read_word-requires
+give_bound-read_word-requires t c =
+    let grows = grows_then c.in_ok-subject.ensures.continues.grows c.in_ok-add_requirement.ensures.continues.grows in
+    record { subject = is_still c.args.derivation.now _ grows c.args.scope.for_self c.requires.scope.for_self }
+
+pub give_bound-carry_bound-requires : goal.give_bound-carry_bound-requires
+give_bound-carry_bound-requires = requirements.give_bound-carry_bound-requires
+
+pub give_bound-returns : goal.give_bound-returns
+give_bound-returns = requirements.give_bound-returns
+
+pub give_bound-returns-in_err-add_requirement-clause-continues : goal.give_bound-returns-in_err-add_requirement-clause-continues
+give_bound-returns-in_err-add_requirement-clause-continues t c =
+    let u = c.in_ok-subject.ensures in
+    bound_put _ _ _ _ c.in_ok-subject.subject _ c.args.bounded.1 _ c.requires.scope.for_self u.stands c.bound_requirement.ensures
+    (λ b f. f.1) (continues_if (λ b f. f.0) u.continues) c.in_err-add_requirement.ensures.continues
+
+pub give_bound-returns-in_err-last-clause-continues : goal.give_bound-returns-in_err-last-clause-continues
+give_bound-returns-in_err-last-clause-continues = requirements.give_bound-returns-in_err-last-clause-continues
+
 -- ---- type parameters
 
 pub read_type-loop-k-init : goal.read_type-loop-k-init
 read_type-loop-k-init = type_parameters.read_type-loop-k-init
 
-pub read_type-first_symbols-part-requires : goal.read_type-first_symbols-part-requires
-read_type-first_symbols-part-requires = type_parameters.read_type-first_symbols-part-requires
-
 pub read_type-declare-requires : goal.read_type-declare-requires
 read_type-declare-requires = type_parameters.read_type-declare-requires
 
 pub read_type-read_word-requires : goal.read_type-read_word-requires
-read_type-read_word-requires = type_parameters.read_type-read_word-requires
+read_type-read_word-requires t c =
+    let grows = grows_then c.loop-k.invariant.continues.grows c.in_ok-named.ensures.continues.grows in
+    record { subject = is_still c.args.derivation.now c.declare.new.derivation grows c.args.scope.for_self c.requires.scope.for_self }
 
 pub read_type-equal_member-requires : goal.read_type-equal_member-requires
 read_type-equal_member-requires = type_parameters.read_type-equal_member-requires
@@ -180,7 +211,8 @@ pub declare-returns-in-Some-clause-given : goal.declare-returns-in-Some-clause-g
 declare-returns-in-Some-clause-given = type_parameters.declare-returns-in-Some-clause-given
 
 pub declare-returns-in-Some-clause-continues : goal.declare-returns-in-Some-clause-continues
-declare-returns-in-Some-clause-continues = type_parameters.declare-returns-in-Some-clause-continues
+declare-returns-in-Some-clause-continues t c =
+    continues_then (continues_anyway c.in_ok-last.ensures.continues) c.in_ok-named.ensures.continues
 
 pub declare-returns-in_ok-walk_along-in-None : goal.declare-returns-in_ok-walk_along-in-None
 declare-returns-in_ok-walk_along-in-None = type_parameters.declare-returns-in_ok-walk_along-in-None
@@ -215,24 +247,10 @@ walk_along-returns-in_err-join-clause-continues t c =
 pub settle-returns-in_err-last-clause-continues : goal.settle-returns-in_err-last-clause-continues
 settle-returns-in_err-last-clause-continues t c = continues_then c.in_ok-first.ensures.continues c.in_err-last.ensures.continues
 
-pub settle-returns-in_err-close-clause-continues : goal.settle-returns-in_err-close-clause-continues
-settle-returns-in_err-close-clause-continues t c =
-    continues_then (continues_then c.in_ok-first.ensures.continues c.in_ok-last.ensures.continues) (continues_anyway
-    c.in_err-close.ensures.continues)
-
 pub lines_of_rule-returns-in_err-give_equation-in-Given-clause-continues :
     goal.lines_of_rule-returns-in_err-give_equation-in-Given-clause-continues
 lines_of_rule-returns-in_err-give_equation-in-Given-clause-continues t c =
     continues_then (continues_anyway c.in_ok-said.ensures.continues) c.in_err-give_equation-in-Given.ensures.continues
-
-pub lines_of_rule-returns-in_err-settle-in-Given-clause-continues : goal.lines_of_rule-returns-in_err-settle-in-Given-clause-continues
-lines_of_rule-returns-in_err-settle-in-Given-clause-continues t c =
-    continues_then (continues_anyway c.in_ok-said.ensures.continues) (continues_then c.in_ok-give_equation-in-Given.ensures.continues
-    c.in_err-settle-in-Given.ensures.continues)
-
-pub lines_of_rule-returns-in_err-from_pair-in-Pair-clause-continues : goal.lines_of_rule-returns-in_err-from_pair-in-Pair-clause-continues
-lines_of_rule-returns-in_err-from_pair-in-Pair-clause-continues t c =
-    continues_then (continues_anyway c.in_ok-said.ensures.continues) c.in_err-from_pair-in-Pair.ensures.continues
 
 pub from_pair-returns-in_err-v-clause-continues : goal.from_pair-returns-in_err-v-clause-continues
 from_pair-returns-in_err-v-clause-continues t c =
@@ -243,23 +261,11 @@ from_pair-returns-in_err-lines_of_rule-2-clause-continues t c =
     continues_then (continues_then c.in_ok-lines_of_rule.ensures.continues (continues_anyway c.in_ok-v.ensures.continues))
     c.in_err-lines_of_rule-2.ensures.continues
 
-pub from_pair-returns-in_err-read_pair-clause-continues : goal.from_pair-returns-in_err-read_pair-clause-continues
-from_pair-returns-in_err-read_pair-clause-continues t c =
-    continues_then (continues_then (continues_then c.in_ok-lines_of_rule.ensures.continues (continues_anyway
-    c.in_ok-v.ensures.continues)) c.in_ok-lines_of_rule-2.ensures.continues) (continues_if (λ b f. f.alphabet)
-    c.in_err-read_pair.ensures.continues)
-
 pub from_pair-returns-in_err-left-clause-continues : goal.from_pair-returns-in_err-left-clause-continues
 from_pair-returns-in_err-left-clause-continues t c =
     continues_then (continues_then (continues_then c.in_ok-lines_of_rule.ensures.continues (continues_anyway
     c.in_ok-v.ensures.continues)) c.in_ok-lines_of_rule-2.ensures.continues) (continues_if (λ b f. f.alphabet)
-    c.in_ok-read_pair.ensures.continues)
-
-pub from_pair-returns-in_err-settle-clause-continues : goal.from_pair-returns-in_err-settle-clause-continues
-from_pair-returns-in_err-settle-clause-continues t c =
-    continues_then (continues_then (continues_then (continues_then c.in_ok-lines_of_rule.ensures.continues (continues_anyway
-    c.in_ok-v.ensures.continues)) c.in_ok-lines_of_rule-2.ensures.continues) (continues_if (λ b f. f.alphabet)
-    c.in_ok-read_pair.ensures.continues)) c.in_err-settle.ensures.continues
+    c.in_err-left.ensures.continues)
 
 pub give_required-returns-in_err-v-in-Same-clause-continues : goal.give_required-returns-in_err-v-in-Same-clause-continues
 give_required-returns-in_err-v-in-Same-clause-continues t c =

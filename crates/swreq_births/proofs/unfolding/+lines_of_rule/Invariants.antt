@@ -29,11 +29,14 @@ abbrev pub decreases-from_pair : goal.decreases-from_pair
 decreases-from_pair l = l.at.system * 1099511627776 + (l.at.rule * 16 + 6)
 
 abbrev pub decreases-give_equation : goal.decreases-give_equation
-decreases-give_equation l = l.system * 1099511627776 + 4
+decreases-give_equation l = l.system * 1099511627776 + 5
 
 -- What is read by the rules of a system counts more than that system, and less than the next one.
 abbrev pub decreases-give_required : goal.decreases-give_required
-decreases-give_required l = (l.scope.system + 1) * 1099511627776 + 3
+decreases-give_required l = (l.scope.system + 1) * 1099511627776 + 4
+
+abbrev pub decreases-give_bound : goal.decreases-give_bound
+decreases-give_bound l = (l.scope.system + 1) * 1099511627776 + 3
 
 abbrev pub decreases-read_type : goal.decreases-read_type
 decreases-read_type l = (l.scope.system + 1) * 1099511627776 + 2

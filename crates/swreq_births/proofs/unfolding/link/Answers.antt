@@ -4,27 +4,24 @@ use Rattle.swreq_complete.proofs.swreq_path.Leading.{one_end}
 use Rattle.swreq_births.{specs.Systems.{rules_at}, proofs.{Headed.{all_at, all_there}, Alike.{both_as}}}
 use Rattle.swreq_births.proofs.unfolding.link.Goals as goal
 
-pub walk_along-requires-clause-rules : goal.walk_along-requires-clause-rules
-walk_along-requires-clause-rules c =
-    all_there c.args.history.now c.all_of.result c.args.system c.requires.system
-    (all_at c.args.history.now c.all_of.result c.args.system c.all_rules-rules.result.now c.requires.system c.all_of.ensures
-    c.all_rules-rules.ensures)
-
 pub walk_along-requires-clause-path : goal.walk_along-requires-clause-path
 walk_along-requires-clause-path c =
-    let all = all_at c.args.history.now c.all_of.result c.args.system c.all_rules-rules.result.now c.requires.system c.all_of.ensures
+    let b = c.args.history.now in
+    let all = all_at b c.all_of-at.result c.args.scope.system c.all_rules-rules.result.now c.requires.scope.system c.all_of-at.ensures
     c.all_rules-rules.ensures in
     let target = MatchOption-at_some (ReduceAlike c.all_rules-rules.result.now c.args.from.now c.args.to.now → ⊥)
     (λ (p : Path). HasTarget c.all_rules-rules.result.now p c.args.to.now)
-    c.in-Some.path c.in-Some.is c.in_ok-path_between.ensures.target in
-    (c.args.to.now, subst (λ z. HasTarget z c.in-Some.path c.args.to.now) (c.all_rules-rules.ensures ∙ sym all.taken) target)
+    c.in-Some.path c.in-Some.is c.in_ok-path_between.ensures.target in record {
+      rules = all_there b c.all_of-at.result c.args.scope.system c.requires.scope.system all;
+      end = c.args.to.now;
+      leads = subst (λ z. HasTarget z c.in-Some.path c.args.to.now) (c.all_rules-rules.ensures ∙ sym all.taken) target;
+    }
 
 pub returns-clause-both : goal.returns-clause-both
 returns-clause-both c =
-    let rules = rules_at c.args.history.now c.args.system in
+    let rules = rules_at c.args.history.now c.args.scope.system in
     let path = c.in-Some.path in
-    let all = all_at c.args.history.now c.all_of.result c.args.system c.all_rules-rules.result.now c.requires.system c.all_of.ensures
-    c.all_rules-rules.ensures in
+    let all = all_at c.args.history.now _ c.args.scope.system _ c.requires.scope.system c.all_of-at.ensures c.all_rules-rules.ensures in
     let walked = c.in_ok-walk_along-in-Some.ensures in
     let target = MatchOption-at_some (ReduceAlike c.all_rules-rules.result.now c.args.from.now c.args.to.now → ⊥)
     (λ (p : Path). HasTarget c.all_rules-rules.result.now p c.args.to.now)

@@ -1,10 +1,8 @@
-use Rattle.std.proofs.Common.{◌≡◌, ◌∙◌, [], ◌∷◌, ◌++◌, append_assoc, ap, arith, map}
-use Rattle.std.proofs.lemmas.List.{length-map, map-append}
-use Rattle.swreq_machine.proofs.swreq_lemmas.Elements.{there_is}
-use Rattle.swreq_machine.specs.swreq_rounds.Given.{doubled, named_from}
+use Rattle.std.proofs.{Common.{◌≡◌, ◌∙◌, [], ◌∷◌, ◌++◌, append_assoc, ap, arith, map}, lemmas.List.{length-map, map-append}}
+use Rattle.swreq_machine.proofs.{swreq_lemmas.Elements.{there_is}, swreq_valid.OfProtocols.{name_more, names_all}}
 use Rattle.swreq_machine.specs.swreq_symbols.Meaning.{member_name, symbols_of}
-use Rattle.swreq_machine.proofs.swreq_valid.OfProtocols.{name_more, names_all}
 use Rattle.swreq_explain.specs.Numbering.{sides_of}
+use Rattle.swreq_machine.specs.swreq_rounds.Given.{doubled, named_from}
 use Rattle.swreq_explain.proofs.equations.add_protocol.Goals as goal
 
 pub loop-rank-preserved : goal.loop-rank-preserved
@@ -32,7 +30,7 @@ returns c =
     let test = c.loop-rank-test.false in
     let end = c.members-rank-end.ensures in
     let count = length-map x.symbols member_name in
-    let sides : sides_of e ≡ doubled p = λ i. (c.in_ok-e.ensures.left i, c.in_ok-e.ensures.right i) in
+    let sides : sides_of e ≡ doubled p = ap sides_of c.in_ok-e.ensures in
     record {
       sides =
           names_all p ms c.loop-rank.rank (map sides_of c.loop-rank.given.items) (map sides_of c.push.new.self.items ++ named_from p 0 ms)

@@ -1,7 +1,7 @@
 use Rattle.std.proofs.Common.{◌≡◌, ◌++◌, drop, map}
-use Rattle.swreq_machine.specs.swreq_rounds.Given.{named_from}
 use Rattle.swreq_machine.specs.swreq_symbols.Meaning.{symbols_of}
 use Rattle.swreq_explain.specs.Numbering.{AreBasic, sides_of}
+use Rattle.swreq_machine.specs.swreq_rounds.Given.{named_from}
 use Rattle.swreq_explain.proofs.equations.add_protocol.Given as goal
 
 abbrev pub invariant-loop-rank : goal.invariant-loop-rank

@@ -1,12 +1,7 @@
 use Rattle.std.proofs.Common.{subst}
-use Rattle.swreq_machine.specs.swreq_derive.declared.known.Params.{Params}
-use Rattle.swreq_machine.specs.swreq_derive.Derivation.{Derivable}
-use Rattle.swreq_machine.specs.swreq_derive.Derivation.Source.{Written}
-use Rattle.swreq_machine.specs.swreq_derive.Derivation.TermStatement.{Requires}
-use Rattle.swreq_machine.specs.swreq_derive.Facts.{generic_params, requirement_of}
-use Rattle.swreq_machine.specs.swreq_world.ByTable.{world_by}
-use Rattle.swreq_machine.specs.swreq_world.FactsAt.{facts_of, written_list}
-use Rattle.swreq_machine.specs.swreq_world.Worlds.{signature_at}
+use Rattle.swreq_machine.specs.swreq_derive.{declared.known.Params.{Params}, Derivation.{Derivable, Source.{Written}}}
+use Rattle.swreq_machine.specs.swreq_derive.{Derivation.TermStatement.{Requires}, Facts.{generic_params, requirement_of}}
+use Rattle.swreq_machine.specs.swreq_world.{ByTable.{world_by}, FactsAt.{facts_of, written_list}, Worlds.{signature_at}}
 use Rattle.swreq_explain.proofs.explaining.derivation_of.Goals as goal
 
 pub explain-requires-clause-yes : goal.explain-requires-clause-yes

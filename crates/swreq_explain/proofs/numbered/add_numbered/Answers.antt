@@ -1,6 +1,5 @@
 use Rattle.std.proofs.Common.{◌++◌}
-use Rattle.swreq_explain.specs.Numbering.{numbered_from}
-use Rattle.swreq_explain.proofs.NumberingLemmas.{numbered_all, numbered_more}
+use Rattle.swreq_explain.{specs.Numbering.{numbered_from}, proofs.NumberingLemmas.{numbered_all, numbered_more}}
 use Rattle.swreq_explain.proofs.numbered.add_numbered.Goals as goal
 
 pub loop-k-preserved : goal.loop-k-preserved

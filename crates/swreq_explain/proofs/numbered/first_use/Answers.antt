@@ -1,20 +1,25 @@
-use Rattle.std.proofs.Common.{◌≡◌, ◌∙◌, inl, inr, arith, subst, sym, true≢false}
-use Rattle.std.proofs.lemmas.Bool.{cases_lt}
-use Rattle.std.proofs.lemmas.Option.{slice_get_within}
-use Rattle.swreq_explain.specs.Uses.{Uses}
+use Rattle.std.proofs.{Common.{◌≡◌, ◌∙◌, inl, inr, arith, subst, sym, true≢false}, lemmas.Bool.{cases_lt}}
+use Rattle.swreq_explain.{specs.Uses.{Uses}, proofs.Makings.{used_place, used_round}}
 use Rattle.swreq_explain.proofs.numbered.first_use.Goals as goal
 
-pub loop-round-preserved : goal.loop-round-preserved
-loop-round-preserved c i l u = elim (cases_lt i c.loop-round.round) [
-  | inl h ↦ c.loop-round.invariant i h u
-  | inr h ↦ (let same : i ≡ c.loop-round.round = omega (arith, h, l) in
+pub uses-requires-clause-round : goal.uses-requires-clause-round
+uses-requires-clause-round c =
+    let within = used_round c.args.makings c.args.round c.args.place c.requires in let test = c.loop-earlier-test.true in omega
+    (arith, within, test)
+
+pub uses-requires-clause-place : goal.uses-requires-clause-place
+uses-requires-clause-place c = used_place c.args.makings c.args.round c.args.place c.requires
+
+pub loop-earlier-preserved : goal.loop-earlier-preserved
+loop-earlier-preserved c i l u = elim (cases_lt i c.loop-earlier.earlier) [
+  | inl h ↦ c.loop-earlier.invariant i h u
+  | inr h ↦ (let same : i ≡ c.loop-earlier.earlier = omega (arith, h, l) in
       let set = c.uses.ensures.1 (subst (λ n. Uses c.args.makings.rounds.now n c.args.place) same u) in
       absurd (true≢false (sym set ∙ c.if-uses.false)))
 ]
 
-pub unreachable-requires : goal.unreachable-requires
-unreachable-requires c =
-    let (k, u) = c.requires.used in
-    let (r, at, set) = u in
-    let within = slice_get_within c.args.makings.rounds.now k r at in
-    c.loop-round.invariant k (omega (arith, within, c.loop-round-test.false, c.count-round-end.ensures.count)) u
+pub returns-clause-first : goal.returns-clause-first
+returns-clause-first c = record {
+  uses = c.requires;
+  none_before = λ i l u. c.loop-earlier.invariant i (let end = c.loop-earlier-test.false in omega (arith, l, end)) u;
+}

@@ -1,28 +1,20 @@
-use Rattle.std.proofs.Common.{arith, true}
-use Rattle.std.proofs.lemmas.Option.{slice_get_within}
-use Rattle.swreq_explain.proofs.UseLemmas.{first_within}
+use Rattle.std.proofs.Common.{arith}
+use Rattle.swreq_explain.proofs.Makings.{made, used_round}
 use Rattle.swreq_explain.proofs.numbered.shown_by.Goals as goal
-
-pub first_use-requires-clause-place : goal.first_use-requires-clause-place
-first_use-requires-clause-place c =
-    let (r, at, set) = c.requires.used in
-    let within = slice_get_within r.used c.args.place true set in
-    let flags = c.requires.flags c.args.round r at in
-    omega (arith, within, flags)
 
 pub overflow_add-joined : goal.overflow_add-joined
 overflow_add-joined c =
-    let before = first_within c.args.makings.rounds.now c.first_use.result c.args.round c.args.place c.first_use.ensures c.requires.used in
-    let room = c.requires.room in
-    omega (arith, before, room)
+    let within = c.first_use.ensures.within in
+    let below = used_round c.args.makings c.args.round c.args.place c.requires in
+    let room = (made c.args.makings).room in
+    omega (arith, within, below, room)
 
 pub returns : goal.returns
-returns c = λ x is.
-    record {
-      place = c.args.place;
-      there = is;
-      round = c.first_use.result;
-      within = first_within c.args.makings.rounds.now c.first_use.result c.args.round c.args.place c.first_use.ensures c.requires.used;
-      first_use = c.first_use.ensures;
-      system_is = c.saturating_sub.ensures;
-    }
+returns c = λ x is. record {
+  place = c.args.place;
+  there = is;
+  round = c.first_use.result;
+  within = c.first_use.ensures.within;
+  first_use = c.first_use.ensures.first;
+  system_is = c.saturating_sub.ensures;
+}

@@ -1,11 +1,21 @@
 use Rattle.std.proofs.Common.{◌≡◌, ◌∙◌, ap, sym}
 use Rattle.swreq_machine.specs.swreq_param.Tables.{term_at}
-use Rattle.swreq_readings.specs.Readable.{read_word}
-use Rattle.swreq_readings.proofs.ReadingLemmas.{equal_as, equal_ids_now, equal_now, is_still, term_still}
-use Rattle.swreq_explain.specs.Stating.{alphabet_at}
-use Rattle.swreq_explain.proofs.SideLemmas.{read_ids, read_still}
+use Rattle.swreq_readings.{specs.Readable.{read_word}, proofs.ReadingLemmas.{equal_as, equal_ids_now, is_still, term_still}}
+use Rattle.swreq_explain.{specs.Stating.{alphabet_at}, proofs.SideLemmas.{read_ids, read_still, ready_still}}
 use Rattle.swreq_derivation.proofs.DerivationLemmas.{continues_anyway, continues_then, grows_then}
 use Rattle.swreq_explain.proofs.stating.equate.Goals as goal
+
+pub link-requires-clause-scope : goal.link-requires-clause-scope
+link-requires-clause-scope c =
+    ready_still c.args.reader c.args.derivation.now c.read_side-2.new.derivation
+    (grows_then c.in_ok-first.ensures.continues.grows c.in_ok-last.ensures.continues.grows) c.requires.left.ready
+
+pub read_side-requires-2 : goal.read_side-requires-2
+read_side-requires-2 c = record {
+  ready = ready_still c.args.reader c.args.derivation.now c.read_side.new.derivation c.in_ok-first.ensures.continues.grows
+      c.requires.right.ready;
+  word = c.requires.right.word;
+}
 
 pub add_trans-requires-clause-first : goal.add_trans-requires-clause-first
 add_trans-requires-clause-first c =
@@ -34,22 +44,22 @@ add_trans-requires-clause-second c =
     let term_2 = term_at s2.table d.t in
     let first = read_still d c.args.left term_0 s1 s3 (grows_then g2 g3) c.in_ok-first.first c.in_ok-first.ensures.read in
     let last = read_still d c.args.right term_1 s2 s3 g3 c.in_ok-last.last c.in_ok-last.ensures.read in
-    let same_1 : term_1 ≡ term_0 = term_still s0 s1 g1 d.t c.requires.ready.t in
-    let same_2 : term_2 ≡ term_1 = term_still s1 s2 g2 d.t (is_still s0 s1 g1 d.t c.requires.ready.t) in (
+    let same_1 : term_1 ≡ term_0 = term_still s0 s1 g1 d.t c.requires.left.ready.for_self in
+    let same_2 : term_2 ≡ term_1 = term_still s1 s2 g2 d.t (is_still s0 s1 g1 d.t c.requires.left.ready.for_self) in (
       last.word_of,
       first.word_of,
       equal_as s3 _ _ _ _ (last.word ∙ ap (λ z. read_word g z v) (sym same_2))
           (first.word ∙ ap (λ z. read_word g z u) (sym (same_2 ∙ same_1))) c.in_ok-link.ensures.both.equal,
     )
 
-pub add_symm-requires-clause-equal : goal.add_symm-requires-clause-equal
-add_symm-requires-clause-equal c =
+pub add_symm-requires : goal.add_symm-requires
+add_symm-requires c =
     let s1 = c.read_side.new.derivation in
     let s2 = c.read_side-2.new.derivation in
     let s3 = c.link.new.derivation in
     let g2 = c.in_ok-last.ensures.continues.grows in
     let g3 = c.in_ok-link.ensures.continues.grows in
-    equal_now s3 c.add_trans.new.derivation c.in_ok-add_trans.ensures.continues.grows c.in_ok-last.last.itself c.in_ok-first.first.word
+    equal_ids_now s3 c.add_trans.new.derivation c.in_ok-add_trans.ensures.continues.grows c.in_ok-last.last.itself c.in_ok-first.first.word
     (is_still s2 s3 g3 c.in_ok-last.last.itself c.in_ok-last.ensures.read.itself_of)
     (is_still s1 s3 (grows_then g2 g3) c.in_ok-first.first.word c.in_ok-first.ensures.read.word_of) c.in_ok-add_trans.ensures.equal
 
@@ -99,10 +109,12 @@ returns c =
     let first_now = read_still d c.args.left term_0 s5 s6 g6 c.in_ok-first.first first in
     let last_now = read_still d c.args.right term_1 s5 s6 g6 c.in_ok-last.last last in
     record {
-      ids = (first_now.itself_of, last_now.itself_of);
-      first = first_now.itself;
-      last = last_now.itself;
-      equal = equal_as s6 _ _ _ _ (sym first.itself) (sym last.itself) c.in_ok-add_trans-2.ensures.equal;
+      equated = record {
+        ids = (first_now.itself_of, last_now.itself_of);
+        first = first_now.itself;
+        last = last_now.itself;
+        equal = equal_as s6 _ _ _ _ (sym first.itself) (sym last.itself) c.in_ok-add_trans-2.ensures.equal;
+      };
       continues = continues_then (continues_then (continues_then c.in_ok-first.ensures.continues c.in_ok-last.ensures.continues)
           c.in_ok-link.ensures.continues) (continues_anyway (continues_then (continues_then c.in_ok-add_trans.ensures.continues
           c.in_ok-add_symm.ensures.continues) c.in_ok-add_trans-2.ensures.continues));

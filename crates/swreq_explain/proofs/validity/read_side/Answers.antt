@@ -1,6 +1,5 @@
 use Rattle.std.proofs.Common.{ap, ◌∙◌}
-use Rattle.swreq_readings.specs.Readable.{read_word}
-use Rattle.swreq_readings.proofs.ReadingLemmas.{equal_still, is_still, term_still, word_still}
+use Rattle.swreq_readings.{specs.Readable.{read_word}, proofs.ReadingLemmas.{equal_still, is_still, term_still, word_still}}
 use Rattle.swreq_explain.specs.Stating.{alphabet_at}
 use Rattle.swreq_derivation.proofs.DerivationLemmas.{continues_anyway, continues_then}
 use Rattle.swreq_explain.proofs.validity.read_side.Goals as goal
@@ -19,7 +18,7 @@ returns-clause-read c =
       itself_of = is_still s1 s2 g2 c.in_ok-itself.itself c.in_ok-itself.ensures.is_of;
       word_of = c.in_ok-word.ensures.is_of;
       itself = term_still s1 s2 g2 c.in_ok-itself.itself c.in_ok-itself.ensures.is_of ∙ c.in_ok-itself.ensures.stands;
-      word = c.in_ok-word.ensures.stands ∙ ap (λ z. read_word g z w) (term_still s0 s1 g1 d.t c.requires.ready.t);
+      word = c.in_ok-word.ensures.stands ∙ ap (λ z. read_word g z w) (term_still s0 s1 g1 d.t c.requires.ready.for_self);
       says = word_still g s1 s2 g2 _ w c.in_ok-itself.ensures.word;
       equal = equal_still g s1 s2 g2 _ _ c.in_ok-itself.ensures.equal;
     }

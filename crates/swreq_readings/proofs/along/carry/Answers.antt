@@ -1,28 +1,44 @@
-use Rattle.std.proofs.Common.{sym, ap, ◌∙◌}
-use Rattle.swreq_readings.{specs.Readable.{read_symbol}, proofs.ReadingLemmas.{equal_as, equal_ids_still, symbol_now, term_still}}
+use Rattle.std.proofs.Common.{sym, ap, subst, ◌∙◌}
+use Rattle.swreq_derive.specs.swreq_param.Terms.{Term}
+use Rattle.swreq_readings.specs.Readable.{AllowsSymbol, read_symbol}
+use Rattle.swreq_readings.proofs.ReadingLemmas.{equal_ids_now, equal_ids_still, is_still, symbol_now, term_still}
 use Rattle.swreq_derivation.proofs.DerivationLemmas.{continues_anyway, continues_then, grows_then}
 use Rattle.swreq_readings.proofs.along.carry.Goals as goal
 
-pub carry_symbol-requires-clause-symbol : goal.carry_symbol-requires-clause-symbol
-carry_symbol-requires-clause-symbol c =
-    symbol_now c.args.alphabet.now c.args.derivation.now c.read_symbol-2.new.derivation (grows_then c.in_ok-first.ensures.continues.grows
-    c.in_ok-second.ensures.continues.grows) c.args.from c.args.symbol c.requires.from c.requires.symbol
+pub carry_symbol-requires : goal.carry_symbol-requires
+carry_symbol-requires c =
+    let first = c.in_ok-first.ensures in
+    let second = c.in_ok-second.ensures in
+    let grows = grows_then first.continues.grows second.continues.grows in
+    let on = λ (z : Term). read_symbol c.args.alphabet.now z c.args.symbol in
+    let equal = equal_ids_still _ _ grows c.args.from c.args.to c.requires.equal in
+    let to = term_still _ _ second.continues.grows c.args.to (is_still _ _ first.continues.grows c.args.to c.requires.equal.1) in
+    record {
+      symbol = symbol_now c.args.alphabet.now _ _ grows c.args.from c.args.symbol c.requires.equal.0 c.requires.symbol;
+      equal = equal;
+      first = (
+        is_still _ _ second.continues.grows c.in_ok-first.first first.is_of,
+        term_still _ _ second.continues.grows c.in_ok-first.first first.is_of ∙ first.stands
+            ∙ ap on (sym (term_still _ _ grows c.args.from c.requires.equal.0)),
+      );
+      second = (second.is_of, second.stands ∙ ap on (sym to));
+    }
 
-pub carry_symbol-requires-clause-equal : goal.carry_symbol-requires-clause-equal
-carry_symbol-requires-clause-equal c =
-    equal_ids_still c.args.derivation.now c.read_symbol-2.new.derivation (grows_then c.in_ok-first.ensures.continues.grows
-    c.in_ok-second.ensures.continues.grows) c.args.from c.args.to (c.requires.from, c.requires.to, c.requires.equal)
-
-pub returns-clause-equal : goal.returns-clause-equal
-returns-clause-equal c =
-    let g = c.args.alphabet.now in
-    let s1 = c.read_symbol.new.derivation in
-    let s2 = c.read_symbol-2.new.derivation in
-    equal_as c.carry_symbol.new.derivation _ _ _ _
-    (sym (term_still s1 s2 c.in_ok-second.ensures.continues.grows c.in_ok-first.first c.in_ok-first.ensures.is_of ∙
-    c.in_ok-first.ensures.stands)) (sym (c.in_ok-second.ensures.stands ∙ ap (λ z. read_symbol g z c.args.symbol)
-    (term_still c.args.derivation.now s1 c.in_ok-first.ensures.continues.grows c.args.to c.requires.to)))
-    c.in_ok-carry_symbol.ensures.equal
+pub returns-clause-carried : goal.returns-clause-carried
+returns-clause-carried c =
+    let first = c.in_ok-first.ensures in
+    let second = c.in_ok-second.ensures in
+    let last = c.in_ok-carry_symbol.ensures in
+    let on = λ (z : Term). read_symbol c.args.alphabet.now z c.args.symbol in
+    let of = is_still _ _ second.continues.grows c.in_ok-first.first first.is_of in
+    let to = term_still _ _ (grows_then first.continues.grows second.continues.grows) c.args.to c.requires.equal.1 in
+    record {
+      word = (subst (λ z. AllowsSymbol c.args.alphabet.now c.carry_symbol.new.derivation z c.args.symbol) to last.symbol, tt);
+      first = term_still _ _ (grows_then second.continues.grows last.continues.grows) c.in_ok-first.first first.is_of ∙ first.stands;
+      second = term_still _ _ last.continues.grows c.in_ok-second.second second.is_of ∙ second.stands
+          ∙ ap on (term_still _ _ first.continues.grows c.args.to c.requires.equal.1);
+      equal = equal_ids_now _ _ last.continues.grows c.in_ok-first.first c.in_ok-second.second of second.is_of last.equal;
+    }
 
 pub returns-clause-continues : goal.returns-clause-continues
 returns-clause-continues c =

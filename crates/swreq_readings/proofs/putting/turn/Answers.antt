@@ -1,18 +1,15 @@
-use Rattle.std.proofs.Common.{ap, sym, ◌∙◌}
-use Rattle.std.proofs.lemmas.Result.{on_ok_weaker}
+use Rattle.std.proofs.{Common.{sym}, lemmas.Result.{on_ok_weaker}}
 use Rattle.swreq_derive.specs.swreq_param.Tables.{term_at}
-use Rattle.swreq_readings.{specs.Readable.{read_word}, proofs.ReadingLemmas.{both_still, equal_as, equal_still, term_still}}
+use Rattle.swreq_readings.proofs.ReadingLemmas.{alike_ids, both_still, equal_as, first_read, second_read}
 use Rattle.swreq_derivation.proofs.DerivationLemmas.{continues_then, grows_then}
 use Rattle.swreq_readings.proofs.putting.turn.Goals as goal
 
-pub add_symm-requires-clause-equal : goal.add_symm-requires-clause-equal
-add_symm-requires-clause-equal c =
+pub add_symm-requires : goal.add_symm-requires
+add_symm-requires c =
     let first = c.in_ok-first.ensures in
     let second = c.in_ok-second.ensures in
-    equal_as c.read_word-2.new.derivation _ _ _ _ (term_still _ _ second.continues.grows c.in_ok-first.first first.is_of ∙ first.stands)
-    (second.stands ∙ ap (λ z. read_word c.args.alphabet.now z c.args.to.now) (term_still _ _ first.continues.grows c.args.subject
-    c.requires.subject))
-    (equal_still c.args.alphabet.now _ _ (grows_then first.continues.grows second.continues.grows) _ _ c.requires.both.equal)
+    alike_ids c.args.alphabet.now c.args.subject c.requires.subject c.args.from.now c.args.to.now first.continues.grows
+    second.continues.grows _ _ first.is_of first.stands second.is_of second.stands c.requires.both.equal
 
 pub returns-clause-both : goal.returns-clause-both
 returns-clause-both c =
@@ -21,15 +18,19 @@ returns-clause-both c =
     let n = c.add_symm.new.derivation in
     let first = c.in_ok-first.ensures in
     let second = c.in_ok-second.ensures in
-    let gr = grows_then (grows_then first.continues.grows second.continues.grows) c.add_symm.ensures.continues.grows in
-    let w = both_still g s n gr (term_at s.table c.args.subject) c.args.from.now c.args.to.now c.requires.both in
+    let one = first.continues.grows in
+    let two = second.continues.grows in
+    let of = c.requires.subject in
+    let from = c.args.from.now in
+    let to = c.args.to.now in
+    let w = both_still g s n (grows_then (grows_then one two) c.add_symm.ensures.continues.grows) (term_at s.table c.args.subject)
+    c.args.from.now c.args.to.now c.requires.both in
     on_ok_weaker c.add_symm.result (λ equal. record {
       left = w.right;
       right = w.left;
       equal = equal_as n _ _ _ _
-          (sym (second.stands ∙ ap (λ z. read_word g z c.args.to.now) (term_still _ _ first.continues.grows c.args.subject
-          c.requires.subject)))
-          (sym (term_still _ _ second.continues.grows c.in_ok-first.first first.is_of ∙ first.stands)) equal;
+          (sym (second_read g c.args.subject of from to one two _ _ first.is_of first.stands second.is_of second.stands))
+          (sym (first_read g c.args.subject of from to one two _ _ first.is_of first.stands second.is_of second.stands)) equal;
     }) c.add_symm.ensures.equal
 
 pub returns-clause-continues : goal.returns-clause-continues

@@ -4,10 +4,9 @@ use Rattle.swreq_param.specs.Tables.{term_at}
 use Rattle.swreq_readings.specs.Readable.{read_word, AllowsWord}
 use Rattle.swreq_readings.proofs.ReadingLemmas.{is_still, both_still, term_still, word_right, word_still}
 use Rattle.swreq_births.{specs.Systems.{rules_at}, proofs.{Alike.{both_as}, Headed.{headed, stands_before}, Asking.{side_allows}}}
-use Rattle.swreq_births.proofs.PathSteps.{goes_along, goes_on, went_on, rule_before, step_by}
+use Rattle.swreq_births.proofs.PathSteps.{goes_along, goes_on, is_number, went_on, rule_before, step_by}
 use Rattle.swreq_derivation.proofs.DerivationLemmas.{continues_anyway, continues_if, continues_then, grows_then}
 use Rattle.swreq_complete.specs.{swreq_rule.Steps.{RuleAt}, swreq_path.Paths.{put_side, replaced_side, StepsLead}}
-use Rattle.swreq_complete.proofs.swreq_rule.Numbers.{number_some, number_within}
 use Rattle.swreq_births.proofs.unfolding.+lines_of_rule.Goals as goal
 
 pub walk_along-rule_of-rule-requires : goal.walk_along-rule_of-rule-requires
@@ -15,11 +14,9 @@ walk_along-rule_of-rule-requires t c =
     let path = c.args.path.now in
     let rules = c.rules_before-rules.result.now in
     let step = c.step_of-step.result.now in
-    let go = goes_along rules _ path c.loop-k.k step c.loop-k.word c.requires.path.0 c.rules_before-rules.ensures c.step_of-step.ensures
-    c.loop-k.invariant.left c.requires.path.1 in record {
-      above = number_some rules step.rule go.leads.rule go.leads.is_rule;
-      within = number_within rules step.rule go.leads.rule go.leads.is_rule;
-    }
+    let go = goes_along rules _ path c.loop-k.k step c.loop-k.word c.requires.path.end c.rules_before-rules.ensures c.step_of-step.ensures
+    c.loop-k.invariant.left c.requires.path.leads in
+    is_number rules step.rule go.leads.rule go.leads.is_rule
 
 pub walk_along-lines_of_rule-requires : goal.walk_along-lines_of_rule-requires
 walk_along-lines_of_rule-requires t c =
@@ -33,19 +30,19 @@ walk_along-lines_of_rule-requires t c =
     let rules = c.rules_before-rules.result.now in
     let step = c.step_of-step.result.now in
     let rule = c.rule_of-rule.result.now in
-    let by = step_by rules _ path c.loop-k.k step c.loop-k.word c.requires.path.0 c.rules_before-rules.ensures c.step_of-step.ensures
-    c.loop-k.invariant.left c.requires.path.1 rule c.rule_of-rule.ensures in
+    let by = step_by rules _ path c.loop-k.k step c.loop-k.word c.requires.path.end c.rules_before-rules.ensures c.step_of-step.ensures
+    c.loop-k.invariant.left c.requires.path.leads rule c.rule_of-rule.ensures in
     let among = rule_before (rules_at b at.system) at.rule step.rule rule
     (subst (λ z. RuleAt z step.rule rule) c.rules_before-rules.ensures c.rule_of-rule.ensures) in
-    let asks = headed b c.requires.rules.system.history at.system (step.rule - 1) rule among.1 in
+    let asks = headed b c.requires.path.rules.system.history at.system (step.rule - 1) rule among.1 in
     let here = c.in_ok-v.ensures.stands ∙ ap (λ z. read_word g (term_at s.table c.args.subject) z) c.symbols.ensures
-    ∙ ap (λ z. read_word g z step.before) (term_still s0 s c.loop-k.invariant.continues.grows c.args.subject c.requires.subject) in
+    ∙ ap (λ z. read_word g z step.before) (term_still s0 s c.loop-k.invariant.continues.grows c.args.subject c.requires.word.subject) in
     let says = word_right g s1 (term_at s0.table c.args.subject) step.before (replaced_side step.forward rule ++ step.after)
     (subst (AllowsWord g s1 (term_at s0.table c.args.subject)) by.source
     (word_still g s s1 c.in_ok-v.ensures.continues.grows (term_at s0.table c.args.subject) c.loop-k.word c.loop-k.invariant.both.right)) in
     let allows = side_allows g s1 (term_at s1.table c.in_ok-v.v) rule step.forward step.after asks
     (subst (λ z. AllowsWord g s1 z (replaced_side step.forward rule ++ step.after)) (sym here) says) in
-    let x = stands_before b at c.before-in-loop-k.result step.rule rule c.requires.rules.system c.before-in-loop-k.ensures among.0
+    let x = stands_before b at c.before-in-loop-k.result step.rule rule c.requires.path.rules.system c.before-in-loop-k.ensures among.0
     among.1 in (
       omega (arith, c.decreases, x.same, x.earlier),
       record { rule = x.there; subject = c.in_ok-v.ensures.is_of; head = allows },
@@ -64,15 +61,15 @@ walk_along-take_step-requires t c =
     let rule = c.rule_of-rule.result.now in
     let gr = grows_then c.in_ok-v.ensures.continues.grows c.in_ok-lines_of_rule.ensures.continues.grows in
     let g02 = grows_then c.loop-k.invariant.continues.grows gr in
-    let is = is_still s0 s c.loop-k.invariant.continues.grows c.args.subject c.requires.subject in
-    let by = step_by rules _ path c.loop-k.k step c.loop-k.word c.requires.path.0 c.rules_before-rules.ensures c.step_of-step.ensures
-    c.loop-k.invariant.left c.requires.path.1 rule c.rule_of-rule.ensures in record {
-      subject = is_still s0 s2 g02 c.args.subject c.requires.subject;
+    let is = is_still s0 s c.loop-k.invariant.continues.grows c.args.subject c.requires.word.subject in
+    let by = step_by rules _ path c.loop-k.k step c.loop-k.word c.requires.path.end c.rules_before-rules.ensures c.step_of-step.ensures
+    c.loop-k.invariant.left c.requires.path.leads rule c.rule_of-rule.ensures in record {
+      subject = is_still s0 s2 g02 c.args.subject c.requires.word.subject;
       both = both_as g s2 (term_at s1.table c.in_ok-v.v) _ _ _ _ _ (c.in_ok-v.ensures.stands
           ∙ ap (λ z. read_word g (term_at s.table c.args.subject) z) c.symbols.ensures
           ∙ ap (λ z. read_word g z step.before) (sym (term_still s s2 gr c.args.subject is))) refl refl c.in_ok-lines_of_rule.ensures.both;
       word = subst (λ z. AllowsWord g s2 z (step.before ++ (replaced_side step.forward rule ++ step.after)))
-          (sym (term_still s0 s2 g02 c.args.subject c.requires.subject))
+          (sym (term_still s0 s2 g02 c.args.subject c.requires.word.subject))
           (subst (AllowsWord g s2 (term_at s0.table c.args.subject)) by.source
           (word_still g s s2 gr (term_at s0.table c.args.subject) c.loop-k.word c.loop-k.invariant.both.right));
     }
@@ -92,12 +89,12 @@ walk_along-join-requires t c =
     let g2 = grows_then c.in_ok-v.ensures.continues.grows c.in_ok-lines_of_rule.ensures.continues.grows in
     let gr = grows_then g2 c.in_ok-take_step.ensures.continues.grows in
     let g03 = grows_then c.loop-k.invariant.continues.grows gr in
-    let is = is_still s s2 g2 c.args.subject (is_still s0 s c.loop-k.invariant.continues.grows c.args.subject c.requires.subject) in
-    let by = step_by rules _ path c.loop-k.k step c.loop-k.word c.requires.path.0 c.rules_before-rules.ensures c.step_of-step.ensures
-    c.loop-k.invariant.left c.requires.path.1 rule c.rule_of-rule.ensures in record {
-      subject = is_still s0 s3 g03 c.args.subject c.requires.subject;
+    let is = is_still s s2 g2 c.args.subject (is_still s0 s c.loop-k.invariant.continues.grows c.args.subject c.requires.word.subject) in
+    let by = step_by rules _ path c.loop-k.k step c.loop-k.word c.requires.path.end c.rules_before-rules.ensures c.step_of-step.ensures
+    c.loop-k.invariant.left c.requires.path.leads rule c.rule_of-rule.ensures in record {
+      subject = is_still s0 s3 g03 c.args.subject c.requires.word.subject;
       first = both_as g s3 (term_at s0.table c.args.subject) _ path.start _ c.loop-k.word _
-          (sym (term_still s0 s3 g03 c.args.subject c.requires.subject))
+          (sym (term_still s0 s3 g03 c.args.subject c.requires.word.subject))
           (sym c.symbols-in-loop-k.ensures) (sym c.symbols-in-loop-k-2.ensures)
           (both_still g s s3 gr (term_at s0.table c.args.subject) path.start c.loop-k.word c.loop-k.invariant.both);
       second = both_as g s3 (term_at s2.table c.args.subject) _ (step.before ++ (replaced_side step.forward rule ++ step.after)) _
@@ -121,11 +118,11 @@ walk_along-loop-k-preserved t c =
     let gr = grows_then (grows_then c.in_ok-v.ensures.continues.grows c.in_ok-lines_of_rule.ensures.continues.grows)
     c.in_ok-take_step.ensures.continues.grows in
     let g03 = grows_then i.continues.grows gr in
-    let go = goes_along rules _ path c.loop-k.k step c.loop-k.word c.requires.path.0 c.rules_before-rules.ensures c.step_of-step.ensures
-    i.left c.requires.path.1 in
+    let go = goes_along rules _ path c.loop-k.k step c.loop-k.word c.requires.path.end c.rules_before-rules.ensures c.step_of-step.ensures
+    i.left c.requires.path.leads in
     let here : c.in_ok-next.next ≡ go.next = c.in_ok-next.ensures c.loop-k.word go.next go.leads in record {
       both = both_as g c.join.new.derivation _ (term_at s0.table c.args.subject) _ path.start _ c.in_ok-next.next
-          (term_still s0 s3 g03 c.args.subject c.requires.subject) c.symbols-in-loop-k.ensures c.symbols-in-loop-k-3.ensures
+          (term_still s0 s3 g03 c.args.subject c.requires.word.subject) c.symbols-in-loop-k.ensures c.symbols-in-loop-k-3.ensures
           c.in_ok-join.ensures.both;
       left = λ b l. (let other = goes_on rules steps c.loop-k.k step c.loop-k.word b c.step_of-step.ensures (i.left b l) in
           subst (λ z. StepsLead rules (drop (c.loop-k.k + 1) steps) z b)

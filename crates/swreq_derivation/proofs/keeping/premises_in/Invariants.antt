@@ -1,6 +1,0 @@
-use Rattle.std.proofs.Common.{◌≡◌, map, take}
-use Rattle.swreq_derivation.specs.Marks.{new_number}
-use Rattle.swreq_derivation.proofs.keeping.premises_in.Given as goal
-
-abbrev pub invariant-loop-k : goal.invariant-loop-k
-invariant-loop-k l = l.found.items ≡ map (new_number l.marks) (take l.k l.premises)
