@@ -1,5 +1,5 @@
 -- Of which signatures a command wants the minimised list.
-use Rattle.std.proofs.Common.{◌≡◌, refl, sym, ap, subst, ℕ, ◌<◌, Bool, true, List, length, map, Contains, Some, true≢false, arith, eq-eqb}
+use Rattle.std.proofs.Common.{◌≡◌, refl, sym, ap, subst, ℕ, ◌<◌, Bool, true, false, List, length, map, Contains, Some, true≢false, arith, eq-eqb}
 use Rattle.std.proofs.lemmas.List.{length-map}
 use Rattle.std.proofs.lemmas.List.Elements.{Contains-get_or}
 use Rattle.swreq_machine.specs.swreq_param.Terms.{Term}
@@ -16,7 +16,9 @@ use Rattle.swreq_machine.specs.swreq_world.Worlds.{IdWorld, no_signature, signat
 use Rattle.swreq_machine.specs.swreq_symbols.Known.{IsQueryIn, IsTextOver}
 use Rattle.swreq_machine.proofs.swreq_symbols.OfText.{query_at}
 use Rattle.swreq_check.specs.Told.{IsListMade, IsMinimisedFor}
-use Rattle.swreq_check.specs.Wanted.{is_list_made, wants_list}
+use Rattle.swreq_check.specs.Wanted.{AreFlagsFor, is_list_made, wants_list}
+use Rattle.swreq_check.specs.declared.listing.Minimising.{Minimising}
+use Rattle.swreq_machine.proofs.swreq_lemmas.Stable.{Stable, decided_stable, same_number_stable, truncated_map}
 use Rattle.swreq_check.proofs.Asking.{asking_list, lists_at}
 use Rattle.swreq_lines.proofs.swreq_rank.Tests.{some_passes}
 
@@ -44,3 +46,18 @@ list_made w terms f _ l h = absurd (true≢false (sym h))
 pub minimised_for : (w : IdWorld) (terms : List Term) (f : FuncId) (c : Content) → f.place < length w.signatures
     → wants_list c w.queries f.place ≡ true → IsMinimisedFor c (world_by terms w) (signature_at (world_by terms w) f)
 minimised_for w terms f c = list_made w terms f (makes c)
+
+-- ---- what types carry of flags
+
+same_flag_stable : (a b : Bool) → Stable (a ≡ b)
+same_flag_stable true true = λ t. refl
+same_flag_stable false false = λ t. refl
+same_flag_stable true false = decided_stable (no true≢false)
+same_flag_stable false true = decided_stable (no (λ e. true≢false (sym e)))
+
+-- the flags say which lists are wanted
+pub flagged_in : (l : Minimising) → AreFlagsFor l.passed.world.now l.content l.wanted.now
+flagged_in l = record {
+  counted = same_number_stable _ _ (truncated_map (λ h. h.counted) l.flagged);
+  set = λ k below. same_flag_stable _ _ (truncated_map (λ h. h.set k below) l.flagged);
+}

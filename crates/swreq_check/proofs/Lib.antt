@@ -5,4 +5,5 @@ pub mod OneCheck
 pub mod PiecesMade
 pub mod Placed
 pub mod Settled
+pub mod Callers
 pub mod Asking

@@ -15,7 +15,6 @@ use Rattle.swreq_machine.specs.swreq_lowering.Queries.{TermAsks, TermQuery}
 use Rattle.swreq_machine.specs.swreq_lowering.Queries.TermAsks.{AsksRequirement, AsksSignature}
 use Rattle.swreq_machine.specs.swreq_world.Worlds.{TextWorld, signature_at}
 use Rattle.swreq_machine.specs.swreq_symbols.Meaning.{facts_of}
-use Rattle.swreq_machine.specs.Machines.{MachineView}
 use Rattle.swreq_query.specs.Answers.{Answer}
 use Rattle.swreq_query.specs.Answers.Answer.{Yes}
 use Rattle.swreq_query.specs.declared.verdict.Verdict.{Verdict}
@@ -25,9 +24,9 @@ use Rattle.swreq_machine.specs.swreq_world.FactsAt.{source_of, written_list}
 use Rattle.swreq_check.specs.Lines.{AreLines, AreLinesIn}
 use Rattle.swreq_check.specs.Lines.AreLines.{none, more}
 use Rattle.swreq_check.specs.declared.content.Backing.{Backing}
-use Rattle.swreq_check.specs.declared.setting.Setting.{Setting}
+use Rattle.swreq_check.specs.declared.setting.Own.{Own}
 use Rattle.swreq_check.specs.QueryLines.{AnswersByTypes, Backs, BacksYes, HasAnswer, HasVerdict, IsLineOf, IsLineWhere}
-use Rattle.swreq_check.specs.Settings.{IsMachineFor, world_in}
+use Rattle.swreq_check.specs.Settings.{IsOwn, world_in}
 
 -- ---- lines after lines
 
@@ -61,14 +60,13 @@ lines_by P Q by (more {x} {xs} {line} is rest) =
 -- ---- one piece
 
 -- what holds from the list of a signature with the generic parameters of its machine holds from what a query of that signature asks
-pub by_machine : (terms : List Term) (s : Setting) (f : FuncId) (m : MachineView) → IsMachineFor terms s f m → (q : TermQuery)
-    → q.f ≡ f → (P : Source → Type 0)
-    → P (Written (generic_params m.params) (written_list (signature_at (world_in terms s) f)))
-    → P (source_of (signature_at (world_in terms s) q.f))
-by_machine terms s f m is q asks P holds =
-    let w = world_in terms s in
+pub by_machine : (terms : List Term) (own : Own) → IsOwn terms own → (q : TermQuery) → q.f ≡ own.f → (P : Source → Type 0)
+    → P (Written (generic_params own.machine.now.params) (written_list (signature_at (world_in terms own.s.now) own.f)))
+    → P (source_of (signature_at (world_in terms own.s.now) q.f))
+by_machine terms own is q asks P holds =
+    let w = world_in terms own.s.now in
     subst (λ (g : FuncId). P (source_of (signature_at w g))) (sym asks)
-    (subst (λ (p : Params). P (Written (generic_params p) (written_list (signature_at w f)))) is.params holds)
+    (subst (λ (p : Params). P (Written (generic_params p) (written_list (signature_at w own.f)))) is.machine.params holds)
 
 -- a text that answers a query of types is its line
 line_where : (w : TextWorld) (b : Backing) (q : TermQuery) (text : Text) (a : TermAsks) → a ≢ AsksSignature

@@ -26,11 +26,10 @@ use Rattle.swreq_reqsig.proofs.WellFormed.{list_formed, protocols_formed}
 use Rattle.swreq_check.specs.Machines.{IsBuiltOver, IsChecked, SignatureComes, SignaturesCome}
 use Rattle.swreq_check.specs.Machines.IsChecked.{protocols_built, protocols_refused}
 use Rattle.swreq_check.specs.Machines.SignaturesCome.{all, next, stopped}
-use Rattle.swreq_check.specs.Told.{CheckTells, SignaturesTell}
+use Rattle.swreq_check.specs.Told.{CheckTells, SignaturesTell, Tells}
 use Rattle.swreq_check.specs.Told.CheckTells.{in_protocols, past_protocols}
 use Rattle.swreq_check.specs.Told.SignaturesTell.{nothing_yet, in_first, past_first}
 use Rattle.std.proofs.lemmas.List.{take-append-drop, take_more}
-use Rattle.swreq_machine.specs.swreq_watch.Told.{GrewBy}
 use Rattle.swreq_births.proofs.swreq_watch.Told.{grew_on}
 use Rattle.swreq_check.specs.Checks.{Checks, ChecksAll, ChecksOne}
 
@@ -123,10 +122,6 @@ module _ (limits : Limits) (w : TextWorld) where
   }
 
 -- ---- what is told
-
--- After the old list such events were told.
-abbrev pub Tells : (List Event → Type 0) → Option (List Event) → Option (List Event) → Type 0
-Tells Are old new = (told : List Event) × Are told × GrewBy old new told
 
 -- first the ones are told, and then the others
 pub told_on : {First Then Both : List Event → Type 0} (old mid new : Option (List Event)) → Tells First old mid → Tells Then mid new

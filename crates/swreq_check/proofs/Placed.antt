@@ -1,7 +1,8 @@
 -- Of each signature the places of the pieces that its machine makes.
-use Rattle.std.proofs.Common.{◌≡◌, ◌≢◌, ◌⊎◌, ◌∙◌, inl, inr, sym, ap, subst, ℕ, ◌+◌, ◌<◌, arith, List, [], ◌∷◌, ◌++◌, Vec, Option, Some, None, All, Contains, get_or, set, length}
+use Rattle.std.proofs.Common.{◌≡◌, ◌≢◌, ◌⊎◌, ◌∙◌, inl, inr, refl, sym, ap, subst, ℕ, ◌+◌, ◌<◌, arith, List, [], ◌∷◌, ◌++◌, Vec, Option, Some, None, All, Contains, get_or, set, length}
 use Rattle.std.specs.Prelude.{◌↔◌}
 use Rattle.std.specs.declared.alloc.Global.{Global}
+use Rattle.std.proofs.Math.Decide.{ℕ_discrete}
 use Rattle.std.proofs.lemmas.Bool.{cases_eq}
 use Rattle.std.proofs.lemmas.List.{get_or-set_other, get_or-set_same, length-set}
 use Rattle.std.proofs.lemmas.List.Elements.{All-get_or, Contains-get_or, Contains-append_cases, Contains-append_left, Contains-append_right}
@@ -16,7 +17,11 @@ use Rattle.swreq_check.specs.declared.content.Made.{Made}
 use Rattle.swreq_check.specs.declared.content.Made.TheVariants.{Lines, Systems}
 use Rattle.swreq_check.specs.Contents.{makes}
 use Rattle.swreq_check.proofs.Asking.{machine_function}
-use Rattle.swreq_check.specs.Wanted.{ArePlaces, count_of, machine_asked, machine_asked_at, made_by as by_made, maker, places_of}
+use Rattle.swreq_check.specs.CallLines.{ArePlacesOf, caller_at}
+use Rattle.swreq_check.specs.declared.called.CallsOf.{CallsOf}
+use Rattle.swreq_check.specs.declared.setting.Setting.{Setting}
+use Rattle.swreq_check.specs.Wanted.{ArePlaces, ArePlacesFor, count_of, machine_asked, machine_asked_at, made_by as by_made, maker, places_of}
+use Rattle.swreq_machine.proofs.swreq_lemmas.Stable.{Stable, alike_stable, both_stable, decided_stable, each_way_stable, less_stable, member_decided, same_number_stable, truncated_map}
 
 -- ---- by which machine
 
@@ -45,6 +50,40 @@ Group = Vec ℕ Global
 -- a signature is its place
 pub same_signature : (f g : FuncId) → f.place ≡ g.place → f ≡ g
 same_signature f g e = ap (λ (n : ℕ). let h : FuncId = record { place = n } in h) e
+
+-- ---- what types carry of places
+
+same_maker_stable : (a b : Option FuncId) → Stable (a ≡ b)
+same_maker_stable None None = λ t. refl
+same_maker_stable None (Some g) = decided_stable (no (none-some g))
+same_maker_stable (Some f) None = decided_stable (no (λ e. none-some f (sym e)))
+same_maker_stable (Some f) (Some g) =
+    alike_stable (λ e. ap (λ (z : FuncId). z.place) (same_Some f g e)) (λ e. ap Some (same_signature f g e))
+    (same_number_stable f.place g.place)
+
+placed_stable : (made_by : ℕ → Option FuncId) (last : ℕ) (f : FuncId) (places : List ℕ) (k : ℕ)
+    → Stable (Contains places k ↔ ((k < last) × (made_by k ≡ Some f)))
+placed_stable made_by last f places k =
+    each_way_stable (decided_stable (member_decided k (λ j. ℕ_discrete j k) places))
+    (both_stable (less_stable k last) (same_maker_stable (made_by k) (Some f)))
+
+places_stable : (made_by : ℕ → Option FuncId) (count last : ℕ) (places : List Group) → Stable (ArePlaces made_by count last places)
+places_stable made_by count last places t = record {
+  counted = same_number_stable (length places) count (truncated_map (λ h. h.counted) t);
+  each = λ f d k below. placed_stable made_by last f (get_or places f.place d).items k (truncated_map (λ h. h.each f d k below) t);
+}
+
+-- the places of a setting are those of the pieces that machines make
+pub placed_in : (s : Setting) → ArePlacesFor s.world.now s.content s.places.now
+placed_in s = places_stable _ _ _ s.places.now s.placed
+
+-- and those of a signature are the places of its calls
+pub placed_of : (of : CallsOf) → ArePlacesOf of.called.calls.now of.f of.places.now
+placed_of of = λ k.
+    let calls = of.called.calls.now in
+    placed_stable (caller_at calls) (length calls) of.f of.places.now k (truncated_map (λ h. h k) of.placed)
+
+-- ---- one place more
 
 -- either before the last one, or that one
 last_or_before : (k last : ℕ) → k < last + 1 → (k < last) ⊎ (k ≡ last)

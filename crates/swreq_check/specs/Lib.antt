@@ -1,5 +1,6 @@
 pub use Rattle.swreq_confpath.specs as swreq_confpath
 pub mod CallLines
+pub mod Called
 pub mod Checks
 pub mod Contents
 pub mod Lines

@@ -14,12 +14,12 @@ use Rattle.swreq_machine.specs.Machines.{IsMachineOf, MachineView}
 use Rattle.swreq_machine.specs.OfSignatures.{signature_plan, signature_sides}
 use Rattle.swreq_machine.specs.swreq_valid.Rounds.{AreRounds, last_rules}
 use Rattle.swreq_machine.specs.swreq_valid.Sides.{HoldsOfEach, IsValidSide}
-use Rattle.swreq_check.specs.declared.checking.Asked.{Asked}
 use Rattle.swreq_check.specs.declared.content.Backing.TheVariants.{Derivation}
 use Rattle.swreq_check.specs.declared.content.Content.{Content}
 use Rattle.swreq_check.specs.declared.piece.Piece.{Piece}
 use Rattle.swreq_check.specs.declared.setting.Kept.{Kept}
 use Rattle.swreq_check.specs.declared.setting.Means.{Means}
+use Rattle.swreq_check.specs.declared.setting.Own.{Own}
 use Rattle.swreq_check.specs.declared.setting.Setting.{Setting}
 use Rattle.swreq_machine.specs.swreq_lowering.declared.ids.Query.{Query}
 use Rattle.swreq_machine.specs.swreq_map.Follows.{AreEndingsOf, EndingsView, IsMapOf, MapView}
@@ -28,7 +28,7 @@ use Rattle.swreq_explain.specs.declared.history.TextHistory.{TextHistory}
 use Rattle.swreq_births.specs.declared.history.History.{History}
 use Rattle.swreq_check.specs.Contents.{backing_of}
 use Rattle.swreq_check.specs.Made.{AreMade, IsPiece}
-use Rattle.swreq_check.specs.Wanted.{ArePlaces, count_of, machine_asked, maker}
+use Rattle.swreq_check.specs.Wanted.{count_of, machine_asked, maker}
 
 -- the world of the text, by the table that has its ids
 abbrev pub world_in : List Term → Setting → TextWorld
@@ -44,14 +44,13 @@ abbrev pub HaveEndings : IdWorld → ProtocolsView → Option EndingsView → Ty
 HaveEndings w p None = Unit {0}
 HaveEndings w p (Some endings) = AreEndingsOf (length w.lexicon.protocols) (last_rules p.rounds) endings
 
--- The ids are of the table, the rules are those of the protocols, whose requirements are over type parameters, each machine is asked for
--- the pieces that it makes, what the histories have in common is there where it is read, and endings are those of the rules.
+-- The ids are of the table, the rules are those of the protocols, whose requirements are over type parameters, what the histories have in
+-- common is there where it is read, and endings are those of the rules.
 pub record IsReady (terms : List Term) (s : Setting) : Type 0 where
   pub text : IsTextOver terms s.world.now
   pub formed : AreProtocolsWellFormed (facts_of (world_in terms s))
   pub rules : AreRulesOf (world_in terms s) (last_rules s.protocols.now.rounds)
   pub rounds : AreRounds s.limits (protocols_of (world_in terms s)) s.protocols.now.rounds
-  pub places : ArePlaces (maker s.world.now s.content) (length s.world.now.signatures) (count_of s.world.now s.content) s.places.now
   pub base : HasBase terms s.world.now s.protocols.now s.content s.base.now
   pub endings : HaveEndings s.world.now s.protocols.now s.endings.now
 
@@ -74,19 +73,20 @@ abbrev pub IsLast : List Term → Setting → Option Kept → Type 0
 IsLast terms s None = Unit {0}
 IsLast terms s (Some kept) = IsKeptFor terms s kept
 
--- Of each signature of the text the places are those of the pieces that its machine makes.
-pub record IsAskedOf (terms : List Term) (w : IdWorld) (a : Asked) : Type 0 where
-  pub places : ArePlaces (maker w a.content) (length w.signatures) (count_of w a.content) a.places.now
+-- The setting is that of the text, and this is the machine of the signature.
+pub record IsOwn (terms : List Term) (own : Own) : Type 0 where
+  pub ready : IsReady terms own.s.now
+  pub machine : IsMachineFor terms own.s.now own.f own.machine.now
 
 -- The query is one of the text, and asks this signature.
-pub record IsQueryFor (terms : List Term) (s : Setting) (f : FuncId) (q : Query) : Type 0 where
+pub record IsQueryFor (s : Setting) (f : FuncId) (q : Query) : Type 0 where
   pub is : Contains s.world.now.queries q
   pub asks : machine_asked q ≡ Some f
 
 -- At this place of the text stands a query that asks this signature.
-pub record IsPlaceFor (terms : List Term) (s : Setting) (f : FuncId) (place : ℕ) : Type 0 where
+pub record IsPlaceFor (s : Setting) (f : FuncId) (place : ℕ) : Type 0 where
   pub below : place < length s.world.now.queries
-  pub query : (q : Query) → q ≡ get_or s.world.now.queries place q → IsQueryFor terms s f q
+  pub query : (q : Query) → q ≡ get_or s.world.now.queries place q → IsQueryFor s f q
 
 -- The map is that of the rules of the machine.
 pub record IsMapFor (s : Setting) (m : MachineView) (map : MapView) : Type 0 where
@@ -98,10 +98,10 @@ abbrev pub HasHistory : List Term → Setting → FuncId → Option History → 
 HasHistory terms s f history = backing_of s.content ≡ Derivation → (b : History) × (history ≡ Some b) × IsHistoryFor (world_in terms s) f b
 
 -- The machine is that of the signature, the map is that of its rules, and there is a history where one is read.
-pub record AreMeansFor (terms : List Term) (s : Setting) (m : Means) : Type 0 where
-  pub machine : IsMachineFor terms s m.own.f m.own.machine.now
-  pub map : IsMapFor s m.own.machine.now m.map.now
-  pub history : HasHistory terms s m.own.f (option_copied m.history)
+pub record AreMeansFor (terms : List Term) (m : Means) : Type 0 where
+  pub own : IsOwn terms m.own
+  pub map : IsMapFor m.own.s.now m.own.machine.now m.map.now
+  pub history : HasHistory terms m.own.s.now m.own.f (option_copied m.history)
 
 -- The pieces that the machines of the first `signatures` signatures make stand at their places.
 abbrev pub AreMadeIn : List Term → Setting → ℕ → List (Option Piece) → Type 0

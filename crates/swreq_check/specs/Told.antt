@@ -1,11 +1,12 @@
 -- What a watcher is told of the check of a text, and of minimising after it.
-use Rattle.std.specs.Prelude.{◌≡◌, ◌⊎◌, List, [], ◌∷◌, ◌++◌, Contains, Ok}
+use Rattle.std.specs.Prelude.{◌≡◌, ◌⊎◌, List, [], ◌∷◌, ◌++◌, Contains, Ok, Option}
 use Rattle.swreq_machine.specs.swreq_rule.declared.rules.Rule.{Rule}
 use Rattle.swreq_machine.specs.swreq_rounds.Rounds.{ComesTo}
 use Rattle.swreq_machine.specs.swreq_complete.declared.limit.Failed.{Failed}
 use Rattle.swreq_machine.specs.swreq_complete.declared.limit.Failed.TheVariants.{Limit, Memory}
 use Rattle.swreq_machine.specs.swreq_complete.declared.limit.Limits.{Limits}
 use Rattle.swreq_machine.specs.swreq_watch.declared.events.Event.{Event}
+use Rattle.swreq_machine.specs.swreq_watch.Told.{GrewBy}
 use Rattle.swreq_check.specs.declared.content.Content.{Content}
 use Rattle.swreq_check.specs.declared.content.Made.{Made}
 use Rattle.swreq_check.specs.declared.content.Made.TheVariants.{Lines, Lists, Nothing, Systems}
@@ -18,6 +19,10 @@ use Rattle.swreq_machine.specs.swreq_valid.Protocols.{protocols_of}
 use Rattle.swreq_machine.specs.OfSignatures.{signature_plan}
 use Rattle.swreq_query.specs.Minimising.{MinimisingFails, MinimisingTells}
 use Rattle.swreq_check.specs.Machines.{ProtocolsCome, SignatureComes}
+
+-- A watcher that had been told `old` has been told `new`: such events have been added.
+abbrev pub Tells : (List Event → Type 0) → Option (List Event) → Option (List Event) → Type 0
+Tells Are old new = (told : List Event) × Are told × GrewBy old new told
 
 -- The minimised list of the signature is made: where lines of queries are made, if a query asks for it; where lists are made, of each; and
 -- otherwise of none.

@@ -57,6 +57,10 @@ pub record ArePlaces (made_by : ℕ → Option FuncId) (count last : ℕ) (place
   pub each : (f : FuncId) (d : Vec ℕ Global) (k : ℕ) → f.place < count
       → Contains (get_or places f.place d).items k ↔ ((k < last) × (made_by k ≡ Some f))
 
+-- Of each signature, these are the places of the pieces of this content that its machine makes.
+abbrev pub ArePlacesFor : IdWorld → Content → List (Vec ℕ Global) → Type 0
+ArePlacesFor w c = ArePlaces (maker w c) (length w.signatures) (count_of w c)
+
 -- ---- minimised lists
 
 -- the signature of which this is asked, where it is its minimised list
@@ -93,3 +97,7 @@ wants_list c = is_list_made (makes c)
 pub record AreFlags (wants : ℕ → Bool) (count : ℕ) (flags : List Bool) : Type 0 where
   pub counted : length flags ≡ count
   pub set : (k : ℕ) → k < count → get_or flags k false ≡ wants k
+
+-- Of each signature, this is whether its minimised list is wanted for this content.
+abbrev pub AreFlagsFor : IdWorld → Content → List Bool → Type 0
+AreFlagsFor w c = AreFlags (wants_list c w.queries) (length w.signatures)

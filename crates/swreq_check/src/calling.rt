@@ -1,11 +1,11 @@
 //! The lines that answer calls, each by the machine of its caller, which is built once.
 ghost use Rattle.std.specs.Prelude.{◌≡◌, ◌+◌, ◌<◌, ℕ, All, IfOk, List, OnOk, Some, length, map, set, slice_get};
 ghost use Rattle.swreq_machine.specs.swreq_param.Tables.{Extends};
-ghost use Rattle.swreq_machine.specs.swreq_symbols.Known.{IsTextOver};
 ghost use Rattle.swreq_machine.specs.swreq_world.Worlds.{TextWorld};
-ghost use Rattle.swreq_subst.specs.{declared.calls.Call.{Call as CallView}, Calls.{IsCallIn, IsMachineOn, TermCall, call_by}, Lines.{IsLineOf}};
-ghost use Rattle.swreq_check.specs.{declared.piece.Piece.{Piece as PieceView}, CallLines.{AnswersCalls, AreCallLines, ArePlacesOf, IsLineThere, caller_at}, Passed.{HasPassed, world_of}, Made.{text_at}, Wanted.{ArePlaces}};
+ghost use Rattle.swreq_subst.specs.{declared.calls.Call.{Call as CallView}, Calls.{IsCallIn, TermCall, call_by}, Lines.{IsLineOf}};
+ghost use Rattle.swreq_check.specs.{declared.piece.Piece.{Piece as PieceView}, Called.{AreCalled, AreLinesTo, HaveMachine, IsLineFor}, CallLines.{AnswersCalls, caller_at}, Passed.{HasPassed, world_of}, Made.{text_at}, Wanted.{ArePlaces}};
 
+use crate::called::{Called, CallsOf};
 use crate::checking::no_pieces;
 use crate::passed::{Passed, machine_of};
 use crate::piece::{Piece, text_at};
@@ -29,28 +29,42 @@ fn places_of(alloc: Global, count: usize, calls: &[Call]) -> Result<Vec<Vec<usiz
     Ok(places)
 }
 
-/// Makes the line of the call at a place, and puts it there. The machine is that of the caller.
+/// The call at this place.
+fn call_at<'a>(calls: &'a [Call], place: usize) -> &'a Call
+    requires { place < length calls.now }
+    ensures { slice_get calls.now place ≡ Some result.now }
+{
+    &calls[place]
+}
+
+/// Makes the line of a call of the signature, which stands at this place, and puts it there.
 fn put_line(
-    p: &Passed<'_>,
-    table: &mut ParamTable,
+    of: &CallsOf<'_>,
     machine: &Machine<'_>,
-    calls: &[Call],
+    table: &mut ParamTable,
     place: usize,
     lines: &mut Vec<Option<Piece>>,
 ) -> Result<(), AllocError>
-    requires text { IsTextOver table.old p.now.world.now }
-    requires calls { All (IsCallIn table.old p.now.world.now) calls.now }
-    requires place { place < length calls.now }
-    requires lines { length lines.old.items ≡ length calls.now }
-    requires machine { (c : CallView) → slice_get calls.now place ≡ Some c
-        → IsMachineOn (world_of table.old p.now) c.f machine.now }
+    requires machine { HaveMachine table.old of.now machine.now }
+    requires place { (place < length of.now.called.calls.now)
+        × (caller_at of.now.called.calls.now place ≡ Some of.now.f) }
+    requires lines { length lines.old.items ≡ length of.now.called.calls.now }
     ensures line { OnOk result ((line : PieceView)
-        × IsLineThere (world_of table.old p.now) (map (call_by table.old) calls.now) place line
+        × IsLineFor table.old of.now.called place line
         × (lines.new.items ≡ set lines.old.items place (Some line))) }
     ensures extends { Extends table.old table.new }
 {
-    let mut line = Vec::new(p.alloc);
-    call_text(p.alloc, p.world, table, machine, &calls[place], &mut line)?;
+    let called = &of.called;
+    let mut line = Vec::new(called.passed.alloc);
+    let call = call_at(called.calls, place);
+    call_text(
+        called.passed.alloc,
+        called.passed.world,
+        table,
+        machine,
+        call,
+        &mut line,
+    )?;
     lines[place] = Some(Piece {
         text: Seq::new(line),
         verdict: None,
@@ -58,87 +72,62 @@ fn put_line(
     Ok(())
 }
 
-/// The calls of a signature: their places, among these.
-#[derive(Clone, Copy)]
-struct CallsOf<'a> {
-    f: FuncId,
-    calls: &'a [Call],
-    places: &'a [usize],
-}
-
 /// Makes the lines of the calls of a signature by its machine.
 fn put_all(
-    p: &Passed<'_>,
-    table: &mut ParamTable,
+    of: &CallsOf<'_>,
     machine: &Machine<'_>,
-    of: CallsOf<'_>,
+    table: &mut ParamTable,
     lines: &mut Vec<Option<Piece>>,
 ) -> Result<(), AllocError>
-    requires text { IsTextOver table.old p.now.world.now }
-    requires machine { IsMachineOn (world_of table.old p.now) of.f machine.now }
-    requires calls { All (IsCallIn table.old p.now.world.now) of.calls.now }
-    requires places { ArePlacesOf of.calls.now of.f of.places.now }
-    requires lines { AreCallLines (world_of table.old p.now) table.old of.calls.now of.f.place
-        lines.old.items }
-    ensures lines { OnOk result (AreCallLines (world_of table.old p.now) table.old
-        of.entry.calls.now (of.entry.f.place + 1) lines.new.items) }
+    requires machine { HaveMachine table.old of.now machine.now }
+    requires lines { AreLinesTo table.old of.now.called of.now.f.place lines.old.items }
+    ensures lines { OnOk result
+        (AreLinesTo table.old of.now.called (of.now.f.place + 1) lines.new.items) }
     ensures extends { OnOk result (Extends table.old table.new) }
 {
     for j in 0..of.places.len() {
-        put_line(p, table, machine, of.calls, of.places[j], lines)?;
+        put_line(of, machine, table, of.places[j], lines)?;
     }
     Ok(())
 }
 
 /// The same, where the machine is built, unless the signature has no calls.
 fn put_lines(
-    p: &Passed<'_>,
+    of: &CallsOf<'_>,
     table: &mut ParamTable,
-    of: CallsOf<'_>,
     lines: &mut Vec<Option<Piece>>,
 ) -> Result<(), AllocError>
-    requires text { IsTextOver table.old p.now.world.now }
-    requires passed { HasPassed table.old p.now }
-    requires f { of.f.place < length p.now.world.now.signatures }
-    requires calls { All (IsCallIn table.old p.now.world.now) of.calls.now }
-    requires places { ArePlacesOf of.calls.now of.f of.places.now }
-    requires lines { AreCallLines (world_of table.old p.now) table.old of.calls.now of.f.place
-        lines.old.items }
-    ensures lines { OnOk result (AreCallLines (world_of table.old p.now) table.old
-        of.entry.calls.now (of.entry.f.place + 1) lines.new.items) }
+    requires called { AreCalled table.old of.now.called }
+    requires lines { AreLinesTo table.old of.now.called of.now.f.place lines.old.items }
+    ensures lines { OnOk result
+        (AreLinesTo table.old of.now.called (of.now.f.place + 1) lines.new.items) }
     ensures extends { OnOk result (Extends table.old table.new) }
 {
     if of.places.is_empty() {
         return Ok(());
     }
-    let passed = *p;
+    let passed = of.called.passed;
     let machine = machine_of(&passed, table, of.f)?;
-    put_all(p, table, &machine, of, lines)
+    put_all(of, &machine, table, lines)
 }
 
-/// The lines of calls, each at its place. Of each signature these are the places of its calls.
-fn all_lines(
-    p: &Passed<'_>,
-    table: &mut ParamTable,
-    calls: &[Call],
-    places: &[Vec<usize>],
-) -> Result<Vec<Option<Piece>>, AllocError>
-    requires text { IsTextOver table.old p.now.world.now }
-    requires passed { HasPassed table.old p.now }
-    requires calls { All (IsCallIn table.old p.now.world.now) calls.now }
-    requires places { ArePlaces (caller_at calls.now) (length p.now.world.now.signatures)
-        (length calls.now) places.now }
-    ensures { IfOk result (λ v. AreCallLines (world_of table.old p.now) table.old calls.now
-        (length p.now.world.now.signatures) v.items) }
+/// The lines of calls, each at its place.
+fn all_lines(called: &Called<'_>, table: &mut ParamTable) -> Result<Vec<Option<Piece>>, AllocError>
+    requires { AreCalled table.old called.now }
+    ensures { IfOk result (λ v. AreLinesTo table.old called.now
+        (length called.now.passed.world.now.signatures) v.items) }
 {
-    let mut lines = no_pieces(p.alloc, calls.len())?;
-    for k in 0..p.world.functions() {
+    let alloc = called.passed.alloc;
+    let world = called.passed.world;
+    let places = places_of(alloc, world.functions() as usize, called.calls)?;
+    let mut lines = no_pieces(alloc, called.calls.len())?;
+    for k in 0..world.functions() {
         let of = CallsOf {
+            called: *called,
             f: FuncId { place: k },
-            calls,
             places: &places[k as usize],
         };
-        put_lines(p, table, of, &mut lines)?;
+        put_lines(&of, table, &mut lines)?;
     }
     Ok(lines)
 }
@@ -163,13 +152,12 @@ pub fn lines_of_calls(
     table: &mut ParamTable,
     calls: &[Call],
 ) -> Result<Vec<u8>, AllocError>
-    requires text { IsTextOver table.old p.now.world.now }
     requires passed { HasPassed table.old p.now }
     requires calls { All (IsCallIn table.old p.now.world.now) calls.now }
     ensures { IfOk result
         (λ v. AnswersCalls (world_of table.old p.now) (map (call_by table.old) calls.now) v.items) }
 {
-    let places = places_of(p.alloc, p.world.functions() as usize, calls)?;
-    let lines = all_lines(p, table, calls, &places)?;
+    let called = Called { passed: *p, calls };
+    let lines = all_lines(&called, table)?;
     joined(p.alloc, &lines)
 }

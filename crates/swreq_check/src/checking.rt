@@ -1,26 +1,26 @@
 //! The check of a text: its protocols, then its signatures in written order.
-ghost use Rattle.std.specs.Prelude.{◌+◌, ◌<◌, length, IfOk, OnOk};
+ghost use Rattle.std.specs.Prelude.{◌+◌, length, IfOk, OnOk};
 ghost use Rattle.swreq_machine.specs.swreq_param.Tables.{Extends};
 ghost use Rattle.swreq_machine.specs.swreq_symbols.Known.{IsTextOver};
 ghost use Rattle.swreq_machine.specs.swreq_complete.declared.limit.Limits.{Limits as LimitsView};
 ghost use Rattle.swreq_machine.specs.swreq_valid.{Protocols.{protocols_of}, Rounds.{AreRounds, last_rules}};
-ghost use Rattle.swreq_machine.specs.swreq_world.{Additions.{AddsNothing}, ByTable.{world_by}};
-ghost use Rattle.swreq_check.specs.{Checks.{Checks, ChecksAll, ChecksAt, IsCheckedFor, ending}, Made.{AreNone}, Settings.{AreMadeIn, HasBase, HaveEndings, IsAskedOf, IsKeptFor, IsLast, IsMachineFor, IsReady, world_in}};
+ghost use Rattle.swreq_machine.specs.swreq_world.ByTable.{world_by};
+ghost use Rattle.swreq_check.specs.{Checks.{Checks, ChecksAll, ChecksAt, IsCheckedFor, ending, world_asked}, Made.{AreNone}, Settings.{AreMadeIn, HasBase, HaveEndings, IsKeptFor, IsLast, IsOwn, IsReady, world_in}};
 
+use crate::asked::Asked;
 use crate::content::{Backing, Content, Made, backing_of};
 use crate::making::make_pieces;
 use crate::piece::Piece;
 use crate::placing::count_of;
-use crate::setting::{Kept, Own, Setting};
+use crate::setting::{Kept, Own, Setting, Turn};
 use std::alloc::{AllocError, Global};
 use swreq_explain::{TextHistory, text_history_of};
 use swreq_machine::Machine;
-use swreq_machine::complete::Limits;
 use swreq_machine::lowering::FuncId;
 use swreq_machine::map::Endings;
 use swreq_machine::param::ParamTable;
 use swreq_machine::symbols::Text;
-use swreq_machine::valid::{Protocols, Refused};
+use swreq_machine::valid::{CheckedText, Protocols, Refused};
 use swreq_machine::watch::Watch;
 use swreq_machine::world::World;
 
@@ -32,116 +32,80 @@ pub struct Checked {
     pub pieces: Vec<Option<Piece>>,
 }
 
-/// What is asked of the machines of a text.
-#[derive(Clone, Copy)]
-pub struct Asked<'a> {
-    /// What is printed.
-    pub content: Content,
-    /// Of each signature the places of the pieces that its machine makes.
-    pub places: &'a [Vec<usize>],
-    pub limits: Limits,
-}
-
 /// Checks one signature by the machine of its list, and makes of it what is asked.
 fn check_anew<'a, W: Watch>(
-    s: &Setting<'a>,
+    turn: &Turn<'_, 'a>,
     table: &mut ParamTable,
-    f: FuncId,
     watch: &mut W,
     pieces: &mut Vec<Option<Piece>>,
 ) -> Result<Kept<'a>, Refused>
-    requires ready { IsReady table.old s.now }
-    requires f { f.place < length s.now.world.now.signatures }
-    requires pieces { AreMadeIn table.old s.now f.place pieces.old.items }
-    ensures check { ChecksAt table.old s.now f (W.told watch.old)
+    requires ready { IsReady table.old turn.now.s.now }
+    requires pieces { AreMadeIn table.old turn.now.s.now turn.now.f.place pieces.old.items }
+    ensures check { ChecksAt table.old turn.now.s.now turn.now.f (W.told watch.old)
         (W.told watch.new) (ending result) }
-    ensures kept { IfOk result (IsKeptFor table.new s.now) }
-    ensures pieces { OnOk result (AreMadeIn table.old s.now (f.place + 1) pieces.new.items) }
+    ensures kept { IfOk result (IsKeptFor table.new turn.now.s.now) }
+    ensures pieces { OnOk result
+        (AreMadeIn table.old turn.now.s.now (turn.now.f.place + 1) pieces.new.items) }
     ensures extends { OnOk result (Extends table.old table.new) }
 {
+    let s = turn.s;
     let text = Text {
         world: s.world,
         table,
     };
-    let machine = Machine::of_signature(s.alloc, &text, s.protocols, f, s.limits, watch)?;
+    let checked = CheckedText {
+        text,
+        protocols: s.protocols,
+    };
+    let machine = Machine::of_signature(s.alloc, &checked, turn.f, s.limits, watch)?;
     let own = Own {
-        f,
+        s,
+        f: turn.f,
         machine: &machine,
     };
-    make_pieces(s, table, &own, pieces)?;
-    Ok(Kept { f, machine })
+    make_pieces(&own, table, pieces)?;
+    Ok(Kept { f: turn.f, machine })
 }
 
 /// Checks one signature by a machine that it has already, and makes of it what is asked.
 fn check_again<W: Watch>(
-    s: &Setting<'_>,
-    table: &mut ParamTable,
     own: &Own<'_>,
+    table: &mut ParamTable,
     watch: &mut W,
     pieces: &mut Vec<Option<Piece>>,
 ) -> Result<(), Refused>
-    requires ready { IsReady table.old s.now }
-    requires machine { IsMachineFor table.old s.now own.now.f own.now.machine.now }
-    requires pieces { AreMadeIn table.old s.now own.now.f.place pieces.old.items }
-    ensures check { ChecksAt table.old s.now own.now.f (W.told watch.old)
+    requires own { IsOwn table.old own.now }
+    requires pieces { AreMadeIn table.old own.now.s.now own.now.f.place pieces.old.items }
+    ensures check { ChecksAt table.old own.now.s.now own.now.f (W.told watch.old)
         (W.told watch.new) result }
     ensures pieces { OnOk result
-        (AreMadeIn table.old s.now (own.now.f.place + 1) pieces.new.items) }
+        (AreMadeIn table.old own.now.s.now (own.now.f.place + 1) pieces.new.items) }
     ensures extends { OnOk result (Extends table.old table.new) }
 {
-    own.machine.tell_again(s.protocols, watch)?;
-    make_pieces(s, table, own, pieces).map_err(|_| Refused::Memory)
-}
-
-/// Checks a function that adds nothing to the struct whose machine is kept.
-fn check_inside<'a, W: Watch>(
-    s: &Setting<'a>,
-    table: &mut ParamTable,
-    f: FuncId,
-    kept: Kept<'a>,
-    watch: &mut W,
-    pieces: &mut Vec<Option<Piece>>,
-) -> Result<Kept<'a>, Refused>
-    requires ready { IsReady table.old s.now }
-    requires f { f.place < length s.now.world.now.signatures }
-    requires kept { IsKeptFor table.old s.now kept }
-    requires inside { AddsNothing s.now.world.now.signatures kept.f f }
-    requires pieces { AreMadeIn table.old s.now f.place pieces.old.items }
-    ensures check { ChecksAt table.old s.now f (W.told watch.old)
-        (W.told watch.new) (ending result) }
-    ensures kept { IfOk result (IsKeptFor table.new s.now) }
-    ensures pieces { OnOk result (AreMadeIn table.old s.now (f.place + 1) pieces.new.items) }
-    ensures extends { OnOk result (Extends table.old table.new) }
-{
-    let own = Own {
-        f,
-        machine: &kept.machine,
-    };
-    check_again(s, table, &own, watch, pieces)?;
-    Ok(kept)
+    own.machine.tell_again(own.s.protocols, watch)?;
+    make_pieces(own, table, pieces).map_err(|_| Refused::Memory)
 }
 
 /// Checks another signature. Its machine is kept where it is a struct, and otherwise the one before.
 fn check_beside<'a, W: Watch>(
-    s: &Setting<'a>,
+    turn: &Turn<'_, 'a>,
     table: &mut ParamTable,
-    f: FuncId,
     kept: Kept<'a>,
     watch: &mut W,
     pieces: &mut Vec<Option<Piece>>,
 ) -> Result<Kept<'a>, Refused>
-    requires ready { IsReady table.old s.now }
-    requires f { f.place < length s.now.world.now.signatures }
-    requires kept { IsKeptFor table.old s.now kept }
-    requires pieces { AreMadeIn table.old s.now f.place pieces.old.items }
-    ensures check { ChecksAt table.old s.now f (W.told watch.old)
+    requires ready { IsReady table.old turn.now.s.now }
+    requires kept { IsKeptFor table.old turn.now.s.now kept }
+    requires pieces { AreMadeIn table.old turn.now.s.now turn.now.f.place pieces.old.items }
+    ensures check { ChecksAt table.old turn.now.s.now turn.now.f (W.told watch.old)
         (W.told watch.new) (ending result) }
-    ensures kept { IfOk result (IsKeptFor table.new s.now) }
-    ensures pieces { OnOk result (AreMadeIn table.old s.now (f.place + 1) pieces.new.items) }
+    ensures kept { IfOk result (IsKeptFor table.new turn.now.s.now) }
+    ensures pieces { OnOk result
+        (AreMadeIn table.old turn.now.s.now (turn.now.f.place + 1) pieces.new.items) }
     ensures extends { OnOk result (Extends table.old table.new) }
 {
-    let next = check_anew(s, table, f, watch, pieces)?;
-    if s.world.is_struct(f) {
+    let next = check_anew(turn, table, watch, pieces)?;
+    if turn.s.world.is_struct(turn.f) {
         Ok(next)
     } else {
         Ok(kept)
@@ -150,52 +114,55 @@ fn check_beside<'a, W: Watch>(
 
 /// Checks the signature after one whose machine is kept. The machine of a struct serves its functions that add nothing to it.
 fn check_after<'a, W: Watch>(
-    s: &Setting<'a>,
+    turn: &Turn<'_, 'a>,
     table: &mut ParamTable,
-    f: FuncId,
     kept: Kept<'a>,
     watch: &mut W,
     pieces: &mut Vec<Option<Piece>>,
 ) -> Result<Kept<'a>, Refused>
-    requires ready { IsReady table.old s.now }
-    requires f { f.place < length s.now.world.now.signatures }
-    requires kept { IsKeptFor table.old s.now kept }
-    requires pieces { AreMadeIn table.old s.now f.place pieces.old.items }
-    ensures check { ChecksAt table.old s.now f (W.told watch.old)
+    requires ready { IsReady table.old turn.now.s.now }
+    requires kept { IsKeptFor table.old turn.now.s.now kept }
+    requires pieces { AreMadeIn table.old turn.now.s.now turn.now.f.place pieces.old.items }
+    ensures check { ChecksAt table.old turn.now.s.now turn.now.f (W.told watch.old)
         (W.told watch.new) (ending result) }
-    ensures kept { IfOk result (IsKeptFor table.new s.now) }
-    ensures pieces { OnOk result (AreMadeIn table.old s.now (f.place + 1) pieces.new.items) }
+    ensures kept { IfOk result (IsKeptFor table.new turn.now.s.now) }
+    ensures pieces { OnOk result
+        (AreMadeIn table.old turn.now.s.now (turn.now.f.place + 1) pieces.new.items) }
     ensures extends { OnOk result (Extends table.old table.new) }
 {
-    if s.world.adds_nothing(kept.f, f) {
-        check_inside(s, table, f, kept, watch, pieces)
-    } else {
-        check_beside(s, table, f, kept, watch, pieces)
+    if !turn.s.world.adds_nothing(kept.f, turn.f) {
+        return check_beside(turn, table, kept, watch, pieces);
     }
+    let own = Own {
+        s: turn.s,
+        f: turn.f,
+        machine: &kept.machine,
+    };
+    check_again(&own, table, watch, pieces)?;
+    Ok(kept)
 }
 
 /// Checks one signature, with the machine of the last struct at hand, if one is kept.
 fn check_one<'a, W: Watch>(
-    s: &Setting<'a>,
+    turn: &Turn<'_, 'a>,
     table: &mut ParamTable,
-    f: FuncId,
     last: Option<Kept<'a>>,
     watch: &mut W,
     pieces: &mut Vec<Option<Piece>>,
 ) -> Result<Kept<'a>, Refused>
-    requires ready { IsReady table.old s.now }
-    requires f { f.place < length s.now.world.now.signatures }
-    requires last { IsLast table.old s.now last }
-    requires pieces { AreMadeIn table.old s.now f.place pieces.old.items }
-    ensures check { ChecksAt table.old s.now f (W.told watch.old)
+    requires ready { IsReady table.old turn.now.s.now }
+    requires last { IsLast table.old turn.now.s.now last }
+    requires pieces { AreMadeIn table.old turn.now.s.now turn.now.f.place pieces.old.items }
+    ensures check { ChecksAt table.old turn.now.s.now turn.now.f (W.told watch.old)
         (W.told watch.new) (ending result) }
-    ensures kept { IfOk result (IsKeptFor table.new s.now) }
-    ensures pieces { OnOk result (AreMadeIn table.old s.now (f.place + 1) pieces.new.items) }
+    ensures kept { IfOk result (IsKeptFor table.new turn.now.s.now) }
+    ensures pieces { OnOk result
+        (AreMadeIn table.old turn.now.s.now (turn.now.f.place + 1) pieces.new.items) }
     ensures extends { OnOk result (Extends table.old table.new) }
 {
     match last {
-        Some(kept) => check_after(s, table, f, kept, watch, pieces),
-        None => check_anew(s, table, f, watch, pieces),
+        Some(kept) => check_after(turn, table, kept, watch, pieces),
+        None => check_anew(turn, table, watch, pieces),
     }
 }
 
@@ -216,7 +183,11 @@ fn check_all<W: Watch>(
 {
     let mut last = None;
     for k in 0..s.world.functions() {
-        let kept = check_one(s, table, FuncId { place: k }, last, watch, pieces)?;
+        let turn = Turn {
+            s,
+            f: FuncId { place: k },
+        };
+        let kept = check_one(&turn, table, last, watch, pieces)?;
         last = Some(kept);
     }
     Ok(())
@@ -284,20 +255,21 @@ fn endings_for(
 /// It is the first refusal among these, or `Refused::Memory`. The watcher is told the events of the rounds up to it.
 pub fn check<W: Watch>(
     alloc: Global,
-    world: &World,
     table: &mut ParamTable,
     asked: &Asked<'_>,
     watch: &mut W,
 ) -> Result<Checked, Refused>
-    requires text { IsTextOver table.old world.now }
-    requires asked { IsAskedOf table.old world.now asked.now }
-    ensures check { Checks asked.now.limits (world_by table.old world.now) (W.told watch.old)
-        (W.told watch.new) result }
+    requires { IsTextOver table.old asked.now.world.now }
+    ensures check { Checks asked.now.limits (world_asked table.old asked.now)
+        (W.told watch.old) (W.told watch.new) result }
     ensures checked { IfOk result
-        (IsCheckedFor asked.now.limits (world_by table.old world.now) world.now asked.now.content) }
+        (IsCheckedFor asked.now.limits (world_asked table.old asked.now)
+        asked.now.world.now asked.now.content) }
     ensures extends { OnOk result (Extends table.old table.new) }
 {
-    let protocols = Protocols::build(alloc, world, table, asked.limits, watch)?;
+    let world = asked.world;
+    let text = Text { world, table };
+    let protocols = Protocols::build(alloc, &text, asked.limits, watch)?;
     let base = base_for(alloc, world, table, &protocols, asked.content)?;
     let endings = endings_for(alloc, world, &protocols, asked.content)?;
     let mut pieces = no_pieces(alloc, count_of(world, asked.content))?;

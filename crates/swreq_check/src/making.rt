@@ -1,32 +1,36 @@
 //! What is made of each machine while it stands.
 ghost use Rattle.std.specs.Prelude.{◌+◌, OnOk};
 ghost use Rattle.swreq_machine.specs.swreq_param.Tables.{Extends};
-ghost use Rattle.swreq_check.specs.{Contents.{AreSystems}, Settings.{AreMadeIn, IsMachineFor, IsReady}};
+ghost use Rattle.swreq_check.specs.{Contents.{AreSystems}, Settings.{AreMadeIn, IsOwn}};
 
 use crate::answering::answer_queries;
 use crate::content::Made;
 use crate::piece::Piece;
-use crate::setting::{Own, Setting};
+use crate::setting::Own;
 use std::alloc::AllocError;
 use swreq_machine::param::ParamTable;
+use swreq_machine::symbols::Text;
 use swreq_query::system_text;
 use swreq_text::Seq;
 
 /// Puts the reduced rewriting system of a signature to its place.
 fn put_system(
-    s: &Setting<'_>,
-    table: &ParamTable,
     own: &Own<'_>,
+    table: &ParamTable,
     pieces: &mut Vec<Option<Piece>>,
 ) -> Result<(), AllocError>
-    requires ready { IsReady table.now s.now }
-    requires systems { AreSystems s.now.content }
-    requires machine { IsMachineFor table.now s.now own.now.f own.now.machine.now }
-    requires pieces { AreMadeIn table.now s.now own.now.f.place pieces.old.items }
-    ensures { OnOk result (AreMadeIn table.now s.now (own.now.f.place + 1) pieces.new.items) }
+    requires own { IsOwn table.now own.now }
+    requires systems { AreSystems own.now.s.now.content }
+    requires pieces { AreMadeIn table.now own.now.s.now own.now.f.place pieces.old.items }
+    ensures { OnOk result
+        (AreMadeIn table.now own.now.s.now (own.now.f.place + 1) pieces.new.items) }
 {
-    let mut text = Vec::new(s.alloc);
-    system_text(s.alloc, s.world, table, own.machine, own.f, &mut text)?;
+    let over = Text {
+        world: own.s.world,
+        table,
+    };
+    let mut text = Vec::new(own.s.alloc);
+    system_text(own.s.alloc, &over, own.machine, own.f, &mut text)?;
     pieces[own.f.place as usize] = Some(Piece {
         text: Seq::new(text),
         verdict: None,
@@ -36,21 +40,19 @@ fn put_system(
 
 /// Makes the pieces that the machine of the next signature makes.
 pub(crate) fn make_pieces(
-    s: &Setting<'_>,
-    table: &mut ParamTable,
     own: &Own<'_>,
+    table: &mut ParamTable,
     pieces: &mut Vec<Option<Piece>>,
 ) -> Result<(), AllocError>
-    requires ready { IsReady table.old s.now }
-    requires machine { IsMachineFor table.old s.now own.now.f own.now.machine.now }
-    requires pieces { AreMadeIn table.old s.now own.now.f.place pieces.old.items }
+    requires own { IsOwn table.old own.now }
+    requires pieces { AreMadeIn table.old own.now.s.now own.now.f.place pieces.old.items }
     ensures pieces { OnOk result
-        (AreMadeIn table.old s.now (own.now.f.place + 1) pieces.new.items) }
+        (AreMadeIn table.old own.now.s.now (own.now.f.place + 1) pieces.new.items) }
     ensures extends { OnOk result (Extends table.old table.new) }
 {
-    match s.content.makes() {
-        Made::Lines => answer_queries(s, table, own, pieces),
-        Made::Systems => put_system(s, table, own, pieces),
+    match own.s.content.makes() {
+        Made::Lines => answer_queries(own, table, pieces),
+        Made::Systems => put_system(own, table, pieces),
         Made::Lists | Made::Nothing => Ok(()),
     }
 }

@@ -1,37 +1,18 @@
 //! The minimised lists that are wanted, each as its line.
-ghost use Rattle.std.specs.Prelude.{◌≡◌, ◌<◌, List, length, IfErr, IfOk, OnOk};
+ghost use Rattle.std.specs.Prelude.{◌≡◌, ◌<◌, length, IfErr, IfOk, OnOk};
 ghost use Rattle.swreq_machine.specs.swreq_param.Tables.{Extends};
-ghost use Rattle.swreq_query.specs.{Minimising.{MinimisingFails, MinimisingTells}, Signatures.{IsMinimisedLine}};
-ghost use Rattle.swreq_machine.specs.swreq_symbols.Known.{IsTextOver};
-ghost use Rattle.swreq_machine.specs.swreq_watch.{declared.events.Event.{Event}, Told.{GrewBy}};
+ghost use Rattle.swreq_query.specs.{Minimising.{FailsMinimised, TellsMinimised}, Signatures.{IsMinimisedLine}};
 ghost use Rattle.swreq_machine.specs.swreq_world.Worlds.{signature_at};
-ghost use Rattle.swreq_check.specs.{Listing.{AreReady, rules_of, wants, world_of}, Made.{AreLinesKept, IsLineKept, line_at}, Told.{FailsAt, MinimisingAllTells, MinimisingEndsIn, TellsOne}};
+ghost use Rattle.swreq_check.specs.{Listing.{wants}, Passed.{HasPassed, rules_of, world_of}, Made.{AreLinesKept, IsLineKept, line_at}, Told.{FailsAt, MinimisingAllTells, MinimisingEndsIn, Tells, TellsOne}};
 
-use crate::content::Content;
+use crate::listing::Minimising;
 use crate::passed::{Passed, machine_of};
-use std::alloc::Global;
-use swreq_machine::complete::{Failed, Limits};
+use swreq_machine::complete::Failed;
 use swreq_machine::lowering::FuncId;
 use swreq_machine::param::ParamTable;
-use swreq_machine::valid::Protocols;
 use swreq_machine::watch::Watch;
-use swreq_machine::world::World;
 use swreq_query::minimised_line;
 use swreq_text::Seq;
-
-/// A text that has passed its check, and of which of its signatures the minimised list is wanted.
-#[derive(Clone, Copy)]
-pub struct Minimising<'a> {
-    pub alloc: Global,
-    pub world: &'a World,
-    /// The rules of the protocols.
-    pub protocols: &'a Protocols,
-    /// What is printed.
-    pub content: Content,
-    /// Of each signature, whether its minimised list is wanted.
-    pub wanted: &'a [bool],
-    pub limits: Limits,
-}
 
 /// The line that is kept at this place, or no bytes where none is.
 pub fn line_at<'a>(lines: &'a [Option<Seq<u8>>], k: usize) -> &'a [u8]
@@ -46,42 +27,31 @@ pub fn line_at<'a>(lines: &'a [Option<Seq<u8>>], k: usize) -> &'a [u8]
 
 /// The line of the minimised list of a signature.
 fn line_of<W: Watch>(
-    l: &Minimising<'_>,
+    p: &Passed<'_>,
     table: &mut ParamTable,
     f: FuncId,
     watch: &mut W,
 ) -> Result<Seq<u8>, Failed>
-    requires text { IsTextOver table.old l.now.world.now }
-    requires lists { AreReady table.old l.now }
-    requires f { f.place < length l.now.world.now.signatures }
+    requires passed { HasPassed table.old p.now }
+    requires f { f.place < length p.now.world.now.signatures }
     ensures line { IfOk result
-        (IsMinimisedLine (world_of table.old l.now) (signature_at (world_of table.old l.now) f)) }
-    ensures told { OnOk result ((told : List Event)
-        × MinimisingTells l.now.limits (world_of table.old l.now) (rules_of l.now)
-        (signature_at (world_of table.old l.now) f) told
-        × GrewBy (W.told watch.old) (W.told watch.new) told) }
-    ensures failed { IfErr result (λ failed. (told : List Event)
-        × MinimisingFails l.now.limits (world_of table.old l.now) (rules_of l.now)
-        (signature_at (world_of table.old l.now) f) failed told
-        × GrewBy (W.told watch.old) (W.told watch.new) told) }
+        (IsMinimisedLine (world_of table.old p.now) (signature_at (world_of table.old p.now) f)) }
+    ensures told { OnOk result (TellsMinimised p.now.limits (world_of table.old p.now)
+        (rules_of p.now) f (W.told watch.old) (W.told watch.new)) }
+    ensures failed { IfErr result (FailsMinimised p.now.limits (world_of table.old p.now)
+        (rules_of p.now) f (W.told watch.old) (W.told watch.new)) }
     ensures extends { Extends table.old table.new }
 {
-    let passed = Passed {
-        alloc: l.alloc,
-        world: l.world,
-        protocols: l.protocols,
-        limits: l.limits,
-    };
-    let machine = machine_of(&passed, table, f)?;
-    let mut line = Vec::new(l.alloc);
+    let machine = machine_of(p, table, f)?;
+    let mut line = Vec::new(p.alloc);
     minimised_line(
-        l.alloc,
-        l.world,
+        p.alloc,
+        p.world,
         table,
-        l.protocols,
+        p.protocols,
         &machine,
         f,
-        l.limits,
+        p.limits,
         watch,
         &mut line,
     )?;
@@ -95,24 +65,23 @@ fn line_if_wanted<W: Watch>(
     f: FuncId,
     watch: &mut W,
 ) -> Result<Option<Seq<u8>>, Failed>
-    requires text { IsTextOver table.old l.now.world.now }
-    requires lists { AreReady table.old l.now }
-    requires f { f.place < length l.now.world.now.signatures }
-    ensures line { IfOk result (IsLineKept (world_of table.old l.now) (wants l.now) f) }
-    ensures told { OnOk result ((told : List Event)
-        × TellsOne l.now.limits (world_of table.old l.now) l.now.content (rules_of l.now)
-        (signature_at (world_of table.old l.now) f) told
-        × GrewBy (W.told watch.old) (W.told watch.new) told) }
-    ensures failed { IfErr result (λ failed. (told : List Event)
-        × FailsAt l.now.limits (world_of table.old l.now) l.now.content (rules_of l.now)
-        (signature_at (world_of table.old l.now) f) failed told
-        × GrewBy (W.told watch.old) (W.told watch.new) told) }
+    requires passed { HasPassed table.old l.now.passed }
+    requires f { f.place < length l.now.passed.world.now.signatures }
+    ensures line { IfOk result (IsLineKept (world_of table.old l.now.passed) (wants l.now) f) }
+    ensures told { OnOk result (Tells
+        (TellsOne l.now.passed.limits (world_of table.old l.now.passed) l.now.content
+        (rules_of l.now.passed) (signature_at (world_of table.old l.now.passed) f))
+        (W.told watch.old) (W.told watch.new)) }
+    ensures failed { IfErr result (λ failed. Tells
+        (FailsAt l.now.passed.limits (world_of table.old l.now.passed) l.now.content
+        (rules_of l.now.passed) (signature_at (world_of table.old l.now.passed) f) failed)
+        (W.told watch.old) (W.told watch.new)) }
     ensures extends { Extends table.old table.new }
 {
     if !l.wanted[f.place as usize] {
         return Ok(None);
     }
-    let line = line_of(l, table, f, watch)?;
+    let line = line_of(&l.passed, table, f, watch)?;
     Ok(Some(line))
 }
 
@@ -125,23 +94,20 @@ pub fn minimised_lines<W: Watch>(
     table: &mut ParamTable,
     watch: &mut W,
 ) -> Result<Vec<Option<Seq<u8>>>, Failed>
-    requires text { IsTextOver table.old l.now.world.now }
-    requires lists { AreReady table.old l.now }
+    requires { HasPassed table.old l.now.passed }
     ensures lines { IfOk result
-        (λ v. AreLinesKept (world_of table.old l.now) (wants l.now) v.items) }
-    ensures count { IfOk result (λ v. length v.items ≡ length l.now.world.now.signatures) }
-    ensures told { OnOk result ((told : List Event)
-        × MinimisingAllTells l.now.limits
-        (world_of table.old l.now) l.now.content (rules_of l.now) told
-        × GrewBy (W.told watch.old) (W.told watch.new) told) }
-    ensures failed { IfErr result (λ failed. (told : List Event)
-        × MinimisingEndsIn l.now.limits (world_of table.old l.now) l.now.content
-        (rules_of l.now) failed told
-        × GrewBy (W.told watch.old) (W.told watch.new) told) }
+        (λ v. AreLinesKept (world_of table.old l.now.passed) (wants l.now) v.items) }
+    ensures count { IfOk result (λ v. length v.items ≡ length l.now.passed.world.now.signatures) }
+    ensures told { OnOk result (Tells (MinimisingAllTells l.now.passed.limits
+        (world_of table.old l.now.passed) l.now.content (rules_of l.now.passed))
+        (W.told watch.old) (W.told watch.new)) }
+    ensures failed { IfErr result (λ failed. Tells (MinimisingEndsIn l.now.passed.limits
+        (world_of table.old l.now.passed) l.now.content (rules_of l.now.passed) failed)
+        (W.told watch.old) (W.told watch.new)) }
     ensures extends { Extends table.old table.new }
 {
-    let mut all = Vec::new(l.alloc);
-    for k in 0..l.world.functions() {
+    let mut all = Vec::new(l.passed.alloc);
+    for k in 0..l.passed.world.functions() {
         let entry = line_if_wanted(l, table, FuncId { place: k }, watch)?;
         all.push(entry).map_err(|_| Failed::Memory)?;
     }

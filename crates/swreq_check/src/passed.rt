@@ -1,6 +1,5 @@
 //! The machines of a text that has passed its check.
 ghost use Rattle.std.specs.Prelude.{◌≡◌, ◌<◌, length, IfOk};
-ghost use Rattle.swreq_machine.specs.swreq_symbols.Known.{IsTextOver};
 ghost use Rattle.swreq_machine.specs.Machines.{IsMachineOf};
 ghost use Rattle.swreq_machine.specs.swreq_valid.declared.refused.Refused.TheVariants.{Memory};
 ghost use Rattle.swreq_machine.specs.swreq_world.{FactsAt.{written_list}, Worlds.{signature_at}};
@@ -12,7 +11,7 @@ use swreq_machine::complete::Limits;
 use swreq_machine::lowering::FuncId;
 use swreq_machine::param::ParamTable;
 use swreq_machine::symbols::Text;
-use swreq_machine::valid::{Protocols, Refused};
+use swreq_machine::valid::{CheckedText, Protocols, Refused};
 use swreq_machine::watch::Quiet;
 use swreq_machine::world::World;
 
@@ -39,7 +38,6 @@ pub(crate) fn machine_of<'b>(
     table: &ParamTable,
     f: FuncId,
 ) -> Result<Machine<'b>, AllocError>
-    requires text { IsTextOver table.now p.now.world.now }
     requires passed { HasPassed table.now p.now }
     requires f { f.place < length p.now.world.now.signatures }
     ensures machine { IfOk result (IsMachineOf (world_of table.now p.now)
@@ -51,7 +49,11 @@ pub(crate) fn machine_of<'b>(
         world: p.world,
         table,
     };
-    match Machine::of_signature(p.alloc, &text, p.protocols, f, p.limits, &mut Quiet) {
+    let checked = CheckedText {
+        text,
+        protocols: p.protocols,
+    };
+    match Machine::of_signature(p.alloc, &checked, f, p.limits, &mut Quiet) {
         Ok(machine) => Ok(machine),
         Err(refused) => Err(want_of_memory(&refused)),
     }

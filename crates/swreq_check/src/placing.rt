@@ -1,12 +1,12 @@
 //! By which machine each piece is made that a command prints.
-ghost use Rattle.std.specs.{Prelude.{◌≡◌, ◌+◌, ◌<◌, [], All, Vec, ℕ, length, Contains, IfOk, OnOk, Option, Some}, declared.alloc.Global.{Global as GlobalView}};
-ghost use Rattle.swreq_machine.specs.swreq_lowering.{declared.ids.FuncId.{FuncId as FuncIdView}, declared.ids.Query.{Query as QueryView}};
-ghost use Rattle.swreq_machine.specs.swreq_world.Short.{IsShort};
-ghost use Rattle.swreq_check.specs.Wanted.{ArePlaces, count_of, machine_asked, maker};
+ghost use Rattle.std.specs.{Prelude.{◌≡◌, ◌+◌, ◌<◌, [], All, Vec, ℕ, length, IfOk, OnOk, Option, Some}, declared.alloc.Global.{Global as GlobalView}};
+ghost use Rattle.swreq_machine.specs.swreq_lowering.declared.ids.FuncId.{FuncId as FuncIdView};
+ghost use Rattle.swreq_check.specs.Wanted.{ArePlaces, ArePlacesFor, count_of, machine_asked, maker};
 
 use crate::content::{Content, Made};
 use std::alloc::{AllocError, Global};
 use swreq_machine::lowering::{Asks, FuncId, Query};
+use swreq_machine::symbols::Text;
 use swreq_machine::world::World;
 
 /// The signature by whose machine a query is answered, or None where it asks for a minimised list.
@@ -31,13 +31,12 @@ pub(crate) fn count_of(world: &World, content: Content) -> usize
 }
 
 /// The signature whose machine makes the piece at this place, if one does.
-fn maker(world: &World, content: Content, k: usize) -> Option<FuncId>
-    requires k { k < count_of world.now content }
-    requires short { IsShort world.now }
-    ensures { result ≡ maker world.now content k }
+fn maker(text: &Text<'_>, content: Content, k: usize) -> Option<FuncId>
+    requires { k < count_of text.now.world.now content }
+    ensures { result ≡ maker text.now.world.now content k }
 {
     match content.makes() {
-        Made::Lines => machine_asked(&world.queries()[k]),
+        Made::Lines => machine_asked(&text.world.queries()[k]),
         Made::Systems => Some(FuncId { place: k as u32 }),
         Made::Lists | Made::Nothing => None,
     }
@@ -69,37 +68,34 @@ pub(crate) fn add_place(f: FuncId, k: usize, places: &mut Vec<Vec<usize>>) -> Re
 
 /// Puts a place to those of the signature whose machine makes the piece there, if one does.
 fn note(
-    world: &World,
+    text: &Text<'_>,
     content: Content,
     k: usize,
     places: &mut Vec<Vec<usize>>,
 ) -> Result<(), AllocError>
-    requires k { k < count_of world.now content }
-    requires short { IsShort world.now }
-    requires queries { (q : QueryView) → Contains world.now.queries q
-        → q.f.place < length world.now.signatures }
-    requires places { ArePlaces (maker world.now content)
-        (length world.now.signatures) k places.old.items }
-    ensures { OnOk result (ArePlaces (maker world.now content) (length world.now.signatures)
-        (k + 1) places.new.items) }
+    requires k { k < count_of text.now.world.now content }
+    requires places { ArePlaces (maker text.now.world.now content)
+        (length text.now.world.now.signatures) k places.old.items }
+    ensures { OnOk result (ArePlaces (maker text.now.world.now content)
+        (length text.now.world.now.signatures) (k + 1) places.new.items) }
 {
-    match maker(world, content, k) {
+    match maker(text, content, k) {
         Some(f) => add_place(f, k, places),
         None => Ok(()),
     }
 }
 
 /// Of each signature the places of the pieces that its machine makes, ascending.
-pub fn places(alloc: Global, world: &World, content: Content) -> Result<Vec<Vec<usize>>, AllocError>
-    requires short { IsShort world.now }
-    requires queries { (q : QueryView) → Contains world.now.queries q
-        → q.f.place < length world.now.signatures }
-    ensures { IfOk result (λ v. ArePlaces (maker world.now content) (length world.now.signatures)
-        (count_of world.now content) v.items) }
+pub fn places(
+    alloc: Global,
+    text: &Text<'_>,
+    content: Content,
+) -> Result<Vec<Vec<usize>>, AllocError>
+    ensures { IfOk result (λ v. ArePlacesFor text.now.world.now content v.items) }
 {
-    let mut places = no_places(alloc, world.functions() as usize)?;
-    for k in 0..count_of(world, content) {
-        note(world, content, k, &mut places)?;
+    let mut places = no_places(alloc, text.world.functions() as usize)?;
+    for k in 0..count_of(text.world, content) {
+        note(text, content, k, &mut places)?;
     }
     Ok(places)
 }

@@ -1,4 +1,7 @@
 //! Over what the pieces are made that are printed.
+ghost use Rattle.std.specs.Prelude.{◌<◌, length};
+ghost use Rattle.swreq_check.specs.Wanted.{ArePlacesFor};
+
 use crate::content::Content;
 use std::alloc::Global;
 use swreq_births::History;
@@ -26,11 +29,21 @@ pub(crate) struct Setting<'a> {
     pub base: &'a Option<TextHistory<'a>>,
     /// What the rules of the protocols keep with the endings of words, where queries are answered.
     pub endings: &'a Option<Endings>,
+    ghost placed: { ∥ ArePlacesFor world.now content places.now ∥₁ },
+}
+
+/// A signature of the text, which is checked next.
+#[derive(Clone, Copy)]
+pub(crate) struct Turn<'s, 'a> {
+    pub s: &'s Setting<'a>,
+    pub f: FuncId,
+    ghost in_text: { f.place < length s.now.world.now.signatures },
 }
 
 /// A signature with its machine.
 #[derive(Clone, Copy)]
 pub(crate) struct Own<'a> {
+    pub s: &'a Setting<'a>,
     pub f: FuncId,
     pub machine: &'a Machine<'a>,
 }

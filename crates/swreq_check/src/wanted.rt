@@ -1,11 +1,11 @@
 //! Of which signatures the minimised list is wanted.
-ghost use Rattle.std.specs.Prelude.{◌≡◌, ◌<◌, length, Contains, IfOk};
-ghost use Rattle.swreq_check.specs.Wanted.{AreFlags, is_list_asked, list_asked, wants_list};
+ghost use Rattle.std.specs.Prelude.{◌≡◌, length, IfOk};
+ghost use Rattle.swreq_check.specs.Wanted.{AreFlags, AreFlagsFor, is_list_asked, list_asked};
 
 use crate::content::{Content, Made};
 use std::alloc::{AllocError, Global};
 use swreq_machine::lowering::{Asks, FuncId, Query};
-use swreq_machine::world::World;
+use swreq_machine::symbols::Text;
 
 /// The signature for whose minimised list a query asks, or None where it asks something else.
 pub fn list_asked(query: &Query) -> Option<FuncId>
@@ -25,15 +25,13 @@ fn flags(alloc: Global, count: usize, flag: bool) -> Result<Vec<bool>, AllocErro
 }
 
 /// Of each signature, whether some query asks for its minimised list.
-fn lists_asked(alloc: Global, world: &World) -> Result<Vec<bool>, AllocError>
-    requires { (q : Query) → Contains world.now.queries q
-        → q.f.place < length world.now.signatures }
-    ensures { IfOk result
-        (λ v. AreFlags (is_list_asked world.now.queries) (length world.now.signatures) v.items) }
+fn lists_asked(alloc: Global, text: &Text<'_>) -> Result<Vec<bool>, AllocError>
+    ensures { IfOk result (λ v. AreFlags (is_list_asked text.now.world.now.queries)
+        (length text.now.world.now.signatures) v.items) }
 {
-    let mut flags = flags(alloc, world.functions() as usize, false)?;
-    for k in 0..world.queries().len() {
-        if let Some(f) = list_asked(&world.queries()[k]) {
+    let mut flags = flags(alloc, text.world.functions() as usize, false)?;
+    for k in 0..text.world.queries().len() {
+        if let Some(f) = list_asked(&text.world.queries()[k]) {
             flags[f.place as usize] = true;
         }
     }
@@ -41,15 +39,16 @@ fn lists_asked(alloc: Global, world: &World) -> Result<Vec<bool>, AllocError>
 }
 
 /// Of each signature, whether its minimised list is wanted.
-pub fn lists_wanted(alloc: Global, world: &World, content: Content) -> Result<Vec<bool>, AllocError>
-    requires { (q : Query) → Contains world.now.queries q
-        → q.f.place < length world.now.signatures }
-    ensures { IfOk result (λ v.
-        AreFlags (wants_list content world.now.queries) (length world.now.signatures) v.items) }
+pub fn lists_wanted(
+    alloc: Global,
+    text: &Text<'_>,
+    content: Content,
+) -> Result<Vec<bool>, AllocError>
+    ensures { IfOk result (λ v. AreFlagsFor text.now.world.now content v.items) }
 {
     match content.makes() {
-        Made::Lines => lists_asked(alloc, world),
-        Made::Lists => flags(alloc, world.functions() as usize, true),
-        Made::Systems | Made::Nothing => flags(alloc, world.functions() as usize, false),
+        Made::Lines => lists_asked(alloc, text),
+        Made::Lists => flags(alloc, text.world.functions() as usize, true),
+        Made::Systems | Made::Nothing => flags(alloc, text.world.functions() as usize, false),
     }
 }

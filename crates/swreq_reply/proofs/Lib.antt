@@ -9,6 +9,7 @@ pub mod OfCalls
 pub mod OneOutput
 pub mod OneRefusal
 pub mod Printed
+pub mod Staged
 pub mod Untold
 pub mod Verdicts
 pub mod ByBook

@@ -37,13 +37,12 @@ use Rattle.swreq_valid.specs.declared.refused.Refused.{Refused}
 use Rattle.swreq_valid.specs.declared.refused.Refused.TheVariants.{Memory}
 use Rattle.swreq_reply.specs.declared.outcome.Outcome.{Outcome}
 use Rattle.swreq_check.specs.declared.checking.Checked.{Checked}
-use Rattle.swreq_reply.specs.declared.request.Request.{Request}
 use Rattle.swreq_query.specs.Ended.{IsWorldOfText}
 use Rattle.swreq_text.specs.Lines.{lines}
 use Rattle.swreq_verify.specs.Outputs as verified
 use Rattle.swreq_verify.specs.SecondParts.{IsFirstMisfit}
 use Rattle.swreq_reqsig.specs.declared.family.Family.{Family}
-use Rattle.swreq_reqsig.specs.Families.{IsGivenFamily, family_plan}
+use Rattle.swreq_reqsig.specs.Families.{IsGivenFamily}
 use Rattle.swreq_reqsig.specs.Texts.{family_text}
 use Rattle.swreq_reqsig.specs.Told.{AnswersFamily, ComesSoFar}
 use Rattle.swreq_subst.specs.Calls.{TermCall}
@@ -60,7 +59,7 @@ use Rattle.swreq_check.specs.CallLines.{AnswersCalls}
 use Rattle.swreq_check.specs.Checks.{Checks, HavePassed}
 use Rattle.swreq_reply.specs.Replies.{Finishes, IsToldVerdict, IsVerdictAlone, Replies, TellsPart, WasToldPart}
 use Rattle.swreq_reply.specs.Reports.{name_refusal, refusal_of}
-use Rattle.swreq_reply.specs.Requests.{IsRequest, limits_in, line_of, parts_of, printed_of}
+use Rattle.swreq_reply.specs.Requests.{IsRequest, RequestView, limits_in, printed_of}
 use Rattle.swreq_check.specs.Told.{MinimisingAllTells, MinimisingEndsIn}
 use Rattle.swreq_reply.specs.Told.{TellsBehind}
 use Rattle.swreq_check.specs.Told.MinimisingAllTells.{nothing}
@@ -158,34 +157,34 @@ module _ (line : CommandLine) (input : List ℕ) where
   replies_checked w c old mid new (Err e) (told, built, grew) (more, tells, then) =
       (told ++ more, tells told built, grew_on old mid new told more grew then)
 
-module _ {r : Request} (request : IsRequest r) where
+module _ {r : RequestView} (request : IsRequest r) where
   -- an input that is refused before its world is
   pub refused_early : (old : Option (List Event)) (refusal : RefusalKind) {real : Type 0} (result : Result Outcome AllocError)
-      → IfOk result (λ o. real × (o ≡ refused_with refusal)) → (real → HasNoWorld (parts_of r).source refusal)
-      → Replies (line_of r) (parts_of r).input old old result
+      → IfOk result (λ o. real × (o ≡ refused_with refusal)) → (real → HasNoWorld r.parts.source refusal)
+      → Replies r.line r.parts.input old old result
   refused_early old refusal result h refused =
-      replies_alone (line_of r) (parts_of r).input old result h
-      (λ o (real, is). is_refused (without_world (parts_of r) request.parts refusal (refused real) is refl))
+      replies_alone r.line r.parts.input old result h
+      (λ o (real, is). is_refused (without_world r.parts request.parts refusal (refused real) is refl))
 
-  module _ {w : TextWorld} (of_text : IsWorldOfText (parts_of r).source w) where
-    abbrev has : HasWorld (line_of r) (parts_of r).input w
-    has = record { parts = parts_of r; are = request.parts; of_text = of_text }
+  module _ {w : TextWorld} (of_text : IsWorldOfText r.parts.source w) where
+    abbrev has : HasWorld r.line r.parts.input w
+    has = record { parts = r.parts; are = request.parts; of_text = of_text }
 
     -- ---- by the checker of derivations alone
 
-    pub misfits : printed_of r ≡ Judgements → (n : ℕ) → IsFirstMisfit w.lexicon (length w.queries) (lines (parts_of r).second) n
+    pub misfits : printed_of r ≡ Judgements → (n : ℕ) → IsFirstMisfit w.lexicon (length w.queries) (lines r.parts.second) n
         → (result : Result Outcome AllocError) → IfOk result (λ o. o ≡ refused_with (refusals.DerivationSyntax n))
-        → IfOk result (IsVerdictAlone (line_of r) (parts_of r).input)
+        → IfOk result (IsVerdictAlone r.line r.parts.input)
     misfits judges n first result = IfOk-weaker result _ _ (λ o is. is_refused (misfit w n judges has first is refl))
 
-    pub fits : printed_of r ≡ Judgements → (o : Outcome) → o.status ≡ 0 → verified.IsOutput w (parts_of r).second o.output
-        → IsVerdictAlone (line_of r) (parts_of r).input o
+    pub fits : printed_of r ≡ Judgements → (o : Outcome) → o.status ≡ 0 → verified.IsOutput w r.parts.second o.output
+        → IsVerdictAlone r.line r.parts.input o
     fits judges o status said = is_judged (record {
       judges = judges;
       world = w;
       has_world = has;
       status = status;
-      output = subst (λ (c : Content). IsOutput w false c (parts_of r) o.output) (sym judges)
+      output = subst (λ (c : Content). IsOutput w false c r.parts o.output) (sym judges)
           (o.output ∷ [], (o.output, said, refl), sym (append-nil o.output));
       told_nothing = refl;
     })
@@ -193,15 +192,15 @@ module _ {r : Request} (request : IsRequest r) where
     -- ---- by machines
 
     -- where they are refused
-    pub replies_refused : ChecksMachines (line_of r) → (old new : Option (List Event)) (refused : Refused)
+    pub replies_refused : ChecksMachines r.line → (old new : Option (List Event)) (refused : Refused)
         (result : Result Outcome AllocError) → Checks (limits_in r) w old new (Err refused)
-        → IfOk result (λ o. (refused ≢ Memory) × (o ≡ machine_outcome (line_of r) w.lexicon refused))
-        → Replies (line_of r) (parts_of r).input old new result
+        → IfOk result (λ o. (refused ≢ Memory) × (o ≡ machine_outcome r.line w.lexicon refused))
+        → Replies r.line r.parts.input old new result
     replies_refused checks old new Memory result (told, tells, grew) h =
-        replies (line_of r) (parts_of r).input old new told grew (inr (checks, (w, has, inl tells))) result h
+        replies r.line r.parts.input old new told grew (inr (checks, (w, has, inl tells))) result h
         (λ o (real, is). absurd (real refl))
     replies_refused checks old new refused result (told, checked, grew) h =
-        replies (line_of r) (parts_of r).input old new told grew
+        replies r.line r.parts.input old new told grew
         (inr (checks, (w, has, inl (check_tells (limits_in r) w checked)))) result h
         (λ o (real, is). is_refused (unchecked w refused checks has checked is))
 
@@ -214,16 +213,16 @@ module _ {r : Request} (request : IsRequest r) where
 
       -- what is told after the check is a part of what the input tells, and an outcome is the verdict with which it is told
       finishes : (old new : Option (List Event)) (more : List Event) → GrewBy old new more
-          → After more (TellsPart (line_of r) (parts_of r).input)
+          → After more (TellsPart r.line r.parts.input)
           → {P : Outcome → Type 0} (result : Result Outcome AllocError) → IfOk result P
-          → ((o : Outcome) → P o → After more (IsVerdict (line_of r) (parts_of r).input o))
-          → Finishes (line_of r) (parts_of r).input w rules old new result
+          → ((o : Outcome) → P o → After more (IsVerdict r.line r.parts.input o))
+          → Finishes r.line r.parts.input w rules old new result
       finishes old new more grew part (Ok o) h verdict = (more, verdict o h, grew)
       finishes old new more grew part (Err e) h verdict = (more, part, grew)
 
       -- minimising ends because memory runs out
-      part_of : ChecksMachines (line_of r) → (cause : Failed) (more : List Event)
-          → MinimisingEndsIn (limits_in r) w (printed_of r) rules cause more → After more (TellsPart (line_of r) (parts_of r).input)
+      part_of : ChecksMachines r.line → (cause : Failed) (more : List Event)
+          → MinimisingEndsIn (limits_in r) w (printed_of r) rules cause more → After more (TellsPart r.line r.parts.input)
       part_of checks cause more part first built =
           inr (
             checks,
@@ -243,15 +242,15 @@ module _ {r : Request} (request : IsRequest r) where
           )
 
       -- nothing is told after the check
-      pub finishes_alone : ChecksMachines (line_of r)
+      pub finishes_alone : ChecksMachines r.line
           → (old : Option (List Event)) {P : Outcome → Type 0} (result : Result Outcome AllocError)
-          → IfOk result P → ((o : Outcome) → P o → After [] (IsVerdict (line_of r) (parts_of r).input o))
-          → Finishes (line_of r) (parts_of r).input w rules old old result
+          → IfOk result P → ((o : Outcome) → P o → After [] (IsVerdict r.line r.parts.input o))
+          → Finishes r.line r.parts.input w rules old old result
       finishes_alone checks old result h verdict =
           finishes old old [] (grew_none old) (part_of checks failed.Memory [] (inl nothing)) result h verdict
 
       -- the check, and what is told after it
-      abbrev passes : ChecksMachines (line_of r) → (more : List Event) → After more (PassesCheck (line_of r) (parts_of r).input)
+      abbrev passes : ChecksMachines r.line → (more : List Event) → After more (PassesCheck r.line r.parts.input)
       passes checks more first built = record {
         checks = checks;
         world = w;
@@ -265,34 +264,34 @@ module _ {r : Request} (request : IsRequest r) where
 
       answers : (k : Content) → printed_of r ≡ k → k ≢ Judgements → (more : List Event)
           → TellsBehind (limits_in r) w k rules more → (o : Outcome)
-          → o.status ≡ 0 → IsOutput w false k (parts_of r) o.output → After more (IsVerdict (line_of r) (parts_of r).input o)
+          → o.status ≡ 0 → IsOutput w false k r.parts o.output → After more (IsVerdict r.line r.parts.input o)
       answers k asked other more behind o status output first built = is_answered (record {
-        check = passes (checks_of (line_of r) k asked other) more first built;
+        check = passes (checks_of r.line k asked other) more first built;
         behind = subst (λ (c : Content). TellsBehind (limits_in r) w c rules more) (sym asked) behind;
         status = status;
-        output = subst (λ (c : Content). IsOutput w false c (parts_of r) o.output) (sym asked) output;
+        output = subst (λ (c : Content). IsOutput w false c r.parts o.output) (sym asked) output;
       })
 
       -- ---- by pieces and minimised lists
 
       module _ (prints : PrintsPieces (printed_of r)) where
-        pieces_check : ChecksMachines (line_of r)
-        pieces_check = checks_for_pieces (line_of r) prints
+        pieces_check : ChecksMachines r.line
+        pieces_check = checks_for_pieces r.line prints
 
         pub finishes_answered : IsClosed w → (old new : Option (List Event)) (result : Result Outcome AllocError)
             → (told : List Event) × MinimisingAllTells (limits_in r) w (printed_of r) rules told × GrewBy old new told
-            → IfOk result (λ o. (o.status ≡ 0) × IsOutput w true (printed_of r) (parts_of r) o.output)
-            → Finishes (line_of r) (parts_of r).input w rules old new result
+            → IfOk result (λ o. (o.status ≡ 0) × IsOutput w true (printed_of r) r.parts o.output)
+            → Finishes r.line r.parts.input w rules old new result
         finishes_answered closed old new result (told, tells, grew) h =
             finishes old new told grew (part_of pieces_check failed.Memory told (inl tells)) result h
             (λ o (status, output). answers (printed_of r) refl pieces_check told
             (minimising_tells (limits_in r) w (printed_of r) rules told prints tells) o status
-            (by_book w (is_formed (limits_in r) w closed passed.built) closed (printed_of r) (parts_of r) o.output output))
+            (by_book w (is_formed (limits_in r) w closed passed.built) closed (printed_of r) r.parts o.output output))
 
         -- where minimising fails
         pub finishes_failed : (old new : Option (List Event)) (cause : Failed) (result : Result Outcome AllocError)
             → (told : List Event) × MinimisingEndsIn (limits_in r) w (printed_of r) rules cause told × GrewBy old new told
-            → IfOk result (IsStopOf (line_of r) w.lexicon cause) → Finishes (line_of r) (parts_of r).input w rules old new result
+            → IfOk result (IsStopOf r.line w.lexicon cause) → Finishes r.line r.parts.input w rules old new result
         finishes_failed old new failed.Memory result (told, part, grew) h =
             finishes old new told grew (part_of pieces_check failed.Memory told part) result h (λ o none. absurd none)
         finishes_failed old new (failed.Limit which trace) result (told, fails, grew) h =
@@ -308,10 +307,10 @@ module _ {r : Request} (request : IsRequest r) where
       -- ---- by families of requirement signatures
 
       module _ (asked : printed_of r ≡ Families) where
-        families_check : ChecksMachines (line_of r)
-        families_check = checks_of (line_of r) Families asked (λ e. cc)
+        families_check : ChecksMachines r.line
+        families_check = checks_of r.line Families asked (λ e. cc)
 
-        families_part : (more : List Event) → ComesSoFar (limits_in r) w more → After more (TellsPart (line_of r) (parts_of r).input)
+        families_part : (more : List Event) → ComesSoFar (limits_in r) w more → After more (TellsPart r.line r.parts.input)
         families_part more part first built =
             inr (
               families_check,
@@ -335,7 +334,7 @@ module _ {r : Request} (request : IsRequest r) where
         pub families_given : (old new : Option (List Event)) (family : Family) (result : Result Outcome AllocError)
             → AnswersFamily (limits_in r) w old new (Ok family) → IsGivenFamily w family.kept
             → IfOk result (λ o. (o.status ≡ 0) × (o.output ≡ family_text w family.kept))
-            → Finishes (line_of r) (parts_of r).input w rules old new result
+            → Finishes r.line r.parts.input w rules old new result
         families_given old new family result (told, (flags, gone, is), grew) given h =
             finishes old new told grew
             (families_part told (record { place = 0; flags = flags; before = told; gone = gone; part = inl refl })) result h
@@ -343,8 +342,8 @@ module _ {r : Request} (request : IsRequest r) where
             (o.output ∷ [], (family.kept, given, ap (λ (t : List ℕ). t ∷ []) output), sym (append-nil o.output)))
 
         pub families_failed : (old new : Option (List Event)) (cause : Failed) (result : Result Outcome AllocError)
-            → AnswersFamily (limits_in r) w old new (Err cause) → IfOk result (IsStopOf (line_of r) w.lexicon cause)
-            → Finishes (line_of r) (parts_of r).input w rules old new result
+            → AnswersFamily (limits_in r) w old new (Err cause) → IfOk result (IsStopOf r.line w.lexicon cause)
+            → Finishes r.line r.parts.input w rules old new result
         families_failed old new failed.Memory result (told, part, grew) h =
             finishes old new told grew (families_part told part) result h (λ o none. absurd none)
         families_failed old new (failed.Limit which trace) result (told, s, grew) h =
@@ -370,21 +369,21 @@ module _ {r : Request} (request : IsRequest r) where
       -- ---- by the lines of calls
 
       module _ (asked : printed_of r ≡ Calls) where
-        calls_check : ChecksMachines (line_of r)
-        calls_check = checks_of (line_of r) Calls asked (λ e. cc)
+        calls_check : ChecksMachines r.line
+        calls_check = checks_of r.line Calls asked (λ e. cc)
 
         pub calls_refused : (old : Option (List Event)) (refusal : RefusalKind) {real : Type 0} (result : Result Outcome AllocError)
-            → IfOk result (λ o. real × (o ≡ refused_with refusal)) → (real → RefusesSecond w (parts_of r) refusal)
-            → Finishes (line_of r) (parts_of r).input w rules old old result
+            → IfOk result (λ o. real × (o ≡ refused_with refusal)) → (real → RefusesSecond w r.parts refusal)
+            → Finishes r.line r.parts.input w rules old old result
         calls_refused old refusal result h refuses =
             finishes_alone calls_check old result h
             (λ o (real, is) first built. is_refused (bad_calls refusal (passes calls_check [] first built) asked (refuses real) refl is))
 
         pub calls_answered : (old : Option (List Event)) (ds : List CallDecl)
-            → calls.StandsFor (parts_of r).input (second_at (parts_of r)) ds
-            → refusals_of w (parts_of r).input ds ≡ [] → (cs : List TermCall) → SayCalls w (parts_of r).input cs ds
+            → calls.StandsFor r.parts.input (second_at r.parts) ds
+            → refusals_of w r.parts.input ds ≡ [] → (cs : List TermCall) → SayCalls w r.parts.input cs ds
             → (result : Result Outcome AllocError) → IfOk result (λ o. (o.status ≡ 0) × AnswersCalls w cs o.output)
-            → Finishes (line_of r) (parts_of r).input w rules old old result
+            → Finishes r.line r.parts.input w rules old old result
         calls_answered old ds stands none cs say result h =
             finishes_alone calls_check old result h (λ o (status, text). answers Calls asked (λ e. cc) [] refl o status
             (text.0, (ds, stands, none, (cs, say, text.1)), text.2))

@@ -16,6 +16,7 @@ pub mod Pieces
 pub mod Replies
 pub mod Reports
 pub mod Requests
+pub mod Stages
 pub mod Told
 pub mod Verdict
 pub mod Commands

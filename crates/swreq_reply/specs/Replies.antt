@@ -12,6 +12,8 @@ use Rattle.swreq_check.specs.Contents.{AreFamilies}
 use Rattle.swreq_reply.specs.Commands.{content_of}
 use Rattle.swreq_check.specs.Machines.{IsBuiltOver}
 use Rattle.swreq_check.specs.Told.{CheckTells}
+use Rattle.swreq_valid.specs.Rounds.{last_rules}
+use Rattle.swreq_reply.specs.Stages.{AcceptedView, world_in}
 use Rattle.swreq_reply.specs.Told.{FamiliesPartTell, MinimisingPartTells}
 use Rattle.swreq_reply.specs.Verdict.{ChecksMachines, HasWorld, IsRefused, IsVerdict, limits_of}
 
@@ -52,3 +54,8 @@ Finishes line input w rules old new (Ok o) =
 Finishes line input w rules old new (Err e) =
     (more : List Event) × ((first : List Event) → IsBuiltOver (limits_of line) w rules first → TellsPart line input (first ++ more))
     × GrewBy old new more
+
+-- After the check of this request.
+abbrev pub FinishesAfter : AcceptedView → Option (List Event) → Option (List Event) → Result Outcome AllocError → Type 0
+FinishesAfter a =
+    Finishes a.resolved.request.line a.resolved.request.parts.input (world_in a.resolved) (last_rules a.checked.protocols.rounds)

@@ -9,6 +9,7 @@ mod printing;
 mod refusal;
 mod replying;
 mod request;
+mod stages;
 
 pub use outcome::Outcome;
 pub use replying::reply;

@@ -3,7 +3,7 @@ ghost use Rattle.std.specs.Prelude.{◌≡◌, ◌≢◌, IfOk};
 ghost use Rattle.swreq_print.specs.swreq_decl.declared.refusal.ParseErr.TheVariants as grammar;
 ghost use Rattle.swreq_valid.specs.swreq_resolve.declared.refusal.NameErr.TheVariants as names;
 ghost use Rattle.swreq_valid.specs.declared.refused.Refused.TheVariants as machines;
-ghost use Rattle.swreq_reply.specs.{Reports.{name_refusal, refusal_of}, Requests.{line_of}, Verdict.{IsStopOf, limits_of, machine_outcome, refused_with, stopped_with}};
+ghost use Rattle.swreq_reply.specs.{Reports.{name_refusal, refusal_of}, Verdict.{IsStopOf, limits_of, machine_outcome, refused_with, stopped_with}};
 
 use crate::refusal::{limit_refusal, name_refusal, refusal_of};
 use crate::request::Request;
@@ -45,7 +45,7 @@ fn stopped(
     trace: &[Rule],
 ) -> Result<Outcome, AllocError>
     ensures { IfOk result
-        (λ o. o ≡ stopped_with (line_of r.now) world.now.lexicon which trace.now) }
+        (λ o. o ≡ stopped_with r.now.line world.now.lexicon which trace.now) }
 {
     let mut out = Vec::new(r.alloc);
     refusal_text(r.alloc, &limit_refusal(limits_of(r.line), which), &mut out)?;
@@ -91,7 +91,7 @@ pub(crate) fn unresolved(alloc: Global, e: NameErr) -> Result<Outcome, AllocErro
 /// What is answered where the machines have this error.
 pub(crate) fn unchecked(r: &Request<'_>, world: &World, e: &Refused) -> Result<Outcome, AllocError>
     ensures { IfOk result (λ o.
-        (e.now ≢ machines.Memory) × (o ≡ machine_outcome (line_of r.now) world.now.lexicon e.now)) }
+        (e.now ≢ machines.Memory) × (o ≡ machine_outcome r.now.line world.now.lexicon e.now)) }
 {
     match e {
         Refused::Memory => Err(AllocError),
@@ -108,7 +108,7 @@ pub(crate) fn cut_short(
     world: &World,
     failed: &Failed,
 ) -> Result<Outcome, AllocError>
-    ensures { IfOk result (IsStopOf (line_of r.now) world.now.lexicon failed.now) }
+    ensures { IfOk result (IsStopOf r.now.line world.now.lexicon failed.now) }
 {
     match failed {
         Failed::Memory => Err(AllocError),

@@ -1,40 +1,52 @@
 //! What a command prints of a checked text, by the pieces that were made of it.
 ghost use Rattle.std.specs.{Prelude.{◌≡◌, ◌<◌, ◌++◌, true, decimal, get_or, length, List, IfOk, OnOk}, Bool.{Decides}, List.{concat}};
 ghost use Rattle.swreq_query.specs.{Signatures.{IsNamedLine}, Systems.{IsSystemText}, Asked.{answer_of}};
-ghost use Rattle.swreq_print.specs.Names.{Text};
-ghost use Rattle.swreq_valid.specs.swreq_world.Worlds.{no_signature};
-ghost use Rattle.swreq_check.specs.{declared.content.Backing.TheVariants.{Nothing}, declared.content.Content.TheVariants.{Answers}, Contents.{AreAnswers, AreSignatures, AreSystems, backing_of}, Lines.{AreLinesIn, Counted}, QueryLines.{HasAnswer, IsLineOf}, Made.{text_at}};
-ghost use Rattle.swreq_reply.specs.{Inputs.{Parts}, Outputs.{AnswersLast, AreCounts, IsOutput, sizes_text, verdicts_text}, Pieces.{IsWhole, query_at, world_of}};
+ghost use Rattle.swreq_print.specs.Names.{Text as Bytes};
+ghost use Rattle.swreq_valid.specs.{swreq_symbols.Texts.{world_of}, swreq_world.Worlds.{no_signature}};
+ghost use Rattle.swreq_check.specs.{declared.content.Backing.TheVariants.{Nothing}, declared.content.Content.TheVariants.{Answers}, declared.content.Shown.TheVariants.{Counts}, Contents.{AreAnswers, AreSignatures, AreSystems, backing_of}, Lines.{AreLinesIn, Counted}, QueryLines.{HasAnswer, IsLineOf}, Made.{text_at}};
+ghost use Rattle.swreq_reply.specs.{Inputs.{Parts}, Outputs.{AnswersLast, AreCounts, IsOutput, sizes_text, verdicts_text}, Pieces.{query_at}};
 
 use std::alloc::{AllocError, Global};
+use std::marker::Model;
 use swreq_check::{Content, Piece, Shown, line_at, list_asked, text_at, verdict_at};
 use swreq_print::lowering::FuncId;
-use swreq_print::param::ParamTable;
 use swreq_query::{Verdict, full_name};
 use swreq_text::{Seq, append_bytes, append_number};
-use swreq_valid::world::World;
+use swreq_valid::symbols::Text;
 
 /// What was made of a text: the pieces of its machines, each at its place, and the lines of the minimised lists that are wanted.
-#[derive(Clone, Copy)]
+#[derive(Drop)]
 pub(crate) struct MadePieces<'a> {
     pub alloc: Global,
-    pub world: &'a World,
-    pub table: &'a ParamTable,
+    pub text: &'a Text<'a>,
     pub content: Content,
     pub pieces: &'a [Option<Piece>],
     /// The line of the minimised list of each signature, by place, or None where it is not wanted.
     pub lists: &'a [Option<Seq<u8>>],
 }
 
+impl<'a> Model for MadePieces<'a> {
+    ghost use Rattle.std.specs.Coded.{codes};
+    ghost use Rattle.swreq_print.specs.swreq_param.Codes.{term_code};
+    ghost use Rattle.swreq_reply.specs.Pieces.{IsWhole, MadeView, view_of};
+
+    ghost Value = { MadeView };
+
+    ghost coded = { Prim.hlevel (codes, term_code) };
+
+    ghost view = { λ m. view_of m.text.now m.content m.pieces.now m.lists.now };
+
+    ghost invariant = { λ m. IsWhole (view_of m.text.now m.content m.pieces.now m.lists.now) };
+}
+
 /// What answers the query at this place: a piece of a machine, or the line of a minimised list.
 fn answer_at<'a>(m: &MadePieces<'a>, k: usize) -> &'a [u8]
-    requires k { k < length m.now.world.now.queries }
+    requires k { k < length m.now.text.world.now.queries }
     requires answers { AreAnswers m.now.content }
-    requires whole { IsWhole m.now }
-    ensures { IsLineOf (world_of m.now) true (backing_of m.now.content)
+    ensures { IsLineOf (world_of m.now.text) true (backing_of m.now.content)
         (query_at m.now k) result.now }
 {
-    match list_asked(&m.world.queries()[k]) {
+    match list_asked(&m.text.world.queries()[k]) {
         Some(f) => line_at(m.lists, f.place as usize),
         None => text_at(m.pieces, k),
     }
@@ -42,13 +54,12 @@ fn answer_at<'a>(m: &MadePieces<'a>, k: usize) -> &'a [u8]
 
 /// The answers to all queries, one after the other.
 fn all_answers(m: &MadePieces<'_>) -> Result<Vec<u8>, AllocError>
-    requires answers { AreAnswers m.now.content }
-    requires whole { IsWhole m.now }
-    ensures { IfOk result (λ v. AreLinesIn (IsLineOf (world_of m.now) true
-        (backing_of m.now.content)) (world_of m.now).queries v.items) }
+    requires { AreAnswers m.now.content }
+    ensures { IfOk result (λ v. AreLinesIn (IsLineOf (world_of m.now.text) true
+        (backing_of m.now.content)) (world_of m.now.text).queries v.items) }
 {
     let mut out = Vec::new(m.alloc);
-    for k in 0..m.world.queries().len() {
+    for k in 0..m.text.world.queries().len() {
         append_bytes(&mut out, answer_at(m, k))?;
     }
     Ok(out)
@@ -56,24 +67,22 @@ fn all_answers(m: &MadePieces<'_>) -> Result<Vec<u8>, AllocError>
 
 /// Whether the query at this place has this verdict.
 fn has_verdict(m: &MadePieces<'_>, k: usize, verdict: Verdict) -> bool
-    requires k { k < length m.now.world.now.queries }
+    requires k { k < length m.now.text.world.now.queries }
     requires answers { AreAnswers m.now.content }
-    requires whole { IsWhole m.now }
     ensures { Decides result
-        (HasAnswer (world_of m.now) true (answer_of verdict) (query_at m.now k)) }
+        (HasAnswer (world_of m.now.text) true (answer_of verdict) (query_at m.now k)) }
 {
     verdict_at(m.pieces, k) == Some(verdict)
 }
 
 /// How many queries have this verdict.
 fn count_of(m: &MadePieces<'_>, verdict: Verdict) -> usize
-    requires answers { AreAnswers m.now.content }
-    requires whole { IsWhole m.now }
-    ensures { Counted (HasAnswer (world_of m.now) true (answer_of verdict))
-        (world_of m.now).queries result }
+    requires { AreAnswers m.now.content }
+    ensures { Counted (HasAnswer (world_of m.now.text) true (answer_of verdict))
+        (world_of m.now.text).queries result }
 {
     let mut count = 0;
-    for k in 0..m.world.queries().len() {
+    for k in 0..m.text.world.queries().len() {
         if has_verdict(m, k, verdict) {
             count += 1;
         }
@@ -85,10 +94,9 @@ fn count_of(m: &MadePieces<'_>, verdict: Verdict) -> usize
 fn last_answer<'a>(m: &MadePieces<'a>) -> &'a [u8]
     requires answers { AreAnswers m.now.content }
     requires plain { backing_of m.now.content ≡ Nothing }
-    requires whole { IsWhole m.now }
-    ensures { AnswersLast (world_of m.now) true (world_of m.now).queries result.now }
+    ensures { AnswersLast (world_of m.now.text) true (world_of m.now.text).queries result.now }
 {
-    let count = m.world.queries().len();
+    let count = m.text.world.queries().len();
     if count == 0 {
         return &[];
     }
@@ -131,11 +139,9 @@ fn put_verdicts(
 
 /// The counts of the verdicts on the queries of the generated text of n protocols, and the last answer.
 fn counts(m: &MadePieces<'_>, n: u32) -> Result<Vec<u8>, AllocError>
-    requires answers { AreAnswers m.now.content }
-    requires plain { backing_of m.now.content ≡ Nothing }
-    requires whole { IsWhole m.now }
-    ensures { IfOk result (λ v.
-        (lines : List Text) × AreCounts (world_of m.now) true n lines × (v.items ≡ concat lines)) }
+    requires { m.now.content ≡ Answers (Counts n) }
+    ensures { IfOk result (λ v. (lines : List Bytes)
+        × AreCounts (world_of m.now.text) true n lines × (v.items ≡ concat lines)) }
 {
     let mut out = Vec::new(m.alloc);
     let yes_count = count_of(m, Verdict::Yes);
@@ -149,10 +155,9 @@ fn counts(m: &MadePieces<'_>, n: u32) -> Result<Vec<u8>, AllocError>
 
 /// The reduced rewriting systems of all signatures, in written order.
 fn all_systems(m: &MadePieces<'_>) -> Result<Vec<u8>, AllocError>
-    requires systems { AreSystems m.now.content }
-    requires whole { IsWhole m.now }
-    ensures { IfOk result
-        (λ v. AreLinesIn (IsSystemText (world_of m.now)) (world_of m.now).signatures v.items) }
+    requires { AreSystems m.now.content }
+    ensures { IfOk result (λ v. AreLinesIn (IsSystemText (world_of m.now.text))
+        (world_of m.now.text).signatures v.items) }
 {
     let mut out = Vec::new(m.alloc);
     for k in 0..m.pieces.len() {
@@ -164,26 +169,24 @@ fn all_systems(m: &MadePieces<'_>) -> Result<Vec<u8>, AllocError>
 /// Appends the line of a signature: its name, and its minimised list.
 fn put_named(m: &MadePieces<'_>, f: FuncId, out: &mut Vec<u8>) -> Result<(), AllocError>
     requires signatures { AreSignatures m.now.content }
-    requires whole { IsWhole m.now }
-    requires f { f.place < length m.now.world.now.signatures }
-    ensures { OnOk result ((line : Text) × IsNamedLine (world_of m.now)
-        (get_or (world_of m.now).signatures f.place no_signature) line
+    requires f { f.place < length m.now.text.world.now.signatures }
+    ensures { OnOk result ((line : Bytes) × IsNamedLine (world_of m.now.text)
+        (get_or (world_of m.now.text).signatures f.place no_signature) line
         × (out.new.items ≡ out.old.items ++ line)) }
 {
-    full_name(m.world, m.table, f, out)?;
+    full_name(m.text, f, out)?;
     append_bytes(out, b": ")?;
     append_bytes(out, line_at(m.lists, f.place as usize))
 }
 
 /// The lines of all signatures, in written order.
 fn all_signatures(m: &MadePieces<'_>) -> Result<Vec<u8>, AllocError>
-    requires signatures { AreSignatures m.now.content }
-    requires whole { IsWhole m.now }
-    ensures { IfOk result
-        (λ v. AreLinesIn (IsNamedLine (world_of m.now)) (world_of m.now).signatures v.items) }
+    requires { AreSignatures m.now.content }
+    ensures { IfOk result (λ v. AreLinesIn (IsNamedLine (world_of m.now.text))
+        (world_of m.now.text).signatures v.items) }
 {
     let mut out = Vec::new(m.alloc);
-    for k in 0..m.world.functions() {
+    for k in 0..m.text.world.functions() {
         put_named(m, FuncId { place: k }, &mut out)?;
     }
     Ok(out)
@@ -191,10 +194,9 @@ fn all_signatures(m: &MadePieces<'_>) -> Result<Vec<u8>, AllocError>
 
 /// The answers to the queries, as they are shown.
 fn shown_answers(m: &MadePieces<'_>, shown: Shown) -> Result<Vec<u8>, AllocError>
-    requires shown { m.now.content ≡ Answers shown }
-    requires whole { IsWhole m.now }
+    requires { m.now.content ≡ Answers shown }
     ensures { IfOk result
-        (λ v. (parts : Parts) → IsOutput (world_of m.now) true (Answers shown) parts v.items) }
+        (λ v. (parts : Parts) → IsOutput (world_of m.now.text) true (Answers shown) parts v.items) }
 {
     match shown {
         Shown::Each { .. } => all_answers(m),
@@ -204,9 +206,8 @@ fn shown_answers(m: &MadePieces<'_>, shown: Shown) -> Result<Vec<u8>, AllocError
 
 /// What a command prints that prints pieces of machines or minimised lists.
 pub(crate) fn output(m: &MadePieces<'_>) -> Result<Vec<u8>, AllocError>
-    requires { IsWhole m.now }
     ensures { IfOk result
-        (λ v. (parts : Parts) → IsOutput (world_of m.now) true m.now.content parts v.items) }
+        (λ v. (parts : Parts) → IsOutput (world_of m.now.text) true m.now.content parts v.items) }
 {
     match m.content {
         Content::Answers { shown } => shown_answers(m, shown),

@@ -1,11 +1,8 @@
 //! What a command answers of an input.
 ghost use Rattle.std.specs.Prelude.{◌≡◌, List, IfOk, OnErr};
 ghost use Rattle.swreq_print.specs.swreq_decl.Skeletons.{StandsFor};
-ghost use Rattle.swreq_valid.specs.swreq_symbols.Known.{IsTextOver};
 ghost use Rattle.swreq_valid.specs.swreq_watch.declared.events.Event.{Event};
-ghost use Rattle.swreq_valid.specs.swreq_world.ByTable.{world_by};
-ghost use Rattle.swreq_query.specs.Ended.{IsWorldOfText};
-ghost use Rattle.swreq_reply.specs.{declared.outcome.Outcome.{Outcome}, Commands.{content_of}, Replies.{IsToldVerdict, IsVerdictAlone, Replies, WasToldPart}, Requests.{HasCount, IsRequest, line_of, parts_of, printed_of}, Verdict.{IsRefused, answered_text}};
+ghost use Rattle.swreq_reply.specs.{declared.outcome.Outcome.{Outcome}, Commands.{content_of}, Replies.{IsToldVerdict, IsVerdictAlone, Replies, WasToldPart}, Requests.{HasCount, printed_of}, Verdict.{IsRefused, answered_text}};
 ghost use Rattle.swreq_check.specs.Contents.{AreJudgements};
 
 use crate::commands::content_of;
@@ -13,6 +10,7 @@ use crate::finishing::checked;
 use crate::laws::one_verdict;
 use crate::outcome::{Outcome, refused, unread, unresolved};
 use crate::request::{Request, parts_of, second_at};
+use crate::stages::Resolved;
 use std::alloc::{AllocError, Global};
 use swreq_check::Content;
 use swreq_lines::LinesErr;
@@ -65,7 +63,6 @@ fn read<W: Watch>(
     input: &[u8],
     watch: &mut W,
 ) -> Result<Outcome, AllocError>
-    requires count { HasCount line.now }
     ensures reply { Replies line.now input.now (W.told watch.old) (W.told watch.new) result }
     ensures refused { (o : Outcome) (told : List Event) → IsRefused line.now input.now o told
         → IfOk result (λ answer. answer ≡ o) }
@@ -76,8 +73,8 @@ fn read<W: Watch>(
     match parts_of(line.command, input) {
         None => refused(alloc, RefusalKind::MissingPart),
         Some(parts) => {
-            one_verdict(input, parts.source, second_at(parts));
             let request = Request { alloc, line, parts };
+            one_verdict(input, parts.source, second_at(&request));
             with_source(&request, watch)
         }
     }
@@ -85,8 +82,7 @@ fn read<W: Watch>(
 
 /// What is answered of the source text.
 fn with_source<W: Watch>(r: &Request<'_>, watch: &mut W) -> Result<Outcome, AllocError>
-    requires { IsRequest r.now }
-    ensures { Replies (line_of r.now) (parts_of r.now).input (W.told watch.old)
+    ensures { Replies r.now.line r.now.parts.input (W.told watch.old)
         (W.told watch.new) result }
 {
     match parse(r.alloc, r.parts.source) {
@@ -95,70 +91,56 @@ fn with_source<W: Watch>(r: &Request<'_>, watch: &mut W) -> Result<Outcome, Allo
     }
 }
 
-/// What is answered where this skeleton stands for the source text.
+/// What is answered where this skeleton stands for the source text. Its type parameters get a table of their own.
 fn with_skeleton<W: Watch>(
     r: &Request<'_>,
     skeleton: &Skeleton,
     watch: &mut W,
 ) -> Result<Outcome, AllocError>
-    requires request { IsRequest r.now }
-    requires stands { StandsFor (parts_of r.now).source skeleton.now }
-    ensures { Replies (line_of r.now) (parts_of r.now).input (W.told watch.old)
-        (W.told watch.new) result }
-{
-    let mut table = ParamTable::new(r.alloc);
-    over_table(r, skeleton, &mut table, watch)
-}
-
-/// Resolves the names, with the type parameters of the text in this table, and answers.
-fn over_table<W: Watch>(
-    r: &Request<'_>,
-    skeleton: &Skeleton,
-    table: &mut ParamTable,
-    watch: &mut W,
-) -> Result<Outcome, AllocError>
-    requires request { IsRequest r.now }
-    requires stands { StandsFor (parts_of r.now).source skeleton.now }
-    ensures { Replies (line_of r.now) (parts_of r.now).input (W.told watch.old)
-        (W.told watch.new) result }
+    requires { StandsFor r.now.parts.source skeleton.now }
+    ensures { Replies r.now.line r.now.parts.input (W.told watch.old) (W.told watch.new) result }
 {
     one_skeleton(r.parts.source);
-    match World::resolve(r.alloc, r.parts.source, skeleton, table) {
-        Ok(world) => with_world(r, &world, table, watch),
+    let mut table = ParamTable::new(r.alloc);
+    match World::resolve(r.alloc, r.parts.source, skeleton, &mut table) {
+        Ok(world) => {
+            let resolved = Resolved {
+                request: r,
+                world: &world,
+                table,
+            };
+            with_world(resolved, watch)
+        }
         Err(e) => unresolved(r.alloc, e),
     }
 }
 
-/// What is answered where this is the world of the source text.
-fn with_world<W: Watch>(
-    r: &Request<'_>,
-    world: &World,
-    table: &mut ParamTable,
-    watch: &mut W,
-) -> Result<Outcome, AllocError>
-    requires request { IsRequest r.now }
-    requires world { IsWorldOfText (parts_of r.now).source (world_by table.old world.now) }
-    requires text { IsTextOver table.old world.now }
-    ensures { Replies (line_of r.now) (parts_of r.now).input (W.told watch.old)
-        (W.told watch.new) result }
+/// What is answered where the source text has a world.
+fn with_world<W: Watch>(resolved: Resolved<'_>, watch: &mut W) -> Result<Outcome, AllocError>
+    ensures { Replies resolved.entry.request.line resolved.entry.request.parts.input
+        (W.told watch.old) (W.told watch.new) result }
 {
+    let r = resolved.request;
     match content_of(r.line) {
-        Content::Judgements => judged(r, world, table),
-        _ => checked(r, world, table, watch),
+        Content::Judgements => judged(resolved),
+        _ => checked(resolved, watch),
     }
 }
 
 /// What the checker of derivations says of the second part, with nothing told.
-fn judged(r: &Request<'_>, world: &World, table: &mut ParamTable) -> Result<Outcome, AllocError>
-    requires request { IsRequest r.now }
-    requires world { IsWorldOfText (parts_of r.now).source (world_by table.old world.now) }
-    requires text { IsTextOver table.old world.now }
-    requires judges { AreJudgements (printed_of r.now) }
-    ensures { IfOk result (IsVerdictAlone (line_of r.now) (parts_of r.now).input) }
+fn judged(resolved: Resolved<'_>) -> Result<Outcome, AllocError>
+    requires { AreJudgements (printed_of resolved.request) }
+    ensures { IfOk result
+        (IsVerdictAlone resolved.entry.request.line resolved.entry.request.parts.input) }
 {
+    let Resolved {
+        request: r,
+        world,
+        mut table,
+    } = resolved;
     names_tell_ids_apart(r.parts.source);
     let mut out = Vec::new(r.alloc);
-    match verify(r.alloc, world, table, r.parts.second, &mut out) {
+    match verify(r.alloc, world, &mut table, r.parts.second, &mut out) {
         Ok(()) => Ok(Outcome {
             status: 0,
             output: Seq::new(out),

@@ -1,10 +1,11 @@
 //! What is to be answered.
-ghost use Rattle.std.specs.Prelude.{◌≡◌, ◌≤◌, Contains, MatchOption, length};
+ghost use Rattle.std.specs.Prelude.{◌≡◌, Contains, MatchOption};
 ghost use Rattle.swreq_text.specs.{Lines.{lines}, Divided.{divider}};
 ghost use Rattle.swreq_words.specs.{declared.command.Input.TheVariants.{TwoParts}, Commands.{input as reads}};
 ghost use Rattle.swreq_reply.specs.{Inputs.{HasParts, second_at}, Requests.{view_of}};
 
 use std::alloc::Global;
+use std::marker::Model;
 use swreq_text::parts;
 use swreq_words::{Command, CommandLine, Input};
 
@@ -17,11 +18,21 @@ pub(crate) struct Divided<'a> {
 }
 
 /// A command, and the parts of the input that it reads.
-#[derive(Clone, Copy)]
+#[derive(Drop)]
 pub(crate) struct Request<'a> {
     pub alloc: Global,
     pub line: &'a CommandLine,
     pub parts: Divided<'a>,
+}
+
+impl<'a> Model for Request<'a> {
+    ghost use Rattle.swreq_reply.specs.Requests.{IsRequest, RequestView, view_of};
+
+    ghost Value = { RequestView };
+
+    ghost view = { λ r. record { line = r.line.now; parts = view_of r.parts } };
+
+    ghost invariant = { λ r. IsRequest (record { line = r.line.now; parts = view_of r.parts }) };
 }
 
 /// The parts of an input that the command reads, or None where it reads a second part and there is none.
@@ -49,10 +60,8 @@ pub(crate) fn parts_of(command: Command, input: &[u8]) -> Option<Divided<'_>>
 }
 
 /// The offset of the second part in the input.
-pub(crate) fn second_at(parts: Divided<'_>) -> u32
-    requires input { length parts.input.now ≤ 1048576 }
-    requires second { length parts.second.now ≤ length parts.input.now }
-    ensures { result ≡ second_at (view_of parts.entry) }
+pub(crate) fn second_at(r: &Request<'_>) -> u32
+    ensures { result ≡ second_at r.now.parts }
 {
-    (parts.input.len() - parts.second.len()) as u32
+    (r.parts.input.len() - r.parts.second.len()) as u32
 }

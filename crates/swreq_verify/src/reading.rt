@@ -3,7 +3,7 @@ ghost use Rattle.std.specs.{Prelude.{◌≡◌, ◌∷◌, ◌+◌, ◌^◌, ◌
 ghost use Rattle.swreq_lines.specs.declared.lines.LinesErr.TheVariants.{Memory, Syntax};
 ghost use Rattle.swreq_world.specs.swreq_param.Tables.{Extends};
 ghost use Rattle.swreq_text.specs.Lines.{lines};
-ghost use Rattle.swreq_lines.specs.swreq_print.Reading.{TellsApart};
+ghost use Rattle.swreq_lines.specs.{Reader.{TellsApart-prop}, swreq_print.Reading.{TellsApart}};
 ghost use Rattle.swreq_verify.specs.{Laying.{IsFront, IsNoSection, IsSectionOver, section_of}, SecondParts.{AreSections, IsFirstMisfit, IsHeading}};
 
 use crate::sections::{cut_body, is_heading};
@@ -13,6 +13,14 @@ use swreq_text::first_line;
 use swreq_world::derive::Line;
 use swreq_world::lexicon::Lexicon;
 use swreq_world::param::ParamTable;
+
+/// Reads lines as derivations, where names tell ids apart.
+#[derive(Drop)]
+struct Reader<'a> {
+    alloc: Global,
+    names: &'a Lexicon,
+    ghost tells_apart: { TellsApart names.now } by { TellsApart-prop names.now },
+}
 
 /// What stands under a query: a heading, and the lines of a derivation.
 #[derive(Drop)]
@@ -43,29 +51,27 @@ fn behind(before: u32, e: LinesErr) -> LinesErr
 
 /// The section of a heading and of the derivation at the front of what stands under it. `before` lines stand before the heading.
 fn read_under<'a>(
-    alloc: Global,
-    names: &Lexicon,
+    reader: &Reader<'_>,
     table: &mut ParamTable,
     before: u32,
     heading: &'a [u8],
     text: &'a [u8],
 ) -> Result<Next<'a>, LinesErr>
-    requires names { TellsApart names.now }
     requires heading { IsHeading heading.now }
     requires short { length text.now ≤ 1048576 }
     requires before { before ≤ 1048576 }
     ensures extends { Extends table.old table.new }
-    ensures section { IfOk result (λ n. IsSectionOver names.now table.new n.section) }
+    ensures section { IfOk result (λ n. IsSectionOver reader.now.names.now table.new n.section) }
     ensures front { IfOk result (λ n.
-        IsFront names.now (heading.now ∷ lines text.now)
+        IsFront reader.now.names.now (heading.now ∷ lines text.now)
         (section_of table.new n.section) (lines n.rest.now)) }
     ensures less { IfOk result (λ n. length n.rest.now ≤ length text.now) }
     ensures misfit { (n : ℕ) → result ≡ Err (Syntax n)
-        → (k : ℕ) × IsNoSection names.now (heading.now ∷ lines text.now) k
+        → (k : ℕ) × IsNoSection reader.now.names.now (heading.now ∷ lines text.now) k
         × (n ≡ before + (k + 1)) }
 {
     let body = cut_body(text);
-    match read_lines(alloc, names, table, body.under) {
+    match read_lines(reader.alloc, reader.names, table, body.under) {
         Ok(derivation) => Ok(Next {
             section: Section {
                 heading,
@@ -80,28 +86,27 @@ fn read_under<'a>(
 /// The section at the front of a text, before which `before` lines stand. It is `LinesErr::Syntax` if and only if no section stands there,
 /// with the number of the first line that does not fit.
 fn next_section<'a>(
-    alloc: Global,
-    names: &Lexicon,
+    reader: &Reader<'_>,
     table: &mut ParamTable,
     before: u32,
     text: &'a [u8],
 ) -> Result<Next<'a>, LinesErr>
-    requires names { TellsApart names.now }
     requires short { length text.now ≤ 1048576 }
     requires before { before ≤ 1048576 }
     ensures extends { Extends table.old table.new }
-    ensures section { IfOk result (λ n. IsSectionOver names.now table.new n.section) }
-    ensures front { IfOk result (λ n.
-        IsFront names.now (lines text.now) (section_of table.new n.section) (lines n.rest.now)) }
+    ensures section { IfOk result (λ n. IsSectionOver reader.now.names.now table.new n.section) }
+    ensures front { IfOk result (λ n. IsFront reader.now.names.now (lines text.now)
+        (section_of table.new n.section) (lines n.rest.now)) }
     ensures less { IfOk result (λ n. length n.rest.now ≤ length text.now) }
     ensures misfit { (n : ℕ) → result ≡ Err (Syntax n)
-        → (k : ℕ) × IsNoSection names.now (lines text.now) k × (n ≡ before + (k + 1)) }
+        → (k : ℕ) × IsNoSection reader.now.names.now (lines text.now) k
+        × (n ≡ before + (k + 1)) }
 {
     match first_line(text) {
         None => Err(LinesErr::Syntax { line: before + 1 }),
         Some(first) => {
             if is_heading(first.line) {
-                read_under(alloc, names, table, before, first.line, first.rest)
+                read_under(reader, table, before, first.line, first.rest)
             } else {
                 Err(LinesErr::Syntax { line: before + 1 })
             }
@@ -129,11 +134,12 @@ pub(crate) fn read_sections<'a>(
     ensures misfit { (n : ℕ) → result ≡ Err (Syntax n)
         → IsFirstMisfit names.now count (lines text.now) n }
 {
+    let reader = Reader { alloc, names };
     let mut sections: Vec<Section<'a>> = Vec::new(alloc);
     let mut before: u32 = 0;
     let mut rest = text;
     while sections.len() < count {
-        let next = next_section(alloc, names, table, before, rest)?;
+        let next = next_section(&reader, table, before, rest)?;
         before += next.section.derivation.len() as u32 + 1;
         rest = next.rest;
         sections.push(next.section)?;

@@ -1,18 +1,18 @@
 // The second part of an input, read and judged.
 #![tactic(auto, using(swreq_symbols::proofs::OfTexts::text_over))]
 
-ghost use Rattle.std.specs.{Prelude.{◌≡◌, ◌≤◌, ℕ, OnErr, OnOk, length, map}, List.{AllByRecursion}};
+ghost use Rattle.std.specs.Prelude.{◌≡◌, ◌≤◌, ℕ, OnErr, OnOk, length};
 ghost use Rattle.swreq_lines.specs.declared.lines.LinesErr.TheVariants.{Syntax};
 ghost use Rattle.swreq_world.specs.swreq_param.Tables.{Extends};
 ghost use Rattle.swreq_text.specs.Lines.{lines};
 ghost use Rattle.swreq_lines.specs.swreq_print.Reading.{TellsApart};
 ghost use Rattle.swreq_symbols.specs.{Known.{IsTextOver}, Texts.{world_of}};
 ghost use Rattle.swreq_world.specs.ByTable.{world_by};
-ghost use Rattle.swreq_verify.specs.{Laying.{IsSectionOver, section_of}, Outputs.{AppendsJudgements, AppendsOutput}, SecondParts.{IsFirstMisfit}};
+ghost use Rattle.swreq_verify.specs.{Claims.{sections_of}, Outputs.{AppendsJudgements, AppendsOutput}, SecondParts.{IsFirstMisfit}};
 
-use crate::judging::judgements;
+use crate::judging::{Laid, judgements};
 use crate::printing::put_lines;
-use crate::reading::{Section, read_sections};
+use crate::reading::read_sections;
 use std::alloc::{AllocError, Global};
 use swreq_lines::LinesErr;
 use swreq_symbols::Text;
@@ -23,19 +23,14 @@ use swreq_world::param::ParamTable;
 /// Appends a line for the section under each query.
 fn append_judgements(
     alloc: Global,
-    text: &Text<'_>,
-    sections: &[Section],
+    laid: &Laid<'_, '_>,
     out: &mut Vec<u8>,
 ) -> Result<(), AllocError>
-    requires count { length sections.now ≡ length text.now.world.now.queries }
-    requires each { AllByRecursion (IsSectionOver text.now.world.now.lexicon text.now.table.now)
-        sections.now }
-    ensures ok { OnOk result
-        (AppendsJudgements (world_of text.now)
-        (map (section_of text.now.table.now) sections.now) out.old.items out.new.items) }
+    ensures ok { OnOk result (AppendsJudgements (world_of laid.now.text) (sections_of laid.now)
+        out.old.items out.new.items) }
     ensures err { OnErr result (out.new.items ≡ out.old.items) }
 {
-    let found = judgements(alloc, text, sections)?;
+    let found = judgements(alloc, laid)?;
     let mut lines = Vec::new(alloc);
     put_lines(&found, &mut lines)?;
     append_bytes(out, &lines)
@@ -65,6 +60,11 @@ pub fn verify(
 {
     let count = world.queries().len();
     let sections = read_sections(alloc, world.lexicon(), table, count, text)?;
-    append_judgements(alloc, &Text { world, table }, &sections, out)?;
+    let text = Text { world, table };
+    let laid = Laid {
+        text,
+        sections: &sections,
+    };
+    append_judgements(alloc, &laid, out)?;
     Ok(())
 }

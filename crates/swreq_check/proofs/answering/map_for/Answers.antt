@@ -18,23 +18,23 @@ map_is s m rules protocols e n (Err x) p r = tt
 
 pub over-requires : goal.over-requires
 over-requires c =
-    let s = c.args.s.now in
+    let s = c.args.own.now.s.now in
     let base = last_rules s.protocols.now.rounds in
     let rules = c.rules-rules.result.now in
     let count : c.count-count.result ≡ length base = c.count-count.ensures.count ∙ ap length c.rules.ensures in
     let front : take c.count-count.result rules ≡ base =
-    ap (λ n. take n rules) count ∙ ap (take (length base)) c.rules-rules.ensures ∙ last_begins c.requires.machine.rounds in
+    ap (λ n. take n rules) count ∙ ap (take (length base)) c.rules-rules.ensures ∙ last_begins c.requires.1.machine.rounds in
     record {
       below = subst₂ (λ n rs. AreEndingsOf n rs c.in-Some.endings) (sym c.protocols-protocols.ensures) (sym front)
-          (subst (HaveEndings s.world.now s.protocols.now) c.in-Some.is c.requires.ready.endings);
+          (subst (HaveEndings s.world.now s.protocols.now) c.in-Some.is c.requires.1.ready.endings);
     }
 
 pub returns-in-None : goal.returns-in-None
 returns-in-None c =
-    map_is c.args.s.now c.args.own.now.machine.now c.rules-rules.result.now c.protocols-protocols.result c.rules-rules.ensures
+    map_is c.args.own.now.s.now c.args.own.now.machine.now c.rules-rules.result.now c.protocols-protocols.result c.rules-rules.ensures
     c.protocols-protocols.ensures c.build.result c.build.ensures.protocols c.build.ensures.map
 
 pub returns-in-Some : goal.returns-in-Some
 returns-in-Some c =
-    map_is c.args.s.now c.args.own.now.machine.now c.rules-rules.result.now c.protocols-protocols.result c.rules-rules.ensures
+    map_is c.args.own.now.s.now c.args.own.now.machine.now c.rules-rules.result.now c.protocols-protocols.result c.rules-rules.ensures
     c.protocols-protocols.ensures c.over.result c.over.ensures.protocols c.over.ensures.map

@@ -11,7 +11,7 @@ use Rattle.swreq_verify.proofs.Judged.{derivation_from, ends}
 use Rattle.swreq_check.proofs.answering.put_derivation.Goals as goal
 
 pub explain_by-requires-clause-yes : goal.explain_by-requires-clause-yes
-explain_by-requires-clause-yes c = (c.args.f, c.requires.history, c.requires.yes)
+explain_by-requires-clause-yes c = (c.args.own.now.f, c.requires.history, c.requires.yes)
 
 pub lines_text-requires : goal.lines_text-requires
 lines_text-requires c = λ l h. rw c.lexicon.ensures (c.in_ok-lines.ensures.ids l (rw c.deref.ensures.value at h))
@@ -20,8 +20,8 @@ pub returns-clause-backing : goal.returns-clause-backing
 returns-clause-backing c =
     let old = c.args.table.now in
     let new = c.explain_by.new.table in
-    let w = c.args.s.now.world.now in
-    let f = c.args.f in
+    let w = c.args.own.now.s.now.world.now in
+    let f = c.args.own.now.f in
     let r = c.args.r in
     let ls = c.in_ok-lines.lines.items in
     let (front, end, split, states) = c.in_ok-lines.ensures.last in

@@ -18,9 +18,9 @@ returns c =
     let w = world_of terms c.args.p.now in
     let calls = c.args.calls.now in
     let n = length c.args.p.now.world.now.signatures in
-    let lines = c.deref-2.result.now in
+    let lines = c.deref.result.now in
     let made : AreCallLines w terms calls n lines
-    = subst (AreCallLines w terms calls n) (sym c.deref-2.ensures.value) c.in_ok-lines.ensures in
+    = subst (AreCallLines w terms calls n) (sym c.deref.ensures.value) c.in_ok-lines.ensures in
     let there : (k : ℕ) (d : TermCall) → slice_get (map (call_by terms) calls) k ≡ Some d → IsLineOf w d (text_at lines k)
     = λ k d e.
     (let (call, at, same) = get_of_map (call_by terms) calls k d e in

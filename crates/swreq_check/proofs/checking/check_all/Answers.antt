@@ -12,6 +12,9 @@ pub loop-k-init : goal.loop-k-init
 loop-k-init g c =
     (([], all, grew_none (g.W.Watch.told c.args.watch.now)), c.requires.pieces, c.requires.ready, tt, unchanged c.args.table.now)
 
+pub invariant_of-turn : goal.invariant_of-turn
+invariant_of-turn g c = record { in_text = omega (arith, c.functions-k-end.ensures, c.loop-k-test.true) }
+
 pub returns-in_err-kept-clause-check : goal.returns-in_err-kept-clause-check
 returns-in_err-kept-clause-check g c =
     let s = c.args.s.now in

@@ -1,4 +1,4 @@
-use Rattle.std.proofs.Common.{◌≡◌, ℕ, Bool, ◌∷◌, ◌++◌, [], List, Option, length, arith, ap, append-nil, length-append, inl, inr, refl, rules, subst, sym}
+use Rattle.std.proofs.Common.{◌≡◌, ℕ, Bool, ◌∷◌, ◌++◌, [], List, Option, length, arith, ap, append-nil, length-append, inl, inr, refl, rules, subst}
 use Rattle.swreq_machine.specs.swreq_complete.declared.limit.Failed.{Failed}
 use Rattle.swreq_machine.specs.swreq_complete.declared.limit.Failed.TheVariants.{Memory}
 use Rattle.swreq_machine.specs.swreq_complete.declared.limit.Limits.{Limits}
@@ -6,17 +6,17 @@ use Rattle.swreq_machine.specs.swreq_lowering.declared.ids.FuncId.{FuncId}
 use Rattle.swreq_machine.proofs.swreq_lemmas.Elements.{get_cases}
 use Rattle.swreq_births.proofs.swreq_param.Growing.{onward, unchanged}
 use Rattle.swreq_machine.specs.swreq_rule.declared.rules.Rule.{Rule}
-use Rattle.swreq_machine.proofs.swreq_symbols.Growing.{text_stays, world_stays}
+use Rattle.swreq_machine.proofs.swreq_symbols.Growing.{world_stays}
 use Rattle.swreq_machine.specs.swreq_watch.declared.events.Event.{Event}
 use Rattle.swreq_births.proofs.swreq_watch.Told.{grew_none}
 use Rattle.swreq_machine.specs.swreq_world.Worlds.{TextWorld, signature_at}
 use Rattle.swreq_check.specs.declared.content.Content.{Content}
-use Rattle.swreq_check.specs.Checks.{HavePassed}
 use Rattle.swreq_check.specs.Made.{AreLinesKept, IsLineKept}
-use Rattle.swreq_check.specs.Told.{FailsAt, MinimisingAllTells, MinimisingEndsIn, TellsOne}
+use Rattle.swreq_check.specs.Told.{FailsAt, MinimisingAllTells, MinimisingEndsIn, Tells, TellsOne}
 use Rattle.swreq_check.specs.Told.MinimisingAllTells.{nothing, one_more}
-use Rattle.swreq_check.specs.Listing.{rules_of, wants}
-use Rattle.swreq_check.proofs.OfChecks.{Tells, err_is, told_on}
+use Rattle.swreq_check.specs.Listing.{wants}
+use Rattle.swreq_check.proofs.OfChecks.{err_is, told_on}
+use Rattle.swreq_check.proofs.Settled.{passed_on}
 use Rattle.swreq_check.proofs.minimising.minimised_lines.Goals as goal
 
 -- ---- what is told, and what is kept
@@ -56,8 +56,7 @@ kept_more w wants lists k entry l before one i e h = elim (get_cases lists entry
 pub loop-k-init : goal.loop-k-init
 loop-k-init g c = (
   unchanged c.args.table.now,
-  c.requires.text,
-  c.requires.lists,
+  c.requires,
   ([], nothing, grew_none (g.W.Watch.told c.args.watch.now)),
   rw c.new-all.ensures.items (λ k entry is. (cc)),
   ap length c.new-all.ensures.items,
@@ -65,29 +64,27 @@ loop-k-init g c = (
 
 pub returns-in_err-entry-clause-failed : goal.returns-in_err-entry-clause-failed
 returns-in_err-entry-clause-failed g c =
-    let stays = world_stays c.args.table.now c.loop-k.table c.loop-k.invariant.0 c.args.l.now.world.now c.requires.text.table in
+    let stays = world_stays c.args.table.now c.loop-k.table c.loop-k.invariant.0 c.args.l.now.passed.world.now c.requires.text.table in
     rw (err_is c.from_residual.result _ c.from_residual.ensures.1)
-    (failed_at _ _ _ stays _ _ (record { place = c.loop-k.k }) _ _ _ c.loop-k.invariant.3 c.in_err-entry.field-0.0
+    (failed_at _ _ _ stays _ _ (record { place = c.loop-k.k }) _ _ _ c.loop-k.invariant.2 c.in_err-entry.field-0.0
     c.in_err-entry.ensures.failed)
 
 pub returns-in_err-map_err-clause-failed : goal.returns-in_err-map_err-clause-failed
 returns-in_err-map_err-clause-failed g c =
     let lost : c.in_err-map_err.field-0.0 ≡ Memory = search rules in
-    let stays = world_stays c.args.table.now c.loop-k.table c.loop-k.invariant.0 c.args.l.now.world.now c.requires.text.table in
-    let told = told_more _ _ _ stays _ _ (record { place = c.loop-k.k }) _ _ _ c.loop-k.invariant.3 c.in_ok-entry.ensures.told in
+    let stays = world_stays c.args.table.now c.loop-k.table c.loop-k.invariant.0 c.args.l.now.passed.world.now c.requires.text.table in
+    let told = told_more _ _ _ stays _ _ (record { place = c.loop-k.k }) _ _ _ c.loop-k.invariant.2 c.in_ok-entry.ensures.told in
     rw (err_is c.from_residual-in_err-map_err.result _ c.from_residual-in_err-map_err.ensures.1, lost) (told.0, inl told.1, told.2)
 
 pub loop-k-preserved : goal.loop-k-preserved
 loop-k-preserved g c =
     let l = c.args.l.now in
-    let (more, text, ready, told, kept, count) = c.loop-k.invariant in
+    let (more, passed, told, kept, count) = c.loop-k.invariant in
     let onwards = c.line_if_wanted.ensures.extends in
-    let stays = world_stays c.args.table.now c.loop-k.table more l.world.now c.requires.text.table in
-    let now = sym (world_stays c.loop-k.table c.line_if_wanted.new.table onwards l.world.now text.table) in
+    let stays = world_stays c.args.table.now c.loop-k.table more l.passed.world.now c.requires.text.table in
     let longer : c.push.new.self.items ≡ c.loop-k.all.items ++ c.in_ok-entry.entry ∷ [] = search rules in (
       onward c.args.table.now c.loop-k.table c.line_if_wanted.new.table more onwards,
-      text_stays c.loop-k.table c.line_if_wanted.new.table onwards l.world.now text,
-      record { passed = subst (λ w. HavePassed l.limits w (rules_of l)) now ready.passed; wanted = ready.wanted },
+      passed_on c.loop-k.table c.line_if_wanted.new.table onwards l.passed passed,
       told_more _ _ _ stays _ _ (record { place = c.loop-k.k }) _ _ _ told c.in_ok-entry.ensures.told,
       rw longer (kept_more _ _ _ _ _ count kept
           (subst (λ w. IsLineKept w (wants l) (record { place = c.loop-k.k }) c.in_ok-entry.entry) stays c.in_ok-entry.ensures.line)),

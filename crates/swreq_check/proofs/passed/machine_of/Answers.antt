@@ -7,6 +7,9 @@ use Rattle.swreq_check.specs.Passed.{rules_of, world_of}
 use Rattle.swreq_check.proofs.OfChecks.{only_memory}
 use Rattle.swreq_check.proofs.passed.machine_of.Goals as goal
 
+pub invariant_of-checked : goal.invariant_of-checked
+invariant_of-checked c = c.requires.passed.passed.rules_are
+
 pub want_of_memory-requires : goal.want_of_memory-requires
 want_of_memory-requires c =
     let w = world_of c.args.table.now c.args.p.now in

@@ -1,44 +1,53 @@
-use Rattle.std.proofs.Common.{Err, subst}
+use Rattle.std.proofs.Common.{◌∙◌, Err, ap, subst, sym}
+use Rattle.swreq_valid.proofs.swreq_symbols.Growing.{world_stays}
 use Rattle.swreq_valid.specs.swreq_complete.declared.limit.Limits.{Limits}
-use Rattle.swreq_valid.proofs.swreq_symbols.Growing.{text_stays, world_stays}
 use Rattle.swreq_valid.specs.swreq_world.ByTable.{world_by}
 use Rattle.swreq_check.specs.Checks.{Checks}
-use Rattle.swreq_reply.specs.Requests.{line_of, parts_of}
-use Rattle.swreq_check.proofs.Flags.{query_in}
+use Rattle.swreq_reply.specs.Replies.{Replies}
+use Rattle.swreq_reply.specs.Requests.{IsRequest, RequestView, limits_in}
+use Rattle.swreq_reply.specs.Stages.{IsAccepted, ResolvedView, accepted_by, resolved_by, world_in}
+use Rattle.swreq_reply.specs.Verdict.{ChecksMachines}
+use Rattle.swreq_reply.proofs.Staged.{is_resolved, now_accepted}
 use Rattle.swreq_reply.proofs.Verdicts.{replies_checked, replies_refused}
 use Rattle.swreq_reply.proofs.finishing.checked.Goals as goal
 
-pub places-requires-clause-queries : goal.places-requires-clause-queries
-places-requires-clause-queries g c q member = (query_in c.args.world.now c.args.table.now c.requires.text q member).0
+pub invariant_of-text : goal.invariant_of-text
+invariant_of-text g c = record { belong = ∣ c.resolved.invariant.text ∣₁ }
 
-pub check-requires-clause-asked : goal.check-requires-clause-asked
-check-requires-clause-asked g c = record {
-  places = rw c.deref.ensures.value c.in_ok-places.ensures;
-}
+pub invariant_of-asked : goal.invariant_of-asked
+invariant_of-asked g c = record { placed = ∣ rw c.deref.ensures.value c.in_ok-places.ensures ∣₁ }
 
-pub finish-requires-clause-world : goal.finish-requires-clause-world
-finish-requires-clause-world g c =
-    rw (world_stays c.args.table.now c.check.new.table c.in-Ok.ensures.extends c.args.world.now c.requires.text.table) c.requires.world
+pub check-requires : goal.check-requires
+check-requires g c = c.resolved.invariant.text
 
-pub finish-requires-clause-text : goal.finish-requires-clause-text
-finish-requires-clause-text g c = text_stays c.args.table.now c.check.new.table c.in-Ok.ensures.extends c.args.world.now c.requires.text
+pub invariant_of-accepted : goal.invariant_of-accepted
+invariant_of-accepted g c =
+    subst (λ (r : RequestView). IsAccepted (accepted_by r c.resolved.inside.world.now c.check.new.table c.in-Ok.checked)) c.r.view_is
+    (now_accepted c.in-Ok.ensures.extends (is_resolved c.r.view_is c.resolved.invariant)
+    (rw (c.content_of-content.ensures, c.limits_of.ensures) at c.in-Ok.ensures.checked))
 
-pub finish-requires-clause-checked : goal.finish-requires-clause-checked
-finish-requires-clause-checked g c =
-    rw (world_stays c.args.table.now c.check.new.table c.in-Ok.ensures.extends c.args.world.now c.requires.text.table)
-    (rw (c.content_of-content.ensures, c.limits_of.ensures) at c.in-Ok.ensures.checked)
+pub finish-requires : goal.finish-requires
+finish-requires g c = subst (λ (a : ResolvedView). ChecksMachines a.request.line) (sym c.resolved.view_is) c.requires
 
 pub returns-in-Ok : goal.returns-in-Ok
 returns-in-Ok g c =
-    replies_checked (line_of c.args.r.now) (parts_of c.args.r.now).input (world_by c.args.table.now c.args.world.now) c.in-Ok.checked
-    (g.W.Watch.told c.args.watch.now) (g.W.Watch.told c.check.new.watch) (g.W.Watch.told c.finish.new.watch) c.finish.result
-    (rw c.limits_of.ensures at c.in-Ok.ensures.check)
-    (rw (world_stays c.args.table.now c.check.new.table c.in-Ok.ensures.extends c.args.world.now c.requires.text.table) at c.finish.ensures)
+    let r = c.resolved.inside.request.now in
+    let old = g.W.Watch.told c.args.watch.now in
+    let new = g.W.Watch.told c.finish.new.watch in
+    subst (λ (a : ResolvedView). Replies a.request.line a.request.parts.input old new c.finish.result) c.resolved.view_is
+    (replies_checked r.line r.parts.input (world_in (resolved_by r c.resolved.inside.world.now c.resolved.inside.table)) c.in-Ok.checked
+    old (g.W.Watch.told c.check.new.watch) new c.finish.result
+    (rw (c.limits_of.ensures ∙ ap limits_in c.r.view_is) at c.in-Ok.ensures.check)
+    (rw (world_stays c.resolved.inside.table c.check.new.table c.in-Ok.ensures.extends c.resolved.inside.world.now
+    c.resolved.invariant.text.table) at c.finish.ensures))
 
-pub returns : goal.returns
-returns g c =
-    replies_refused c.requires.request c.requires.world c.requires.checks (g.W.Watch.told c.args.watch.now)
-    (g.W.Watch.told c.check.new.watch)
+pub returns-in-Err : goal.returns-in-Err
+returns-in-Err g c =
+    let old = g.W.Watch.told c.args.watch.now in
+    let new = g.W.Watch.told c.check.new.watch in
+    subst (λ (a : ResolvedView). Replies a.request.line a.request.parts.input old new c.unchecked.result) c.resolved.view_is
+    (replies_refused (subst IsRequest c.r.view_is c.r.invariant) c.resolved.invariant.world
+    (subst (λ (a : ResolvedView). ChecksMachines a.request.line) (sym c.resolved.view_is) c.requires) old new
     c.in-Err.e c.unchecked.result
-    (subst (λ (limits : Limits). Checks limits (world_by c.args.table.now c.args.world.now) (g.W.Watch.told c.args.watch.now)
-    (g.W.Watch.told c.check.new.watch) (Err c.in-Err.e)) c.limits_of.ensures c.in-Err.ensures.check) c.unchecked.ensures
+    (subst (λ (limits : Limits). Checks limits (world_by c.resolved.inside.table c.resolved.inside.world.now) old new (Err c.in-Err.e))
+    (c.limits_of.ensures ∙ ap limits_in c.r.view_is) c.in-Err.ensures.check) c.unchecked.ensures)

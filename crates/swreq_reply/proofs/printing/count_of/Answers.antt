@@ -1,13 +1,13 @@
-use Rattle.std.proofs.Common.{◌+◌, ◌<◌, List, ap, arith, length, subst, sym, take, true}
+use Rattle.std.proofs.Common.{◌+◌, ◌<◌, List, arith, length, subst, sym, take, true}
 use Rattle.std.proofs.lemmas.Bool.Decides.{not_from_Decides}
-use Rattle.std.proofs.lemmas.List.{length-map, take_all}
-use Rattle.swreq_print.specs.swreq_lowering.ByTable.{query_by}
+use Rattle.std.proofs.lemmas.List.{take_all}
 use Rattle.swreq_print.specs.swreq_lowering.Queries.{TermQuery}
 use Rattle.swreq_query.specs.Asked.{answer_of}
 use Rattle.swreq_check.specs.Lines.{Counted}
 use Rattle.swreq_check.specs.Lines.Counted.{nothing}
 use Rattle.swreq_check.specs.QueryLines.{HasAnswer}
-use Rattle.swreq_reply.specs.Pieces.{world_of}
+use Rattle.swreq_valid.specs.swreq_symbols.Texts.{world_of}
+use Rattle.swreq_reply.proofs.Printed.{queries_counted}
 use Rattle.swreq_reply.proofs.Counted.{no_more, one_more}
 use Rattle.swreq_reply.proofs.printing.count_of.Goals as goal
 use Rattle.swreq_reply.proofs.printing.count_of.Goals.{else-has_verdict, then-has_verdict}
@@ -18,10 +18,10 @@ loop-k-init c = (nothing, omega arith)
 pub loop-k-preserved : goal.loop-k-preserved
 loop-k-preserved c =
     let m = c.args.m.now in
-    let Has = HasAnswer (world_of m) true (answer_of c.args.verdict) in
-    let qs = (world_of m).queries in
+    let Has = HasAnswer (world_of m.text) true (answer_of c.args.verdict) in
+    let qs = (world_of m.text).queries in
     let below : c.loop-k.k < length qs =
-    omega (arith, length-map m.world.now.queries (query_by m.table.now), ap length c.queries-k-end.ensures, c.loop-k-test.true) in
+    omega (arith, queries_counted _ _ c.m.view_is _ c.queries-k-end.ensures, c.loop-k-test.true) in
     elim c.if-has_verdict.branch [
       | then-has_verdict w ↦ (
         subst (Counted Has (take (c.loop-k.k + 1) qs)) (sym w.count-is)
@@ -39,7 +39,7 @@ loop-k-preserved c =
 pub returns : goal.returns
 returns c =
     let m = c.args.m.now in
-    subst (λ (qs : List TermQuery). Counted (HasAnswer (world_of m) true (answer_of c.args.verdict)) qs c.loop-k.count)
-    (take_all c.loop-k.k (world_of m).queries
-    (omega (arith, length-map m.world.now.queries (query_by m.table.now), ap length c.queries-k-end.ensures, c.loop-k-test.false)))
+    subst (λ (qs : List TermQuery). Counted (HasAnswer (world_of m.text) true (answer_of c.args.verdict)) qs c.loop-k.count)
+    (take_all c.loop-k.k (world_of m.text).queries
+    (omega (arith, queries_counted _ _ c.m.view_is _ c.queries-k-end.ensures, c.loop-k-test.false)))
     c.loop-k.invariant.0

@@ -1,6 +1,22 @@
 use Rattle.std.proofs.Common.{◌∙◌, ◌++◌, ◌∷◌, [], List, ap, append-nil, refl, sym, ℕ}
+use Rattle.swreq_check.specs.Contents.{backing_of, makes}
 use Rattle.swreq_reply.specs.Outputs.{sizes_text, verdicts_text}
 use Rattle.swreq_reply.proofs.printing.counts.Goals as goal
+
+pub count_of-yes_count-requires : goal.count_of-yes_count-requires
+count_of-yes_count-requires c = ap makes c.requires
+
+pub count_of-no_count-requires : goal.count_of-no_count-requires
+count_of-no_count-requires c = ap makes c.requires
+
+pub count_of-invalid_count-requires : goal.count_of-invalid_count-requires
+count_of-invalid_count-requires c = ap makes c.requires
+
+pub last_answer-requires-clause-answers : goal.last_answer-requires-clause-answers
+last_answer-requires-clause-answers c = ap makes c.requires
+
+pub last_answer-requires-clause-plain : goal.last_answer-requires-clause-plain
+last_answer-requires-clause-plain c = ap backing_of c.requires
 
 pub returns : goal.returns
 returns c =

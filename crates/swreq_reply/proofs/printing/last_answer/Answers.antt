@@ -1,14 +1,14 @@
-use Rattle.std.proofs.Common.{◌≡◌, ◌≢◌, ◌-◌, ◌∙◌, List, [], ◌∷◌, ap, arith, get_or, length, refl, subst, suc, sym, true, zero, ℕ}
-use Rattle.std.proofs.lemmas.List.{length-map}
-use Rattle.swreq_print.specs.swreq_lowering.ByTable.{query_by}
+use Rattle.std.proofs.Common.{◌≡◌, ◌≢◌, ◌-◌, List, [], ◌∷◌, arith, get_or, length, refl, subst, suc, true, zero, ℕ}
 use Rattle.swreq_print.specs.swreq_lowering.Queries.{TermQuery}
 use Rattle.swreq_print.specs.Names.{Text}
 use Rattle.swreq_valid.specs.swreq_world.Worlds.{TextWorld}
 use Rattle.swreq_reply.specs.Outputs.{AnswersLast}
 use Rattle.swreq_check.specs.QueryLines.{IsLineOf}
-use Rattle.swreq_reply.specs.Pieces.{query_at, world_of}
+use Rattle.swreq_valid.specs.swreq_symbols.Texts.{world_of}
+use Rattle.swreq_reply.specs.Pieces.{query_at}
 use Rattle.swreq_check.specs.declared.content.Backing.{Backing}
 use Rattle.swreq_check.specs.declared.content.Backing.TheVariants.{Nothing}
+use Rattle.swreq_reply.proofs.Printed.{queries_counted}
 use Rattle.swreq_reply.proofs.printing.last_answer.Goals as goal
 
 -- the line of the query at the last place answers the last query
@@ -28,17 +28,17 @@ none_asked w (q ∷ qs) e = absurd (omega (arith, e))
 pub returns-then-count-eq0 : goal.returns-then-count-eq0
 returns-then-count-eq0 c =
     let m = c.args.m.now in
-    none_asked (world_of m) (world_of m).queries
-    (omega (arith, length-map m.world.now.queries (query_by m.table.now), ap length c.queries-count.ensures, c.if-count-eq0.true))
+    none_asked (world_of m.text) (world_of m.text).queries
+    (omega (arith, queries_counted _ _ c.m.view_is _ c.queries-count.ensures, c.if-count-eq0.true))
 
 pub returns : goal.returns
 returns c =
     let m = c.args.m.now in
     let count = length c.queries-count.result.now in
-    at_end (world_of m) (world_of m).queries _ c.answer_at.result.now (count - 1)
-    (some count (world_of m).queries c.if-count-eq0.false
-    (ap length c.queries-count.ensures ∙ sym (length-map m.world.now.queries (query_by m.table.now))))
-    (subst (λ (b : Backing). IsLineOf (world_of m) true b (query_at m (count - 1)) c.answer_at.result.now)
+    at_end (world_of m.text) (world_of m.text).queries _ c.answer_at.result.now (count - 1)
+    (some count (world_of m.text).queries c.if-count-eq0.false
+    (queries_counted _ _ c.m.view_is _ c.queries-count.ensures))
+    (subst (λ (b : Backing). IsLineOf (world_of m.text) true b (query_at m (count - 1)) c.answer_at.result.now)
     c.requires.plain c.answer_at.ensures)
   where
     some : (n : ℕ) (qs : List TermQuery) → n ≢ 0 → n ≡ length qs → suc (n - 1) ≡ length qs

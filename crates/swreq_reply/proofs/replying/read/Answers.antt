@@ -3,7 +3,7 @@ use Rattle.std.proofs.lemmas.Result.{IfOk-weaker}
 use Rattle.swreq_reply.specs.Requests.{view_of}
 use Rattle.swreq_reply.specs.Verdict.IsRefused.{in_one_part, too_long}
 use Rattle.swreq_reply.specs.Verdict.IsVerdict.{refused as is_refused}
-use Rattle.swreq_reply.proofs.OneRefusal.{long_refused, second_within, undivided_refused}
+use Rattle.swreq_reply.proofs.OneRefusal.{long_refused, undivided_refused}
 use Rattle.swreq_reply.proofs.Verdicts.{replied, replies_alone}
 use Rattle.swreq_reply.proofs.replying.read.Goals as goal
 
@@ -27,24 +27,17 @@ returns-in-None g c =
           (λ answer is. is ∙ sym (undivided_refused c.args.line.now _ two none within r)) c.refused-in-None.ensures;
     }
 
-pub second_at-requires : goal.second_at-requires
-second_at-requires g c =
-    let within : length c.args.input.now ≤ 1048576 = omega (arith, c.if-input-gt-TEXT_LIMIT.false) in
-    let some = c.in-Some.ensures in
-    record { input = rw some.input within; second = second_within (record { whole = some.input; within = within; divided = some.parts }) }
-
-pub one_verdict-requires : goal.one_verdict-requires
-one_verdict-requires g c = rw c.second_at.ensures (rw c.in-Some.ensures.input (omega arith))
-
-pub with_source-requires : goal.with_source-requires
-with_source-requires g c = record {
+pub invariant_of-request : goal.invariant_of-request
+invariant_of-request g c = record {
   parts = record {
     whole = refl;
     within = rw c.in-Some.ensures.input (omega (arith, c.if-input-gt-TEXT_LIMIT.false));
     divided = c.in-Some.ensures.parts;
   };
-  count = c.requires.count;
 }
+
+pub one_verdict-requires : goal.one_verdict-requires
+one_verdict-requires g c = rw c.second_at.ensures (rw c.in-Some.ensures.input (omega arith))
 
 pub returns-in-Some : goal.returns-in-Some
 returns-in-Some g c =

@@ -3,8 +3,8 @@ use Rattle.swreq_world.specs.swreq_param.Tables.{Extends}
 use Rattle.swreq_verify.proofs.Laid.{IsLaid}
 use Rattle.swreq_verify.proofs.reading.read_sections.Given as goal
 
-abbrev pub invariant-loop-alloc : goal.invariant-loop-alloc
-invariant-loop-alloc l = Extends l.initial.table l.table × IsLaid l.names l.count l.text l.table l.sections.items l.before l.rest
+abbrev pub invariant-loop-reader : goal.invariant-loop-reader
+invariant-loop-reader l = Extends l.initial.table l.table × IsLaid l.names l.count l.text l.table l.sections.items l.before l.rest
 
-abbrev pub decreases-loop-alloc : goal.decreases-loop-alloc
-decreases-loop-alloc l = l.count - vec_len l.sections
+abbrev pub decreases-loop-reader : goal.decreases-loop-reader
+decreases-loop-reader l = l.count - vec_len l.sections

@@ -11,8 +11,8 @@ use Rattle.swreq_verify.specs.Outputs.{AreJudged, judgement_lines}
 use Rattle.swreq_verify.specs.SecondParts.{AreSections}
 use Rattle.swreq_verify.proofs.verifying.verify.Goals as goal
 
-pub invariant_of-append_judgements : goal.invariant_of-append_judgements
-invariant_of-append_judgements c = record {
+pub invariant_of-text : goal.invariant_of-text
+invariant_of-text c = record {
   belong = ∣ text_stays c.args.table.now c.read_sections.new.table c.in_ok-sections.ensures.extends c.args.world.now c.requires.text ∣₁;
 }
 
