@@ -13,7 +13,7 @@ use swreq_machine::decl::parse;
 use swreq_machine::lowering::{Asks, Query};
 use swreq_machine::param::ParamTable;
 use swreq_machine::symbols::Text;
-use swreq_machine::valid::Protocols;
+use swreq_machine::valid::{CheckedText, Protocols};
 use swreq_machine::watch::Quiet;
 use swreq_machine::world::World;
 use swreq_text::{Source, append_bytes, read_all};
@@ -41,7 +41,8 @@ fn put_answer(
         return Ok(());
     };
     let text = Text { world, table };
-    let machine = Machine::of_signature(alloc, &text, protocols, q.f, LIMITS, &mut Quiet)?;
+    let checked = CheckedText { text, protocols };
+    let machine = Machine::of_signature(alloc, &checked, q.f, LIMITS, &mut Quiet)?;
     match derivation_of(alloc, world, table, protocols, &machine, q.f, r)? {
         Some(lines) => {
             append_bytes(out, b"yes\n")?;
@@ -61,7 +62,8 @@ fn answers_over(
 ) -> Result<Vec<u8>, Failed>
     requires text { IsTextOver table.old world.now }
 {
-    let built = Protocols::build(alloc, world, table, limits, &mut Quiet)?;
+    let text = Text { world, table };
+    let built = Protocols::build(alloc, &text, limits, &mut Quiet)?;
     let protocols = &built;
     let mut out = Vec::new(alloc);
     let queries = world.queries();

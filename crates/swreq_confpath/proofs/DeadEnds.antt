@@ -2,7 +2,6 @@
 use Rattle.std.proofs.Common.{◌≡◌, ℕ, List, [], ◌∷◌, ◌++◌, sym, subst, ◌∙◌, append_assoc}
 use Rattle.std.proofs.lemmas.List.{append-nil}
 use Rattle.swreq_machine.specs.swreq_param.declared.ids.ProtoId.{ProtoId}
-use Rattle.swreq_machine.specs.swreq_param.Tables.{term_at}
 use Rattle.swreq_machine.specs.swreq_param.Terms.{Term}
 use Rattle.swreq_machine.specs.swreq_derive.Derivation.{Source, for_self}
 use Rattle.swreq_machine.specs.swreq_derive.Derivation.TermRequirement.{Equals}
@@ -23,11 +22,13 @@ use Rattle.swreq_confpath.specs.Routes.{TermPlace, AreAlike, LeadTo}
 use Rattle.swreq_confpath.specs.Routes.TermPlace.{Start, Conformance}
 use Rattle.swreq_confpath.specs.Searches.{HasParted, IsKnown, StandsFor, facts_in, list_in, params_in, sought_in, source_in, world_in}
 use Rattle.swreq_confpath.specs.Tried.{IsDeadEnd}
+use Rattle.swreq_machine.specs.swreq_symbols.Texts.{term_of}
+use Rattle.swreq_machine.proofs.swreq_symbols.OfTexts.{text_over}
 use Rattle.swreq_confpath.proofs.Spared.{no_word, stays_apart}
 
 module _ (s : Sought) where
   abbrev m : Symbols
-  m = symbols_of s.world.now.lexicon
+  m = symbols_of s.text.world.now.lexicon
 
   abbrev S : Source
   S = source_in s
@@ -72,10 +73,10 @@ module _ (s : Sought) where
   module _ (known : IsKnown s) where
     -- what is like the place that is sought has a word that the rules link to its word
     links_sought : (t : Term) (p : ProtoId) → AreAlike (facts_in s) S (Conformance t p) (sought_in s)
-        → Links rules (word_of m S t) (word_of m S (term_at s.table.now s.subject))
+        → Links rules (word_of m S t) (word_of m S (term_of s.text s.subject))
     links_sought t p like =
-        let u = term_at s.table.now s.subject in
-        (by_sides (world_in s) known.text.closed s.machine.now (list_in s) known.machine (Equals t u)
+        let u = term_of s.text s.subject in
+        (by_sides (world_in s) (text_over s.text).closed s.machine.now (list_in s) known.machine (Equals t u)
         (valid_sides (facts_in s) S (Equals t u) like.1)).0 like.1
 
     -- From a place that has parted no numbers lead on to the place that is sought.

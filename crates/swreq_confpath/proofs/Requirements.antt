@@ -6,7 +6,6 @@ use Rattle.std.proofs.lemmas.Option.{slice_get-get_or}
 use Rattle.swreq_print.proofs.swreq_lemmas.Members.{contains_of_map}
 use Rattle.swreq_machine.specs.swreq_param.declared.ids.ParamId.{ParamId}
 use Rattle.swreq_machine.specs.swreq_param.declared.ids.ProtoId.{ProtoId}
-use Rattle.swreq_machine.specs.swreq_param.Tables.{term_at}
 use Rattle.swreq_machine.specs.swreq_param.Terms.{Term}
 use Rattle.swreq_machine.specs.swreq_derive.declared.requirements.Requirement.{Requirement}
 use Rattle.swreq_machine.specs.swreq_derive.Derivation.{Derivable, Source, TermRequirement}
@@ -23,7 +22,6 @@ use Rattle.swreq_machine.specs.swreq_lowering.declared.ids.Written.{Written}
 use Rattle.swreq_machine.specs.swreq_lowering.ByTable.{placed}
 use Rattle.swreq_machine.specs.swreq_world.ByTable.{world_by}
 use Rattle.swreq_machine.specs.swreq_world.FactsAt.{source_of, written_list}
-use Rattle.swreq_machine.specs.swreq_world.Short.{IsShort}
 use Rattle.swreq_machine.specs.swreq_world.Worlds.{IdWorld, SignatureOver, no_signature, requirements_of, signature_at}
 use Rattle.swreq_machine.specs.swreq_symbols.Known.{IsRequirementIn, IsTextOver}
 use Rattle.swreq_machine.proofs.swreq_symbols.OfText.{protocol_written, requirements_placed, signature_is, signature_written}
@@ -37,6 +35,8 @@ use Rattle.swreq_confpath.specs.declared.places.Place.{Place}
 use Rattle.swreq_confpath.specs.declared.places.Place.TheVariants as places
 use Rattle.swreq_confpath.specs.declared.sought.Sought.{Sought}
 use Rattle.swreq_confpath.specs.Parting.{AllSpareOthers}
+use Rattle.swreq_machine.specs.swreq_symbols.Texts.{IsRequirementOfText, term_of}
+use Rattle.swreq_machine.proofs.swreq_symbols.OfTexts.{text_over}
 use Rattle.swreq_confpath.specs.Searches.{IsGiven, IsKnown, IsMachineFor, IsPlaceIn, facts_in, list_in, required_at, source_in, world_in}
 
 -- the number of the k-th is k + 1
@@ -78,62 +78,61 @@ module _ (terms : List Term) (w : IdWorld) where
 -- ---- of a place
 
 module _ (s : Sought) (known : IsKnown s) where
-  pub requirement_in : (from : Place) (r : Requirement) → Contains (required_at s.world.now s.list.now from) r
-      → IsRequirementIn s.table.now s.world.now.lexicon r
+  pub requirement_in : (from : Place) (r : Requirement) → Contains (required_at s.text.world.now s.list.now from) r
+      → IsRequirementOfText s.text r
   requirement_in places.Start r c = known.list r c
-  requirement_in (places.Conformance u q) r c = protocol_known s.table.now s.world.now known.text q r c
+  requirement_in (places.Conformance u q) r c = protocol_known s.text.table.now s.text.world.now (text_over s.text) q r c
 
-  pub few_at : (from : Place) → IsPlaceIn s.world.now from → length (required_at s.world.now s.list.now from) < 2 ^ 32
+  pub few_at : (from : Place) → IsPlaceIn s.text.world.now from → length (required_at s.text.world.now s.list.now from) < 2 ^ 32
   few_at places.Start h = known.few
   few_at (places.Conformance u q) h =
-      let l = protocols_few s.table.now s.world.now known.text q h in
-      let short = All-get_or (λ (rs : List Written). length rs < 2 ^ 32) s.world.now.requirements q.rank [] l known.short in
-      let e = length-map (requirements_of s.world.now q) (λ (r : Written). r.requirement) in
+      let l = protocols_few s.text.table.now s.text.world.now (text_over s.text) q h in
+      let short = All-get_or (λ (rs : List Written). length rs < 2 ^ 32) s.text.world.now.requirements q.rank [] l
+      (text_over s.text).short.protocols in
+      let e = length-map (requirements_of s.text.world.now q) (λ (r : Written). r.requirement) in
       omega arith
 
 -- ---- the search for a signature
 
-module _ (s : Sought) (f : FuncId) (text : IsTextOver s.table.now s.world.now) (short : IsShort s.world.now)
-    (of : IsMachineFor s.table.now s.world.now f s.machine.now) (list : s.list.now ≡ bare (signature_at s.world.now f).requirements) where
+module _ (s : Sought) (f : FuncId) (of : IsMachineFor s.text f s.machine.now)
+    (list : s.list.now ≡ bare (signature_at s.text.world.now f).requirements) where
   same_list : list_in s ≡ written_list (signature_at (world_in s) f)
-  same_list = signature_listed s.table.now s.world.now f s.list.now list
+  same_list = signature_listed s.text.table.now s.text.world.now f s.list.now list
 
   same_source : source_in s ≡ source_of (signature_at (world_in s) f)
   same_source = ap₂ WrittenList (ap generic_params of.params) same_list
 
   few : length s.list.now < 2 ^ 32
   few =
-      let h = All-get_or (λ (g : SignatureOver Written). length g.requirements < 2 ^ 32) s.world.now.signatures f.place no_signature
-      of.signature short.lists in
+      let h = All-get_or (λ (g : SignatureOver Written). length g.requirements < 2 ^ 32) s.text.world.now.signatures f.place no_signature
+      of.signature (text_over s.text).short.lists in
       let e = ap length list in
-      let k = length-map (signature_at s.world.now f).requirements (λ (r : Written). r.requirement) in
+      let k = length-map (signature_at s.text.world.now f).requirements (λ (r : Written). r.requirement) in
       omega arith
 
   pub known_of : IsComplete (last_rules s.machine.now.rounds) → AllSpareOthers (last_rules s.machine.now.rounds) s.changed.now
-      → Derivable (facts_in s) (source_of (signature_at (world_in s) f)) (Requires (Conforms (term_at s.table.now s.subject) s.proto))
+      → Derivable (facts_in s) (source_of (signature_at (world_in s) f)) (Requires (Conforms (term_of s.text s.subject) s.proto))
       → IsKnown s
   known_of complete others derivable = record {
-    text = text;
-    list = signature_known s.table.now s.world.now text f of.signature s.list.now list;
+    list = signature_known s.text.table.now s.text.world.now (text_over s.text) f of.signature s.list.now list;
     machine = subst (λ (z : List TermRequirement). IsMachineOf (world_in s) z s.machine.now) (sym same_list) of.machine;
     complete = complete;
     others = others;
     protocols = of.protocols;
     well_formed = subst (IsListWellFormed (facts_in s)) (sym same_source) of.list;
     few = few;
-    short = short.protocols;
-    derivable = subst (λ (z : Source). Derivable (facts_in s) z (Requires (Conforms (term_at s.table.now s.subject) s.proto)))
+    derivable = subst (λ (z : Source). Derivable (facts_in s) z (Requires (Conforms (term_of s.text s.subject) s.proto)))
         (sym same_source) derivable;
   }
 
   pub given_of : (path : ConfPath) → IsGiven s path
       → IsGivenPath (facts_in s) (generic_params (signature_at (world_in s) f).params)
       (written_list (signature_at (world_in s) f)) path.first path.steps
-      (term_at s.table.now s.subject) s.proto
+      (term_of s.text s.subject) s.proto
   given_of path h =
       subst (λ (gs : List ParamId). IsGivenPath (facts_in s) gs (written_list (signature_at (world_in s) f)) path.first path.steps
-      (term_at s.table.now s.subject) s.proto)
+      (term_of s.text s.subject) s.proto)
       (ap generic_params of.params)
       (subst (λ (rs : List TermRequirement).
-      IsGivenPath (facts_in s) (generic_params s.machine.now.params) rs path.first path.steps (term_at s.table.now s.subject) s.proto)
+      IsGivenPath (facts_in s) (generic_params s.machine.now.params) rs path.first path.steps (term_of s.text s.subject) s.proto)
       same_list h)

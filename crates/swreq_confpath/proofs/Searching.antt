@@ -1,12 +1,11 @@
 -- What the calls of the search keep.
-use Rattle.std.proofs.Common.{◌≡◌, ℕ, zero, suc, ◌-◌, ◌+◌, ◌<◌, ◌≤◌, inl, inr, List, [], ◌∷◌, ◌++◌, length, map, Option, Some, None, MatchOption, Contains, slice_get, refl, sym, ap, subst, ◌∙◌, arith}
+use Rattle.std.proofs.Common.{◌≡◌, ℕ, zero, suc, ◌-◌, ◌+◌, ◌^◌, ◌<◌, ◌≤◌, inl, inr, List, [], ◌∷◌, ◌++◌, length, map, Option, Some, None, MatchOption, Contains, slice_get, refl, sym, ap, subst, ◌∙◌, arith}
 use Rattle.std.proofs.lemmas.List.{length-map}
 use Rattle.std.proofs.lemmas.Option.{slice_get_within}
 use Rattle.swreq_print.proofs.swreq_lemmas.Elements.{contains_get, get_contains}
 use Rattle.swreq_machine.specs.swreq_param.declared.ids.ParamId.{ParamId}
 use Rattle.swreq_machine.specs.swreq_param.declared.ids.ProtoId.{ProtoId}
 use Rattle.swreq_machine.specs.swreq_param.declared.ids.TermId.{TermId}
-use Rattle.swreq_machine.specs.swreq_param.Tables.{term_at}
 use Rattle.swreq_machine.specs.swreq_param.Terms.{Term}
 use Rattle.swreq_machine.specs.swreq_derive.declared.requirements.Requirement.{Requirement}
 use Rattle.swreq_machine.specs.swreq_derive.declared.requirements.Requirement.TheVariants.{Conf, Layout, Same}
@@ -22,14 +21,16 @@ use Rattle.swreq_confpath.specs.declared.places.Place.{Place}
 use Rattle.swreq_confpath.specs.declared.places.Place.TheVariants as places
 use Rattle.swreq_confpath.specs.declared.sought.Sought.{Sought}
 use Rattle.swreq_confpath.specs.Routes.{TermPlace, AreAlike, GoesTo, gone_on, requirements_at}
-use Rattle.swreq_confpath.specs.Searches.{AreSpotsOf, HasParted, IsGiven, IsKnown, IsPlaceIn, IsSearch, IsSearchAt, StandsFor, facts_in, list_in, params_in, required_at, sought_in, source_in}
+use Rattle.swreq_confpath.specs.Searches.{AimView, AreSpotsOf, HasParted, IsAim, IsGiven, IsKnown, IsPlaceIn, IsSearch, IsSearchAt, StandsFor, facts_in, list_in, params_in, required_at, sought_in, source_in}
 use Rattle.swreq_confpath.specs.Spots.{IsKept, IsReached, Spot}
 use Rattle.swreq_confpath.specs.Tried.{AreTriedUpTo, IsDeadEnd, IsSettled, TermSpot, start}
 use Rattle.swreq_confpath.proofs.Alike.{stays_derivable}
 use Rattle.swreq_confpath.proofs.Covering.{is_given, not_ended, one_there}
 use Rattle.swreq_confpath.proofs.DeadEnds.{dead_end}
 use Rattle.swreq_confpath.proofs.Standing.{alike_by_place, place_by_alike, same_requirements}
+use Rattle.swreq_machine.specs.swreq_symbols.Texts.{term_of}
 use Rattle.swreq_confpath.proofs.Stepping.{adds, begun, done, is_known, knows, opens, passes}
+use Rattle.swreq_confpath.proofs.Requirements.{few_at}
 
 -- ---- spots
 
@@ -38,7 +39,7 @@ pub record IsSpotAt (s : Sought) (tried : List TermSpot) (k : ℕ) (x : Spot) : 
   pub at : TermSpot
   pub there : slice_get tried k ≡ Some at
   pub numbers : x.1 ≡ at.numbers
-  pub place : IsPlaceIn s.world.now x.0
+  pub place : IsPlaceIn s.text.world.now x.0
   pub stands : StandsFor s x.0 at.place
 
 pub spot_at : (s : Sought) (tried : List TermSpot) (spots : List Spot) → AreSpotsOf s tried spots → (k : ℕ) (x : Spot)
@@ -61,7 +62,7 @@ spots_length s (a ∷ bs) [] h = absurd h
 spots_length s (a ∷ bs) (y ∷ ys) h = ap suc (spots_length s bs ys h.3)
 
 spots_more : (s : Sought) (tried : List TermSpot) (spots : List Spot) (a : TermSpot) (x : Spot) → AreSpotsOf s tried spots → x.1 ≡ a.numbers
-    → IsPlaceIn s.world.now x.0 → StandsFor s x.0 a.place → AreSpotsOf s (tried ++ a ∷ []) (spots ++ x ∷ [])
+    → IsPlaceIn s.text.world.now x.0 → StandsFor s x.0 a.place → AreSpotsOf s (tried ++ a ∷ []) (spots ++ x ∷ [])
 spots_more s [] [] a x h e i k = (e, i, k, tt)
 spots_more s [] (y ∷ ys) a x h e i k = absurd h
 spots_more s (b ∷ bs) [] a x h e i k = absurd h
@@ -82,6 +83,20 @@ no_conforms terms (Conf u q) none t p e = none u q refl
 no_conforms terms (Layout u) none t p e = cc
 no_conforms terms (Same u v) none t p e = cc
 
+-- the place of one that was tried is of the text
+pub place_tried : (s : Sought) (spots : List Spot) (next : ℕ) → IsSearch s spots next → (x : Spot) → slice_get spots next ≡ Some x
+    → (from : Place) → from ≡ x.0 → IsPlaceIn s.text.world.now from
+place_tried s spots next h x there from same =
+    subst (IsPlaceIn s.text.world.now) (sym same) (spot_at s h.tried spots h.stand next x there).place
+
+-- so numbers of 32 bits count the requirements there
+pub few_tried : (a : AimView) → IsAim a → (spots : List Spot) (next : ℕ) → IsSearch a.sought spots next → (x : Spot)
+    → slice_get spots next ≡ Some x → (from : Place) → from ≡ x.0 → (list : List Requirement)
+    → list ≡ required_at a.sought.text.world.now a.sought.list.now from → length list < 2 ^ 32
+few_tried a is spots next h x there from same list e =
+    subst (λ (z : List Requirement). length z < 2 ^ 32) (sym e)
+    (few_at a.sought is.known from (place_tried a.sought spots next h x there from same))
+
 module _ (s : Sought) (known : IsKnown s) where
   abbrev F : TermFacts
   F = facts_in s
@@ -96,7 +111,7 @@ module _ (s : Sought) (known : IsKnown s) where
   S = source_in s
 
   sought_itself : AreAlike F S (sought_in s) (sought_in s)
-  sought_itself = (refl, reflex (valid_sides F S (Conforms (term_at s.table.now s.subject) s.proto) known.derivable), known.derivable)
+  sought_itself = (refl, reflex (valid_sides F S (Conforms (term_of s.text s.subject) s.proto) known.derivable), known.derivable)
 
   -- ---- from one place to the next
 
@@ -113,7 +128,7 @@ module _ (s : Sought) (known : IsKnown s) where
   ends spots next h all =
       let e = spots_length s h.tried spots h.stand in
       not_ended F G L known.protocols known.well_formed
-      (term_at s.table.now s.subject) s.proto h.tried next known.derivable h.ready.so_far (omega arith)
+      (term_of s.text s.subject) s.proto h.tried next known.derivable h.ready.so_far (omega arith)
 
   pub turned : (spots : List Spot) (next : ℕ) (x : Spot) (from : Place) → slice_get spots next ≡ Some x → from ≡ x.0 → IsSearch s spots next
       → IsSearchAt s spots next from 0
@@ -128,51 +143,51 @@ module _ (s : Sought) (known : IsKnown s) where
       }
 
   pub finished : (spots : List Spot) (next : ℕ) (from : Place) (count : ℕ) → IsSearchAt s spots next from count
-      → length (required_at s.world.now s.list.now from) ≤ count → IsSearch s spots (next + 1)
+      → length (required_at s.text.world.now s.list.now from) ≤ count → IsSearch s spots (next + 1)
   finished spots next from count h all = record {
     tried = h.tried;
     stand = h.stand;
     ready = done F G L known.protocols known.well_formed (sought_in s) h.tried next h.at count h.up_to
         (λ n d goes.
-        let rs = required_at s.world.now s.list.now from in
+        let rs = required_at s.text.world.now s.list.now from in
         let there = subst (λ z. HasNumber n z (Conforms goes.0 goes.1)) (same_requirements s from h.at.place h.stands_at) goes.2 in
-        let within = slice_get_within (map (requirement_of s.table.now) rs) (n - 1) (Conforms goes.0 goes.1) there.1 in
-        let e = length-map rs (requirement_of s.table.now) in
+        let within = slice_get_within (map (requirement_of s.text.table.now) rs) (n - 1) (Conforms goes.0 goes.1) there.1 in
+        let e = length-map rs (requirement_of s.text.table.now) in
         omega arith);
   }
 
   -- ---- one requirement more
 
   module _ (spots : List Spot) (next : ℕ) (from : Place) (count : ℕ) (h : IsSearchAt s spots next from count) where
-    numbered : (r : Requirement) → HasNumber (suc count) (required_at s.world.now s.list.now from) r
-        → HasNumber (suc count) (requirements_at F L h.at.place) (requirement_of s.table.now r)
+    numbered : (r : Requirement) → HasNumber (suc count) (required_at s.text.world.now s.list.now from) r
+        → HasNumber (suc count) (requirements_at F L h.at.place) (requirement_of s.text.table.now r)
     numbered r n =
-        subst (λ z. HasNumber (suc count) z (requirement_of s.table.now r)) (sym (same_requirements s from h.at.place h.stands_at))
-        (map_number (requirement_of s.table.now) (suc count) (required_at s.world.now s.list.now from) r n)
+        subst (λ z. HasNumber (suc count) z (requirement_of s.text.table.now r)) (sym (same_requirements s from h.at.place h.stands_at))
+        (map_number (requirement_of s.text.table.now) (suc count) (required_at s.text.world.now s.list.now from) r n)
 
     -- the spots stay, where what goes on by the requirement is settled with them
     same_spots : AreTriedUpTo F G L (sought_in s) h.tried next h.at (suc count) → IsSearchAt s spots next from (suc count)
     same_spots up_to = record { tried = h.tried; stand = h.stand; at = h.at; stands_at = h.stands_at; up_to = up_to }
 
     -- one by which one does not go on
-    passed : (r : Requirement) → HasNumber (suc count) (required_at s.world.now s.list.now from) r
+    passed : (r : Requirement) → HasNumber (suc count) (required_at s.text.world.now s.list.now from) r
         → ((t : TermId) (p : ProtoId) → r ≡ Conf t p → ⊥)
         → IsSearchAt s spots next from (suc count)
     passed r n none =
         same_spots (passes F G L known.protocols known.well_formed (sought_in s) h.tried next h.at count h.up_to
-        (λ d goes. no_conforms s.table.now r none goes.0 goes.1
-        (one_number (suc count) (requirements_at F L h.at.place) (requirement_of s.table.now r) (Conforms goes.0 goes.1)
+        (λ d goes. no_conforms s.text.table.now r none goes.0 goes.1
+        (one_number (suc count) (requirements_at F L h.at.place) (requirement_of s.text.table.now r) (Conforms goes.0 goes.1)
         (numbered r n) goes.2)))
 
     module _ (t : TermId) (p : ProtoId)
-        (n : HasNumber (suc count) (required_at s.world.now s.list.now from) (Conf t p)) (target place : Place)
-        (sought : StandsFor s target (sought_in s)) (of_text : IsPlaceIn s.world.now place)
-        (stands : StandsFor s place (gone_on h.at.place (term_at s.table.now t) p)) where
+        (n : HasNumber (suc count) (required_at s.text.world.now s.list.now from) (Conf t p)) (target place : Place)
+        (sought : StandsFor s target (sought_in s)) (of_text : IsPlaceIn s.text.world.now place)
+        (stands : StandsFor s place (gone_on h.at.place (term_of s.text t) p)) where
       abbrev d : TermPlace
-      d = gone_on h.at.place (term_at s.table.now t) p
+      d = gone_on h.at.place (term_of s.text t) p
 
       goes : GoesTo F L h.at.place (suc count) d
-      goes = (term_at s.table.now t, p, numbered (Conf t p) n, refl)
+      goes = (term_of s.text t, p, numbered (Conf t p) n, refl)
 
       at_itself : AreAlike F S h.at.place h.at.place
       at_itself = (h.up_to.so_far.leads h.at (get_contains h.tried next h.at h.up_to.is_next)).1
@@ -184,7 +199,7 @@ module _ (s : Sought) (known : IsKnown s) where
       found : (path : ConfPath) → place ≡ target → path.first ∷ path.steps ≡ h.at.numbers ++ suc count ∷ [] → IsGiven s path
       found path same numbers =
           is_given F G L known.protocols known.well_formed
-          (term_at s.table.now s.subject) s.proto h.tried next h.at count d path.first path.steps known.derivable h.up_to goes
+          (term_of s.text s.subject) s.proto h.tried next h.at count d path.first path.steps known.derivable h.up_to goes
           (alike_by_place s known target d (sought_in s) (subst (λ z. StandsFor s z d) same stands) sought itself sought_itself) numbers
 
       other : (place ≡ target → ⊥) → AreAlike F S d (sought_in s) → ⊥
@@ -260,30 +275,30 @@ module _ (s : Sought) (known : IsKnown s) where
   the_number number some = omega arith
 
   pub passed_by : (spots : List Spot) (next : ℕ) (from : Place) (number : ℕ) (r : Requirement) → IsSearchAt s spots next from (number - 1)
-      → HasNumber number (required_at s.world.now s.list.now from) r → ((t : TermId) (p : ProtoId) → r ≡ Conf t p → ⊥)
+      → HasNumber number (required_at s.text.world.now s.list.now from) r → ((t : TermId) (p : ProtoId) → r ≡ Conf t p → ⊥)
       → IsSearchAt s spots next from number
   passed_by spots next from number r h n none =
       let e = the_number number n.0 in
       subst (IsSearchAt s spots next from) e
-      (passed spots next from (number - 1) h r (subst (λ k. HasNumber k (required_at s.world.now s.list.now from) r) (sym e) n) none)
+      (passed spots next from (number - 1) h r (subst (λ k. HasNumber k (required_at s.text.world.now s.list.now from) r) (sym e) n) none)
 
   pub set_aside_by : (spots : List Spot) (next : ℕ) (from target place : Place) (number : ℕ) (t : TermId) (p : ProtoId)
-      → IsSearchAt s spots next from (number - 1) → HasNumber number (required_at s.world.now s.list.now from) (Conf t p)
-      → StandsFor s target (sought_in s) → IsPlaceIn s.world.now place
-      → ((a : TermPlace) → StandsFor s from a → StandsFor s place (gone_on a (term_at s.table.now t) p)) → HasParted s target place
+      → IsSearchAt s spots next from (number - 1) → HasNumber number (required_at s.text.world.now s.list.now from) (Conf t p)
+      → StandsFor s target (sought_in s) → IsPlaceIn s.text.world.now place
+      → ((a : TermPlace) → StandsFor s from a → StandsFor s place (gone_on a (term_of s.text t) p)) → HasParted s target place
       → IsSearchAt s spots next from number
   set_aside_by spots next from target place number t p h n sought of_text stands parted =
       let e = the_number number n.0 in
       subst (IsSearchAt s spots next from) e
       (set_aside spots next from (number - 1) h t p
-      (subst (λ k. HasNumber k (required_at s.world.now s.list.now from) (Conf t p)) (sym e) n) target place sought of_text
+      (subst (λ k. HasNumber k (required_at s.text.world.now s.list.now from) (Conf t p)) (sym e) n) target place sought of_text
       (stands h.at.place h.stands_at) parted)
 
   pub tried_by : (spots new : List Spot) (next : ℕ) (from target place : Place) (number : ℕ) (t : TermId)
       (p : ProtoId) (o : Option ConfPath)
-      → IsSearchAt s spots next from (number - 1) → HasNumber number (required_at s.world.now s.list.now from) (Conf t p)
-      → StandsFor s target (sought_in s) → IsPlaceIn s.world.now place
-      → ((a : TermPlace) → StandsFor s from a → StandsFor s place (gone_on a (term_at s.table.now t) p))
+      → IsSearchAt s spots next from (number - 1) → HasNumber number (required_at s.text.world.now s.list.now from) (Conf t p)
+      → StandsFor s target (sought_in s) → IsPlaceIn s.text.world.now place
+      → ((a : TermPlace) → StandsFor s from a → StandsFor s place (gone_on a (term_of s.text t) p))
       → (x : Spot) → slice_get spots next ≡ Some x
       → MatchOption o ((place ≡ target → ⊥) × IsKept spots new place (x.1 ++ number ∷ []))
       (λ path. (place ≡ target) × (path.first ∷ path.steps ≡ x.1 ++ number ∷ []))
@@ -292,7 +307,7 @@ module _ (s : Sought) (known : IsKnown s) where
       let e = the_number number n.0 in
       subst (λ k. MatchOption o (IsSearchAt s new next from k) (IsGiven s)) e
       (tried_place spots next from (number - 1) h t p
-      (subst (λ k. HasNumber k (required_at s.world.now s.list.now from) (Conf t p)) (sym e) n) target place sought of_text
+      (subst (λ k. HasNumber k (required_at s.text.world.now s.list.now from) (Conf t p)) (sym e) n) target place sought of_text
       (stands h.at.place h.stands_at) new x o there
       (subst (λ k. MatchOption o ((place ≡ target → ⊥) × IsKept spots new place (x.1 ++ k ∷ []))
       (λ path. (place ≡ target) × (path.first ∷ path.steps ≡ x.1 ++ k ∷ []))) (sym e) outcome))

@@ -32,6 +32,7 @@ use Rattle.swreq_confpath.specs.declared.places.Place.TheVariants as places
 use Rattle.swreq_confpath.specs.declared.sought.Sought.{Sought}
 use Rattle.swreq_confpath.specs.Routes.{TermPlace, AreAlike, gone_on, requirements_at}
 use Rattle.swreq_confpath.specs.Routes.TermPlace.{Start, Conformance}
+use Rattle.swreq_machine.proofs.swreq_symbols.OfTexts.{text_over}
 use Rattle.swreq_confpath.specs.Searches.{HasLeastWord, IsKnown, StandsFor, facts_in, list_in, required_at, source_in, world_in}
 
 -- ---- least words
@@ -59,7 +60,7 @@ module _ (s : Sought) where
   M = s.machine.now
 
   abbrev m : Symbols
-  m = symbols_of s.world.now.lexicon
+  m = symbols_of s.text.world.now.lexicon
 
   abbrev F : TermFacts
   F = facts_in s
@@ -130,26 +131,26 @@ module _ (s : Sought) where
 
   -- the requirements of the code at a place stand for those over type parameters
   pub same_requirements : (p : Place) (a : TermPlace) → StandsFor s p a
-      → requirements_at F L a ≡ map (requirement_of s.table.now) (required_at s.world.now s.list.now p)
+      → requirements_at F L a ≡ map (requirement_of s.text.table.now) (required_at s.text.world.now s.list.now p)
   same_requirements places.Start Start h = refl
   same_requirements places.Start (Conformance t q) h = absurd h
   same_requirements (places.Conformance u q) Start h = absurd h
   same_requirements (places.Conformance u q) (Conformance t r) h =
-      ap F.of_protocol (sym h.0) ∙ own_requirements s.world.now s.table.now q
+      ap F.of_protocol (sym h.0) ∙ own_requirements s.text.world.now s.text.table.now q
 
   -- ---- places that are alike
 
   module _ (known : IsKnown s) where
     one_word : (t u : Term) (a b : Word) → IsLeastWord W M t a → IsLeastWord W M u b → Derivable F S (Requires (Equals t u)) → a ≡ b
     one_word t u a b h k e =
-        let links = (by_sides W known.text.closed M L known.machine (Equals t u) (valid_sides F S (Equals t u) e)).0 e in
+        let links = (by_sides W (text_over s.text).closed M L known.machine (Equals t u) (valid_sides F S (Equals t u) e)).0 e in
         one_least rules a b h.0 k.0 (linked_on (linked_back h.1) (linked_on links k.1))
 
     equal_by_word : (t u : Term) (a : Word) → IsLeastWord W M t a → IsLeastWord W M u a → Derivable F S (IsValid t)
         → Derivable F S (IsValid u)
         → Derivable F S (Requires (Equals t u))
     equal_by_word t u a h k v w =
-        (by_sides W known.text.closed M L known.machine (Equals t u) (v, w)).1 (linked_on h.1 (linked_back k.1))
+        (by_sides W (text_over s.text).closed M L known.machine (Equals t u) (v, w)).1 (linked_on h.1 (linked_back k.1))
 
     -- Places over type parameters for which one place stands are alike,
     pub alike_by_place : (p : Place) (a b : TermPlace) → StandsFor s p a → StandsFor s p b → AreAlike F S a a

@@ -1,6 +1,7 @@
 //! Conformance paths: how a derivable conformance comes from a written one, by the fewest requirements.
 #![tactic(auto)]
 
+mod aim;
 mod given;
 pub mod laws;
 mod parting;

@@ -1,10 +1,10 @@
 //! Over what the given path is sought, and where requirements lead.
 ghost use Rattle.std.specs.Prelude.{◌≡◌, ◌++◌, [], ◌∷◌, IfOk, List};
-ghost use Rattle.swreq_machine.specs.swreq_param.{Tables.{term_at}, Terms.{Term}};
+ghost use Rattle.swreq_machine.specs.swreq_param.Terms.{Term};
 ghost use Rattle.swreq_machine.specs.swreq_derive.Derivation.{for_self};
 ghost use Rattle.swreq_machine.specs.swreq_lexicon.Views.{IsProtocol};
 ghost use Rattle.swreq_print.specs.swreq_word.declared.symbols.Symbol.{Symbol};
-ghost use Rattle.swreq_machine.specs.swreq_symbols.{Known.{IsTextOver, IsTypeIn}, Vanishing.{IsLeastBy, Links}};
+ghost use Rattle.swreq_machine.specs.swreq_symbols.{Texts.{IsTypeOfText, term_of}, Vanishing.{IsLeastBy, Links}};
 ghost use Rattle.swreq_machine.specs.Asked.{IsLeastWord};
 ghost use Rattle.swreq_machine.specs.swreq_valid.Rounds.{last_rules};
 ghost use Rattle.swreq_confpath.specs.{declared.places.Place.TheVariants.{Conformance}, Routes.{TermPlace, gone_on}, Searches.{HasLeastWord, IsPlaceIn, StandsFor, required_at, world_in}};
@@ -15,8 +15,8 @@ use swreq_machine::Machine;
 use swreq_machine::complete::CompleteRules;
 use swreq_machine::derive::Requirement;
 use swreq_machine::map::append;
-use swreq_machine::param::{ParamTable, ProtoId, TermId};
-use swreq_machine::symbols::equation;
+use swreq_machine::param::{ProtoId, TermId};
+use swreq_machine::symbols::{Text, equation};
 use swreq_machine::word::{Symbol, Word};
 use swreq_machine::world::World;
 
@@ -24,8 +24,7 @@ use swreq_machine::world::World;
 #[derive(Clone, Copy)]
 pub(crate) struct Sought<'a> {
     pub alloc: Global,
-    pub world: &'a World,
-    pub table: &'a ParamTable,
+    pub text: Text<'a>,
     pub machine: &'a Machine<'a>,
     pub list: &'a [Requirement],
     /// The symbols that rules of the machine may change in a word that is reduced up to them.
@@ -82,13 +81,12 @@ fn behind_first(word: &[Symbol]) -> &[Symbol]
 
 /// The least word of a type parameter of the signature.
 fn word_of(sought: &Sought<'_>, t: TermId) -> Result<Word, AllocError>
-    requires text { IsTextOver sought.now.table.now sought.now.world.now }
-    requires t { IsTypeIn sought.now.table.now sought.now.world.now.lexicon t }
+    requires { IsTypeOfText sought.now.text t }
     ensures { IfOk result (IsLeastWord (world_in sought.now) sought.now.machine.now
-        (term_at sought.now.table.now t)) }
+        (term_of sought.now.text t)) }
 {
     let side = Requirement::Layout { subject: t };
-    let (_, word) = equation(sought.alloc, sought.world, sought.table, None, &side)?;
+    let (_, word) = equation(sought.alloc, &sought.text, None, &side)?;
     least(sought.alloc, sought.machine.rules(), &[], word.symbols())
 }
 
@@ -99,27 +97,25 @@ fn word_behind(
     owner: ProtoId,
     t: TermId,
 ) -> Result<Word, AllocError>
-    requires text { IsTextOver sought.now.table.now sought.now.world.now }
-    requires t { IsTypeIn sought.now.table.now sought.now.world.now.lexicon t }
+    requires t { IsTypeOfText sought.now.text t }
     requires base { IsLeastBy (last_rules sought.now.machine.now.rounds) base.now }
     ensures { (u : Term) → IsLeastWord (world_in sought.now) sought.now.machine.now u base.now
         → IfOk result (IsLeastWord (world_in sought.now) sought.now.machine.now
-        (for_self u (term_at sought.now.table.now t))) }
+        (for_self u (term_of sought.now.text t))) }
 {
     let side = Requirement::Layout { subject: t };
-    let (_, word) = equation(sought.alloc, sought.world, sought.table, Some(owner), &side)?;
+    let (_, word) = equation(sought.alloc, &sought.text, Some(owner), &side)?;
     let steps = behind_first(word.symbols());
     least(sought.alloc, sought.machine.rules(), base.symbols(), steps)
 }
 
 /// The least word of the subject of a conformance to which one goes on from a place.
 fn subject_from(sought: &Sought<'_>, from: &Place, t: TermId) -> Result<Word, AllocError>
-    requires text { IsTextOver sought.now.table.now sought.now.world.now }
-    requires t { IsTypeIn sought.now.table.now sought.now.world.now.lexicon t }
+    requires t { IsTypeOfText sought.now.text t }
     requires least { HasLeastWord sought.now from.now }
     ensures { (a : TermPlace) (p : ProtoId) → StandsFor sought.now from.now a
         → IfOk result (λ u.
-        StandsFor sought.now (Conformance u p) (gone_on a (term_at sought.now.table.now t) p)) }
+        StandsFor sought.now (Conformance u p) (gone_on a (term_of sought.now.text t) p)) }
 {
     match from {
         Place::Start => word_of(sought, t),
@@ -134,14 +130,13 @@ pub(crate) fn follow(
     subject: TermId,
     proto: ProtoId,
 ) -> Result<Place, AllocError>
-    requires text { IsTextOver sought.now.table.now sought.now.world.now }
-    requires subject { IsTypeIn sought.now.table.now sought.now.world.now.lexicon subject }
-    requires proto { IsProtocol sought.now.world.now.lexicon proto }
+    requires subject { IsTypeOfText sought.now.text subject }
+    requires proto { IsProtocol sought.now.text.world.now.lexicon proto }
     requires least { HasLeastWord sought.now from.now }
-    ensures place { IfOk result (IsPlaceIn sought.now.world.now) }
+    ensures place { IfOk result (IsPlaceIn sought.now.text.world.now) }
     ensures stands { (a : TermPlace) → StandsFor sought.now from.now a
         → IfOk result (λ place.
-        StandsFor sought.now place (gone_on a (term_at sought.now.table.now subject) proto)) }
+        StandsFor sought.now place (gone_on a (term_of sought.now.text subject) proto)) }
 {
     let subject = subject_from(sought, from, subject)?;
     Ok(Place::Conformance { subject, proto })

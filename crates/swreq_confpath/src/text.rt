@@ -5,15 +5,15 @@ ghost use Rattle.swreq_machine.specs.swreq_derive.Facts.{requirement_of};
 ghost use Rattle.swreq_machine.specs.swreq_lexicon.Views.{IsProtocol};
 ghost use Rattle.swreq_print.specs.Signatures.{requirement_text, self_text};
 ghost use Rattle.swreq_machine.specs.swreq_lowering.ByTable.{HasIdsOf};
-ghost use Rattle.swreq_machine.specs.swreq_symbols.Known.{IsTextOver};
-ghost use Rattle.swreq_machine.specs.swreq_world.{ByTable.{world_by}, FactsAt.{facts_of, written_list}, Worlds.{signature_at}};
+ghost use Rattle.swreq_machine.specs.swreq_symbols.Texts.{world_of};
+ghost use Rattle.swreq_machine.specs.swreq_world.{FactsAt.{facts_of, written_list}, Worlds.{signature_at}};
 ghost use Rattle.swreq_confpath.specs.Numbers.{AreNumbers, AreNumbersBehind, in_brackets, path_text, protocol_named, steps_text};
 
 use crate::path::ConfPath;
 use std::alloc::{AllocError, Global};
 use swreq_machine::derive::Requirement;
 use swreq_machine::param::{ParamTable, ProtoId};
-use swreq_machine::world::World;
+use swreq_machine::symbols::Text;
 use swreq_print::lexicon::Lexicon;
 use swreq_print::lowering::FuncId;
 use swreq_print::{requirement_text, self_text};
@@ -66,23 +66,21 @@ fn put_step(
 // The conformances that follow one that names a protocol.
 fn put_steps(
     alloc: Global,
-    world: &World,
-    table: &ParamTable,
+    text: &Text<'_>,
     proto: ProtoId,
     steps: &[u32],
     out: &mut Vec<u8>,
 ) -> Result<(), AllocError>
-    requires text { IsTextOver table.now world.now }
-    requires proto { IsProtocol world.now.lexicon proto }
-    requires steps { AreNumbersBehind (facts_of (world_by table.now world.now)) proto steps.now }
+    requires proto { IsProtocol text.now.world.now.lexicon proto }
+    requires steps { AreNumbersBehind (facts_of (world_of text.now)) proto steps.now }
     ensures { OnOk result (out.new.items ≡ out.old.items
-        ++ steps_text world.now.lexicon (facts_of (world_by table.now world.now)) proto steps.now) }
+        ++ steps_text text.now.world.now.lexicon (facts_of (world_of text.now)) proto steps.now) }
 {
     let mut at = proto;
     for k in 0..steps.len() {
         let number = steps[k];
-        let requirement = world.bare_requirements(at)[number as usize - 1];
-        put_step(alloc, world.lexicon(), table, requirement, out)?;
+        let requirement = text.world.bare_requirements(at)[number as usize - 1];
+        put_step(alloc, text.world.lexicon(), text.table, requirement, out)?;
         at = protocol_named(requirement);
     }
     Ok(())
@@ -95,34 +93,31 @@ fn put_steps(
 /// one before it names.
 pub fn path_text(
     alloc: Global,
-    world: &World,
-    table: &ParamTable,
+    text: &Text<'_>,
     f: FuncId,
     path: &ConfPath,
     out: &mut Vec<u8>,
 ) -> Result<(), AllocError>
-    requires text { IsTextOver table.now world.now }
-    requires f { f.place < length world.now.signatures }
-    requires numbers { AreNumbers (facts_of (world_by table.now world.now))
-        (written_list (signature_at (world_by table.now world.now) f))
+    requires f { f.place < length text.now.world.now.signatures }
+    requires numbers { AreNumbers (facts_of (world_of text.now))
+        (written_list (signature_at (world_of text.now) f))
         path.now.first path.now.steps }
     ensures ok { OnOk result (out.new.items ≡ out.old.items
-        ++ path_text world.now.lexicon (facts_of (world_by table.now world.now))
-        (written_list (signature_at (world_by table.now world.now) f))
+        ++ path_text text.now.world.now.lexicon (facts_of (world_of text.now))
+        (written_list (signature_at (world_of text.now) f))
         path.now.first path.now.steps) }
     ensures err { OnErr result (out.new.items ≡ out.old.items) }
 {
-    let list = world.bare_signature(alloc, f)?;
+    let list = text.world.bare_signature(alloc, f)?;
     let first = list[path.first as usize - 1];
-    let mut text = Vec::new(alloc);
-    put_first(alloc, world.lexicon(), table, first, &mut text)?;
+    let mut whole = Vec::new(alloc);
+    put_first(alloc, text.world.lexicon(), text.table, first, &mut whole)?;
     put_steps(
         alloc,
-        world,
-        table,
+        text,
         protocol_named(first),
         path.steps.items(),
-        &mut text,
+        &mut whole,
     )?;
-    append_bytes(out, &text)
+    append_bytes(out, &whole)
 }

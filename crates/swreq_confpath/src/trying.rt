@@ -1,12 +1,13 @@
 //! What goes on from a place.
 ghost use Rattle.std.specs.Prelude.{◌≡◌, ◌+◌, ◌-◌, ◌<◌, ◌∷◌, ◌++◌, [], length, slice_get, Some, IfOk, IsTrue, MatchOption};
 ghost use Rattle.swreq_machine.specs.swreq_derive.Instances.{HasNumber};
-ghost use Rattle.swreq_confpath.specs.{Searches.{HasParted, IsGiven, IsKnown, IsSearch, IsSearchAt, StandsFor, required_at, sought_in}, Spots.{IsKept, Spot}};
+ghost use Rattle.swreq_confpath.specs.{Searches.{HasParted, IsGiven, IsSearch, IsSearchAt, required_at}, Spots.{IsKept, Spot}};
 
+use crate::aim::Aim;
 use crate::parting::parts_for_good;
 use crate::path::{ConfPath, path_of};
 use crate::places::Place;
-use crate::sought::{Sought, follow, required_at};
+use crate::sought::{follow, required_at};
 use crate::tried::Tried;
 use std::alloc::{AllocError, Global};
 use swreq_machine::derive::Requirement;
@@ -43,38 +44,36 @@ fn try_place(
 }
 
 /// Whether the place has parted for good from the target: no numbers lead on from it to the conformance that is sought.
-fn has_parted(sought: &Sought<'_>, target: &Place, place: &Place) -> bool
-    requires { IsKnown sought.now }
-    ensures { IsTrue result → HasParted sought.now target.now place.now }
+fn has_parted(aim: &Aim<'_>, place: &Place) -> bool
+    ensures { IsTrue result → HasParted aim.now.sought aim.now.target place.now }
 {
-    parts_for_good(sought.changed, target.word(), place.word())
+    parts_for_good(aim.sought.changed, aim.target.word(), place.word())
 }
 
 /// Tries the requirement with the next number. By no other than a conformance one goes on, and not to a place that has parted.
 fn try_requirement(
-    sought: &Sought<'_>,
-    target: &Place,
+    aim: &Aim<'_>,
     tried: &mut Tried,
     turn: Turn<'_>,
     number: u32,
     requirement: Requirement,
 ) -> Result<Option<ConfPath>, AllocError>
-    requires known { IsKnown sought.now }
-    requires target { StandsFor sought.now target.now (sought_in sought.now) }
     requires number { HasNumber number
-        (required_at sought.now.world.now sought.now.list.now turn.from.now) requirement }
-    requires at { IsSearchAt sought.now tried.old turn.next turn.from.now (number - 1) }
+        (required_at aim.now.sought.text.world.now aim.now.sought.list.now turn.from.now)
+        requirement }
+    requires at { IsSearchAt aim.now.sought tried.old turn.next turn.from.now (number - 1) }
     ensures { IfOk result (λ o. MatchOption o
-        (IsSearchAt sought.now tried.new turn.entry.next turn.entry.from.now number)
-        (IsGiven sought.now)) }
+        (IsSearchAt aim.now.sought tried.new turn.entry.next turn.entry.from.now number)
+        (IsGiven aim.now.sought)) }
 {
+    let sought = &aim.sought;
     match requirement {
         Requirement::Conf { subject, proto } => {
             let place = follow(sought, turn.from, subject, proto)?;
-            if has_parted(sought, target, &place) {
+            if has_parted(aim, &place) {
                 return Ok(None);
             }
-            try_place(sought.alloc, target, tried, turn.next, number, place)
+            try_place(sought.alloc, &aim.target, tried, turn.next, number, place)
         }
         _ => Ok(None),
     }
@@ -82,26 +81,23 @@ fn try_requirement(
 
 /// Tries all that goes on from the next place: the path, where one of them leads to the place that is sought.
 pub(crate) fn go_on(
-    sought: &Sought<'_>,
-    target: &Place,
+    aim: &Aim<'_>,
     tried: &mut Tried,
     next: usize,
 ) -> Result<Option<ConfPath>, AllocError>
-    requires known { IsKnown sought.now }
-    requires target { StandsFor sought.now target.now (sought_in sought.now) }
     requires next { next < length tried.old }
-    requires so_far { IsSearch sought.now tried.old next }
-    ensures { IfOk result
-        (λ o. MatchOption o (IsSearch sought.now tried.new (next + 1)) (IsGiven sought.now)) }
+    requires so_far { IsSearch aim.now.sought tried.old next }
+    ensures { IfOk result (λ o. MatchOption o
+        (IsSearch aim.now.sought tried.new (next + 1)) (IsGiven aim.now.sought)) }
 {
     let (place, _) = tried.spot(next);
     let from = place.copy()?;
     let turn = Turn { next, from: &from };
-    let list = required_at(sought.world, sought.list, &from);
+    let list = required_at(aim.sought.text.world, aim.sought.list, &from);
     for k in 0..list.len() {
         let requirement = list[k];
         let number = k as u32 + 1;
-        match try_requirement(sought, target, tried, turn, number, requirement)? {
+        match try_requirement(aim, tried, turn, number, requirement)? {
             Some(path) => return Ok(Some(path)),
             None => {}
         }

@@ -6,27 +6,22 @@ use std::alloc::{AllocError, Global};
 use std::test::Fail;
 use swreq_machine::lowering::FuncId;
 use swreq_machine::param::ParamTable;
-use swreq_machine::world::World;
+use swreq_machine::symbols::Text;
 use swreq_query::full_name;
 use swreq_text::append_bytes;
 
 /// Appends the name of a signature as a line.
-fn put_name(
-    world: &World,
-    table: &ParamTable,
-    f: FuncId,
-    out: &mut Vec<u8>,
-) -> Result<(), AllocError>
-    requires { f.place < length world.now.signatures }
+fn put_name(text: &Text<'_>, f: FuncId, out: &mut Vec<u8>) -> Result<(), AllocError>
+    requires { f.place < length text.now.world.now.signatures }
 {
-    full_name(world, table, f, out)?;
+    full_name(text, f, out)?;
     append_bytes(out, b"\n")
 }
 
 /// Appends the names of the signatures of a world, each as a line.
-fn put_each_name(world: &World, table: &ParamTable, out: &mut Vec<u8>) -> Result<(), AllocError> {
-    for place in 0..world.functions() {
-        put_name(world, table, FuncId { place }, out)?;
+fn put_each_name(text: &Text<'_>, out: &mut Vec<u8>) -> Result<(), AllocError> {
+    for place in 0..text.world.functions() {
+        put_name(text, FuncId { place }, out)?;
     }
     Ok(())
 }
@@ -39,7 +34,13 @@ fn put_names_in(
     out: &mut Vec<u8>,
 ) -> Result<(), Fail> {
     let world = world_of(alloc, text, table)?;
-    Ok(put_each_name(&world, table, out)?)
+    Ok(put_each_name(
+        &Text {
+            world: &world,
+            table,
+        },
+        out,
+    )?)
 }
 
 /// Appends the names of the signatures of a text, each as a line.

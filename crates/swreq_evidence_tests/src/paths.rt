@@ -1,9 +1,6 @@
 //! The numbers of the paths that are given.
-ghost use Rattle.std.specs.Prelude.{◌<◌, length};
 ghost use Rattle.swreq_machine.specs.swreq_derive.{declared.requirements.Requirement.TheVariants.{Conf}, WellFormed.{AreProtocolsWellFormed}};
-ghost use Rattle.swreq_machine.specs.swreq_symbols.{Known.{IsQueryIn, IsRequirementIn, IsTextOver}, Meaning.{facts_of}};
-ghost use Rattle.swreq_machine.specs.swreq_valid.{Protocols.{AreRulesOf}, Rounds.{last_rules}};
-ghost use Rattle.swreq_machine.specs.swreq_world.ByTable.{world_by};
+ghost use Rattle.swreq_machine.specs.swreq_symbols.{Known.{IsQueryIn}, Meaning.{facts_of}, Texts.{IsRequirementOfText, world_of}};
 ghost use Rattle.swreq_confpath.specs.Searches.{IsMachineFor};
 
 use crate::worlds::{machine_of, protocols_of, world_of};
@@ -15,8 +12,7 @@ use swreq_machine::derive::Requirement;
 use swreq_machine::lowering::{Asks, FuncId, Query};
 use swreq_machine::param::{ParamTable, ProtoId, TermId};
 use swreq_machine::symbols::Text;
-use swreq_machine::valid::Protocols;
-use swreq_machine::world::World;
+use swreq_machine::valid::CheckedText;
 
 /// Writes the numbers of a path, with blanks between them, as a line.
 fn put_numbers(path: &ConfPath, out: &mut String) -> Result<(), Fail> {
@@ -31,51 +27,38 @@ fn put_numbers(path: &ConfPath, out: &mut String) -> Result<(), Fail> {
 /// Writes the numbers of the path that is given for a conformance.
 fn put_given(
     alloc: Global,
-    world: &World,
-    table: &ParamTable,
+    text: &Text<'_>,
     machine: &Machine,
     asked: (FuncId, TermId, ProtoId),
     out: &mut String,
 ) -> Result<(), Fail>
-    requires text { IsTextOver table.now world.now }
-    requires machine { IsMachineFor table.now world.now asked.0 machine.now }
-    requires asked { IsRequirementIn table.now world.now.lexicon (Conf asked.1 asked.2) }
+    requires machine { IsMachineFor text.now asked.0 machine.now }
+    requires asked { IsRequirementOfText text.now (Conf asked.1 asked.2) }
 {
     let (f, subject, proto) = asked;
-    let text = Text { world, table };
-    if !machine.derives(alloc, &text, Requirement::Conf { subject, proto })? {
+    if !machine.derives(alloc, text, Requirement::Conf { subject, proto })? {
         return Err("no path".into());
     }
-    let path = shortest(alloc, world, table, machine, f, subject, proto)?;
+    let path = shortest(alloc, text, machine, f, subject, proto)?;
     put_numbers(&path, out)
 }
 
 /// Writes the numbers of the path that is given for the conformance that a query asks.
 fn put_asked(
     alloc: Global,
-    world: &World,
-    table: &ParamTable,
-    protocols: &Protocols,
+    checked: &CheckedText<'_, '_>,
     query: Query,
     out: &mut String,
 ) -> Result<(), Fail>
-    requires text { IsTextOver table.now world.now }
-    requires formed { AreProtocolsWellFormed (facts_of (world_by table.now world.now)) }
-    requires rules { AreRulesOf (world_by table.now world.now) (last_rules protocols.now.rounds) }
-    requires query { IsQueryIn table.now world.now query }
+    requires formed { AreProtocolsWellFormed (facts_of (world_of checked.now.text)) }
+    requires query { IsQueryIn checked.now.text.table.now checked.now.text.world.now query }
 {
     match query.asks {
         Asks::Requirement(r) => match r {
             Requirement::Conf { subject, proto } => {
-                let machine = machine_of(alloc, world, table, protocols, query.f)?;
-                put_given(
-                    alloc,
-                    world,
-                    table,
-                    &machine,
-                    (query.f, subject, proto),
-                    out,
-                )
+                let machine = machine_of(alloc, checked, query.f)?;
+                let asked = (query.f, subject, proto);
+                put_given(alloc, &checked.text, &machine, asked, out)
             }
             _ => Err("another requirement".into()),
         },
@@ -84,36 +67,34 @@ fn put_asked(
 }
 
 /// Writes the numbers for the queries of a world.
-fn put_all(
-    alloc: Global,
-    world: &World,
-    table: &ParamTable,
-    protocols: &Protocols,
-    out: &mut String,
-) -> Result<(), Fail>
-    requires text { IsTextOver table.now world.now }
-    requires formed { AreProtocolsWellFormed (facts_of (world_by table.now world.now)) }
-    requires rules { AreRulesOf (world_by table.now world.now) (last_rules protocols.now.rounds) }
+fn put_all(alloc: Global, checked: &CheckedText<'_, '_>, out: &mut String) -> Result<(), Fail>
+    requires { AreProtocolsWellFormed (facts_of (world_of checked.now.text)) }
 {
-    let queries = world.queries();
+    let queries = checked.text.world.queries();
     for k in 0..queries.len() {
-        put_asked(alloc, world, table, protocols, queries[k], out)?;
+        put_asked(alloc, checked, queries[k], out)?;
     }
     Ok(())
 }
 
 /// Writes the numbers for the queries of a world.
-fn put_over(alloc: Global, world: &World, table: &ParamTable, out: &mut String) -> Result<(), Fail>
-    requires text { IsTextOver table.now world.now }
-{
-    let protocols = protocols_of(alloc, world, table)?;
-    put_all(alloc, world, table, &protocols, out)
+fn put_over(alloc: Global, text: &Text<'_>, out: &mut String) -> Result<(), Fail> {
+    let protocols = &protocols_of(alloc, text)?;
+    let text = *text;
+    put_all(alloc, &CheckedText { text, protocols }, out)
 }
 
 /// Writes the numbers for the queries of a text, over the table.
 fn put_in(alloc: Global, text: &str, table: &mut ParamTable, out: &mut String) -> Result<(), Fail> {
     let world = world_of(alloc, text, table)?;
-    put_over(alloc, &world, table, out)
+    put_over(
+        alloc,
+        &Text {
+            world: &world,
+            table,
+        },
+        out,
+    )
 }
 
 /// Writes the numbers for the queries of a text.

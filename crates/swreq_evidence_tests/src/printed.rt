@@ -5,7 +5,7 @@ ghost use Rattle.swreq_machine.specs.swreq_derive.WellFormed.{AreProtocolsWellFo
 ghost use Rattle.swreq_machine.specs.swreq_symbols.{Known.{IsQueryIn, IsTextOver}, Meaning.{facts_of}};
 ghost use Rattle.swreq_machine.specs.swreq_valid.{Protocols.{AreRulesOf}, Rounds.{last_rules}};
 ghost use Rattle.swreq_machine.specs.swreq_world.ByTable.{world_by};
-ghost use Rattle.swreq_confpath.specs.Searches.{IsMachineFor};
+ghost use Rattle.swreq_query.specs.Signatures.{IsMachineOfSignature};
 
 use crate::worlds::{LIMITS, machine_of, protocols_of, world_of};
 use std::alloc::{AllocError, Global};
@@ -15,7 +15,7 @@ use swreq_machine::lowering::{Asks, FuncId, Query};
 use swreq_machine::map::PropertyMap;
 use swreq_machine::param::ParamTable;
 use swreq_machine::symbols::Text;
-use swreq_machine::valid::Protocols;
+use swreq_machine::valid::{CheckedText, Protocols};
 use swreq_machine::watch::Quiet;
 use swreq_machine::world::World;
 use swreq_query::{answer, minimised_line, room_for, system_text};
@@ -44,27 +44,22 @@ struct Own<'a, 'b> {
 /// Appends the line that answers a query of a requirement or a type.
 fn put_answer(
     own: &Own<'_, '_>,
-    table: &ParamTable,
+    text: &Text<'_>,
     map: &PropertyMap,
     query: Query,
     out: &mut Vec<u8>,
 ) -> Result<(), Fail>
-    requires text { IsTextOver table.now own.now.world.now }
     requires map { IsMapOf (last_rules own.now.machine.now.rounds) map.now }
-    requires protocols { map.now.protocols ≡ length own.now.world.now.lexicon.protocols }
-    requires query { IsQueryIn table.now own.now.world.now query }
+    requires protocols { map.now.protocols ≡ length text.now.world.now.lexicon.protocols }
+    requires query { IsQueryIn text.now.table.now text.now.world.now query }
 {
     match query.asks {
         Asks::Signature => Err("a query of a signature".into()),
         Asks::Reduced(_) | Asks::Requirement(_) => {
-            let text = Text {
-                world: own.world,
-                table,
-            };
-            let mut scratch = room_for(own.alloc, &text, query.asks)?;
+            let mut scratch = room_for(own.alloc, text, query.asks)?;
             answer(
                 own.alloc,
-                &text,
+                text,
                 own.machine,
                 map,
                 query.asks,
@@ -79,27 +74,24 @@ fn put_answer(
 /// Appends the lines that answer the queries of the world.
 fn put_each(
     own: &Own<'_, '_>,
-    table: &ParamTable,
+    text: &Text<'_>,
     map: &PropertyMap,
     out: &mut Vec<u8>,
 ) -> Result<(), Fail>
-    requires text { IsTextOver table.now own.now.world.now }
     requires map { IsMapOf (last_rules own.now.machine.now.rounds) map.now }
-    requires protocols { map.now.protocols ≡ length own.now.world.now.lexicon.protocols }
+    requires protocols { map.now.protocols ≡ length text.now.world.now.lexicon.protocols }
 {
-    let queries = own.world.queries();
+    let queries = text.world.queries();
     for k in 0..queries.len() {
-        put_answer(own, table, map, queries[k], out)?;
+        put_answer(own, text, map, queries[k], out)?;
     }
     Ok(())
 }
 
 /// Appends the lines that answer the queries of the world, by the machine of the signature.
-fn put_answers(own: &Own<'_, '_>, table: &ParamTable, out: &mut Vec<u8>) -> Result<(), Fail>
-    requires { IsTextOver table.now own.now.world.now }
-{
-    let map = PropertyMap::build(own.alloc, own.machine.rules(), own.world.protocols())?;
-    put_each(own, table, &map, out)
+fn put_answers(own: &Own<'_, '_>, text: &Text<'_>, out: &mut Vec<u8>) -> Result<(), Fail> {
+    let map = PropertyMap::build(own.alloc, own.machine.rules(), text.world.protocols())?;
+    put_each(own, text, &map, out)
 }
 
 /// Appends the line of the minimised list of the signature.
@@ -107,7 +99,8 @@ fn put_minimised(own: &Own<'_, '_>, table: &mut ParamTable, out: &mut Vec<u8>) -
     requires text { IsTextOver table.old own.now.world.now }
     requires rules { AreRulesOf (world_by table.old own.now.world.now)
         (last_rules own.now.protocols.now.rounds) }
-    requires machine { IsMachineFor table.old own.now.world.now own.now.f own.now.machine.now }
+    requires machine { IsMachineOfSignature table.old own.now.world.now own.now.f
+        own.now.machine.now }
 {
     minimised_line(
         own.alloc,
@@ -124,11 +117,11 @@ fn put_minimised(own: &Own<'_, '_>, table: &mut ParamTable, out: &mut Vec<u8>) -
 }
 
 /// Appends the reduced system of the signature.
-fn put_system(own: &Own<'_, '_>, table: &ParamTable, out: &mut Vec<u8>) -> Result<(), Fail>
-    requires text { IsTextOver table.now own.now.world.now }
-    requires machine { IsMachineFor table.now own.now.world.now own.now.f own.now.machine.now }
+fn put_system(own: &Own<'_, '_>, text: &Text<'_>, out: &mut Vec<u8>) -> Result<(), Fail>
+    requires { IsMachineOfSignature text.now.table.now text.now.world.now own.now.f
+        own.now.machine.now }
 {
-    system_text(own.alloc, own.world, table, own.machine, own.f, out)?;
+    system_text(own.alloc, text, own.machine, own.f, out)?;
     Ok(())
 }
 
@@ -142,12 +135,14 @@ fn put_of(
     requires text { IsTextOver table.old own.now.world.now }
     requires rules { AreRulesOf (world_by table.old own.now.world.now)
         (last_rules own.now.protocols.now.rounds) }
-    requires machine { IsMachineFor table.old own.now.world.now own.now.f own.now.machine.now }
+    requires machine { IsMachineOfSignature table.old own.now.world.now own.now.f
+        own.now.machine.now }
 {
+    let world = own.world;
     match what {
-        Printed::Answers => put_answers(own, table, out),
+        Printed::Answers => put_answers(own, &Text { world, table }, out),
         Printed::Minimised => put_minimised(own, table, out),
-        Printed::System => put_system(own, table, out),
+        Printed::System => put_system(own, &Text { world, table }, out),
     }
 }
 
@@ -166,7 +161,8 @@ fn put_by(
     requires some { 0 < length world.now.signatures }
 {
     let f = FuncId { place: 0 };
-    let machine = machine_of(alloc, world, table, protocols, f)?;
+    let text = Text { world, table };
+    let machine = machine_of(alloc, &CheckedText { text, protocols }, f)?;
     let own = Own {
         alloc,
         world,
@@ -190,7 +186,7 @@ fn put_over(
     if world.functions() == 0 {
         return Err("no signature".into());
     }
-    let protocols = protocols_of(alloc, world, table)?;
+    let protocols = protocols_of(alloc, &Text { world, table })?;
     put_by(alloc, world, table, &protocols, what, out)
 }
 

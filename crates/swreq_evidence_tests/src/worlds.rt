@@ -1,9 +1,8 @@
 //! The worlds of texts, and the machines of their signatures.
 ghost use Rattle.std.specs.Prelude.{◌<◌, IfOk, length};
 ghost use Rattle.swreq_machine.specs.swreq_derive.WellFormed.{AreProtocolsWellFormed};
-ghost use Rattle.swreq_machine.specs.swreq_symbols.{Known.{IsTextOver}, Meaning.{facts_of}};
+ghost use Rattle.swreq_machine.specs.swreq_symbols.{Known.{IsTextOver}, Meaning.{facts_of}, Texts.{world_of}};
 ghost use Rattle.swreq_machine.specs.swreq_valid.{Protocols.{AreRulesOf}, Rounds.{last_rules}};
-ghost use Rattle.swreq_machine.specs.swreq_world.ByTable.{world_by};
 ghost use Rattle.swreq_confpath.specs.Searches.{IsMachineFor};
 ghost use Rattle.swreq_subst.specs.Saying.{HaveIds};
 
@@ -14,7 +13,7 @@ use swreq_machine::complete::Limits;
 use swreq_machine::lowering::FuncId;
 use swreq_machine::param::ParamTable;
 use swreq_machine::symbols::Text;
-use swreq_machine::valid::Protocols;
+use swreq_machine::valid::{CheckedText, Protocols};
 use swreq_machine::watch::Quiet;
 use swreq_machine::world::World;
 use swreq_reqsig::laws::valid_sides_are_well_formed;
@@ -43,37 +42,25 @@ pub(crate) fn world_of(alloc: Global, text: &str, table: &mut ParamTable) -> Res
 }
 
 /// The rules of the protocols, which are well formed.
-pub(crate) fn protocols_of(
-    alloc: Global,
-    world: &World,
-    table: &ParamTable,
-) -> Result<Protocols, Fail>
-    requires text { IsTextOver table.now world.now }
-    ensures formed { IfOk result
-        (λ _. AreProtocolsWellFormed (facts_of (world_by table.now world.now))) }
-    ensures rules { IfOk result
-        (λ p. AreRulesOf (world_by table.now world.now) (last_rules p.rounds)) }
+pub(crate) fn protocols_of(alloc: Global, text: &Text<'_>) -> Result<Protocols, Fail>
+    ensures formed { IfOk result (λ _. AreProtocolsWellFormed (facts_of (world_of text.now))) }
+    ensures rules { IfOk result (λ p. AreRulesOf (world_of text.now) (last_rules p.rounds)) }
 {
     valid_sides_are_well_formed();
-    let protocols = Protocols::build(alloc, world, table, LIMITS, &mut Quiet)?;
+    let protocols = Protocols::build(alloc, text, LIMITS, &mut Quiet)?;
     Ok(protocols)
 }
 
 /// The machine of a signature.
 pub(crate) fn machine_of<'b>(
     alloc: Global,
-    world: &World,
-    table: &ParamTable,
-    protocols: &'b Protocols,
+    checked: &CheckedText<'_, 'b>,
     f: FuncId,
 ) -> Result<Machine<'b>, Fail>
-    requires text { IsTextOver table.now world.now }
-    requires formed { AreProtocolsWellFormed (facts_of (world_by table.now world.now)) }
-    requires rules { AreRulesOf (world_by table.now world.now) (last_rules protocols.now.rounds) }
-    requires f { f.place < length world.now.signatures }
-    ensures { IfOk result (IsMachineFor table.now world.now f) }
+    requires formed { AreProtocolsWellFormed (facts_of (world_of checked.now.text)) }
+    requires f { f.place < length checked.now.text.world.now.signatures }
+    ensures { IfOk result (IsMachineFor checked.now.text f) }
 {
-    let text = Text { world, table };
-    let machine = Machine::of_signature(alloc, &text, protocols, f, LIMITS, &mut Quiet)?;
+    let machine = Machine::of_signature(alloc, checked, f, LIMITS, &mut Quiet)?;
     Ok(machine)
 }

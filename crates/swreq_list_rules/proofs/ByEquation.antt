@@ -15,12 +15,13 @@ use Rattle.swreq_machine.specs.swreq_rounds.Presents.{AreListRules}
 use Rattle.swreq_machine.specs.swreq_symbols.Vanishing.{Links}
 use Rattle.swreq_machine.specs.Machines.{IsMachineOf, MachineView}
 use Rattle.swreq_machine.specs.swreq_valid.Rounds.{ended_round, last_rules}
+use Rattle.swreq_machine.proofs.swreq_symbols.OfTexts.{text_over}
 use Rattle.swreq_machine.proofs.Answering.{by_sides, derivable_shown, shown_derivable}
 use Rattle.swreq_list_rules.specs.declared.setting.Setting.{Setting}
 use Rattle.swreq_list_rules.specs.ListRules.{AreRulesOfList, AreShownBy}
-use Rattle.swreq_list_rules.specs.Settings.{IsSetting, facts_in, source_in, symbols_in, text_in}
+use Rattle.swreq_list_rules.specs.Settings.{facts_in, source_in, symbols_in, text_in}
 
-module _ (s : Setting) (is : IsSetting s) (list : List TermRequirement) (rules : List Rule) (are : AreRulesOfList s list rules) where
+module _ (s : Setting) (list : List TermRequirement) (rules : List Rule) (are : AreRulesOfList s list rules) where
   -- a machine with these rules
   abbrev machine : MachineView
   machine = record { params = s.params; rounds = ended_round [] rules ∷ [] }
@@ -39,25 +40,25 @@ module _ (s : Setting) (is : IsSetting s) (list : List TermRequirement) (rules :
   IsDerivable r = Derivable (facts_in s) (source_in s list) (Requires r)
 
   pub shown_valid : (r : TermRequirement) → AreShownBy s rules r → Valid r
-  shown_valid (Conforms t p) h = shown_derivable (text_in s) is.text.closed machine list is_machine t h
-  shown_valid (IsAnyObject t) h = shown_derivable (text_in s) is.text.closed machine list is_machine t h
+  shown_valid (Conforms t p) h = shown_derivable (text_in s) (text_over s.checked.text).closed machine list is_machine t h
+  shown_valid (IsAnyObject t) h = shown_derivable (text_in s) (text_over s.checked.text).closed machine list is_machine t h
   shown_valid (Equals t u) h = (
-    shown_derivable (text_in s) is.text.closed machine list is_machine t h.0,
-    shown_derivable (text_in s) is.text.closed machine list is_machine u h.1,
+    shown_derivable (text_in s) (text_over s.checked.text).closed machine list is_machine t h.0,
+    shown_derivable (text_in s) (text_over s.checked.text).closed machine list is_machine u h.1,
   )
 
   pub valid_shown : (r : TermRequirement) → Valid r → AreShownBy s rules r
-  valid_shown (Conforms t p) h = derivable_shown (text_in s) is.text.closed machine list is_machine t h
-  valid_shown (IsAnyObject t) h = derivable_shown (text_in s) is.text.closed machine list is_machine t h
+  valid_shown (Conforms t p) h = derivable_shown (text_in s) (text_over s.checked.text).closed machine list is_machine t h
+  valid_shown (IsAnyObject t) h = derivable_shown (text_in s) (text_over s.checked.text).closed machine list is_machine t h
   valid_shown (Equals t u) h = (
-    derivable_shown (text_in s) is.text.closed machine list is_machine t h.0,
-    derivable_shown (text_in s) is.text.closed machine list is_machine u h.1,
+    derivable_shown (text_in s) (text_over s.checked.text).closed machine list is_machine t h.0,
+    derivable_shown (text_in s) (text_over s.checked.text).closed machine list is_machine u h.1,
   )
 
   by_linked : (r : TermRequirement) → Valid r → IsDerivable r ↔ AreSidesLinked r
-  by_linked (Conforms t p) v = by_sides (text_in s) is.text.closed machine list is_machine (Conforms t p) v
-  by_linked (IsAnyObject t) v = by_sides (text_in s) is.text.closed machine list is_machine (IsAnyObject t) v
-  by_linked (Equals t u) v = by_sides (text_in s) is.text.closed machine list is_machine (Equals t u) v
+  by_linked (Conforms t p) v = by_sides (text_in s) (text_over s.checked.text).closed machine list is_machine (Conforms t p) v
+  by_linked (IsAnyObject t) v = by_sides (text_in s) (text_over s.checked.text).closed machine list is_machine (IsAnyObject t) v
+  by_linked (Equals t u) v = by_sides (text_in s) (text_over s.checked.text).closed machine list is_machine (Equals t u) v
 
   pub not_held : (r : TermRequirement) → (AreShownBy s rules r → ⊥) → IsDerivable r → ⊥
   not_held r n e = n (valid_shown r (valid_sides (facts_in s) (source_in s list) r e))

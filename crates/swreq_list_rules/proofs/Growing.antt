@@ -8,7 +8,6 @@ use Rattle.swreq_machine.specs.swreq_derive.declared.requirements.Requirement.{R
 use Rattle.swreq_machine.specs.swreq_derive.Derivation.{TermRequirement}
 use Rattle.swreq_machine.specs.swreq_derive.Derivation.Source.{Written}
 use Rattle.swreq_machine.specs.swreq_derive.Derivation.TermRequirement.{Conforms, Equals, IsAnyObject}
-use Rattle.swreq_machine.specs.swreq_derive.Facts.{requirement_of}
 use Rattle.swreq_machine.specs.swreq_derive.WellFormed.{HasValidSides, IsUsable}
 use Rattle.swreq_machine.proofs.swreq_derive.Monotone.{grows}
 use Rattle.swreq_machine.specs.swreq_rule.declared.rules.Rule.{Rule}
@@ -20,11 +19,13 @@ use Rattle.swreq_machine.specs.swreq_correspondence.Equations.Equation.{member, 
 use Rattle.swreq_machine.specs.swreq_correspondence.Equations.{UsableEquation}
 use Rattle.swreq_machine.specs.swreq_rounds.Presents.{ProtocolEquation}
 use Rattle.swreq_machine.proofs.swreq_rounds.Presented.{presents_to}
-use Rattle.swreq_machine.specs.swreq_valid.Rounds.{last_rules}
+use Rattle.swreq_machine.specs.swreq_valid.Checked.{base_of}
+use Rattle.swreq_machine.specs.swreq_valid.Protocols.{AreRulesOf}
+use Rattle.swreq_machine.proofs.swreq_symbols.OfTexts.{ids_over}
 use Rattle.swreq_machine.proofs.Listing.{list_in_text}
 use Rattle.swreq_list_rules.specs.declared.setting.Setting.{Setting}
 use Rattle.swreq_list_rules.specs.ListRules.{AreCompletedBy, AreOfList, AreRulesOfList, AreShownBy, AreUnderway, ListRulesView}
-use Rattle.swreq_list_rules.specs.Settings.{AreKnownIn, IsSetting, facts_in, params_in, said_in, source_in, symbols_in}
+use Rattle.swreq_list_rules.specs.Settings.{AreKnownIn, facts_in, params_in, said_in, says_in, source_in, symbols_in, text_in}
 use Rattle.swreq_list_rules.proofs.ByEquation.{shown_valid, valid_shown}
 use Rattle.swreq_list_rules.proofs.Extended.{all_on, extended}
 use Rattle.swreq_list_rules.proofs.Parting.{AreParted, parted, said_before, said_still, was_there}
@@ -56,11 +57,11 @@ module _ (s : Setting) where
   of_empty u v (of_protocol p q h) = of_protocol p q h
   of_empty u v (of_source q h) = none_of q h.0
 
-  pub empty_list : IsSetting s → AreOfList s [] (record { rules = last_rules s.protocols.now.rounds; waiting = [] })
-  empty_list is = record {
+  pub empty_list : AreRulesOf (text_in s) (base_of s.checked) → AreOfList s [] (record { rules = base_of s.checked; waiting = [] })
+  empty_list base = record {
     rules = record {
-      rules = presents_to (last_rules s.protocols.now.rounds) (ProtocolEquation (symbols_in s) (facts_in s))
-          (UsableEquation (symbols_in s) (facts_in s) (source_in s [])) to_empty of_empty is.protocols;
+      rules = presents_to (base_of s.checked) (ProtocolEquation (symbols_in s) (facts_in s))
+          (UsableEquation (symbols_in s) (facts_in s) (source_in s [])) to_empty of_empty base;
       in_text = λ t p h. none_of (Conforms t p) h;
     };
     known = λ r h. no_member r h;
@@ -97,9 +98,9 @@ module _ (s : Setting) where
           grows (facts_in s) _ (params_in s) some list (λ r k. (usable_members.1.within r k).0) _ h.1,
         )
 
-    module _ (is : IsSetting s) (more : List Requirement) (known : AreKnownIn s more) where
+    module _ (more : List Requirement) (known : AreKnownIn s more) where
       said_more : said_in s (view.waiting ++ more) ≡ said_in s view.waiting ++ said_in s more
-      said_more = map-append (requirement_of s.table.now) view.waiting more
+      said_more = map-append (says_in s) view.waiting more
 
       waits_cases : (q : TermRequirement) → Contains (said_in s (view.waiting ++ more)) q
           → Contains (said_in s view.waiting) q ⊎ Contains (said_in s more) q
@@ -117,7 +118,9 @@ module _ (s : Setting) where
         usable = λ r h. valid_down (symbols_in s) (facts_in s) (params_in s) list some all_usable r (usable_members.1.within r h).1;
         in_text = λ t p h. elim (Contains-append_cases list (said_in s more) _ h) [
           | inl i ↦ are.rules.in_text t p i
-          | inr i ↦ list_in_text s.table.now s.world.now.lexicon is.text.closed.ids s.params more known t p i
+          | inr i ↦
+              let text = s.checked.text in
+              list_in_text text.table.now text.world.now.lexicon (ids_over text) s.params more known t p i
         ];
         known = λ r h. elim (Contains-append_cases view.waiting more r h) [ inl i ↦ are.known r i | inr i ↦ known r i ];
         added_in = λ q h. Contains-append_left list (said_in s more) q (usable_members.1.within q h).0;
@@ -141,7 +144,7 @@ module _ (s : Setting) where
 
   -- ---- underway
 
-  module _ (is : IsSetting s) (list added : List TermRequirement) (rules : List Rule) (waiting : List Requirement)
+  module _ (list added : List TermRequirement) (rules : List Rule) (waiting : List Requirement)
       (way : AreUnderway s list added rules waiting) where
     added_rules : AreRulesOfList s added rules
     added_rules = record { rules = way.rules; in_text = λ t p h. way.in_text t p (way.added_in _ h) }
@@ -149,7 +152,7 @@ module _ (s : Setting) where
     -- one that waits is usable
     module _ (k : ℕ) (d : Requirement) (l : k < length waiting) (new : List Rule) where
       abbrev r : TermRequirement
-      r = requirement_of s.table.now (get_or waiting k d)
+      r = says_in s (get_or waiting k d)
 
       pub one_more : AreShownBy s rules r → AreCompletedBy s r rules new → AreUnderway s list (added ++ r ∷ []) new (remove waiting k)
       one_more shown completed = record {
@@ -161,12 +164,12 @@ module _ (s : Setting) where
         added_in = λ q h. elim (Contains-push_cases added r q h) [
           | inl i ↦ way.added_in q i
           | inr e ↦ subst (λ z. Contains list z) e
-              (way.waiting_in r (contains_map (requirement_of s.table.now) waiting (get_or waiting k d) (Contains-get_or waiting k d l)))
+              (way.waiting_in r (contains_map (says_in s) waiting (get_or waiting k d) (Contains-get_or waiting k d l)))
         ];
-        waiting_in = λ q h. way.waiting_in q (said_before waiting k d l (requirement_of s.table.now) q h);
+        waiting_in = λ q h. way.waiting_in q (said_before waiting k d l (says_in s) q h);
         others_wait = λ q h. elim (way.others_wait q h) [
           | inl i ↦ inl (Contains-append_left added (r ∷ []) q i)
-          | inr w ↦ elim (said_still waiting k d l (requirement_of s.table.now) q w) [
+          | inr w ↦ elim (said_still waiting k d l (says_in s) q w) [
             | inl e ↦ inl (subst (λ z. Contains (added ++ r ∷ []) z) (sym e) (Contains-append_right added (r ∷ []) r (first_member r [])))
             | inr j ↦ inr j
           ]
@@ -174,7 +177,7 @@ module _ (s : Setting) where
       }
         where
           valid : HasValidSides (facts_in s) (source_in s added) r
-          valid = shown_valid s is added rules added_rules r shown
+          valid = shown_valid s added rules added_rules r shown
 
           left_is : (q : TermRequirement) → left_side (symbols_in s) (Written [] []) q ≡ left_side (symbols_in s) (source_in s added) q
           left_is (Conforms t p) = refl
@@ -187,7 +190,7 @@ module _ (s : Setting) where
           right_is (Equals t u) = refl
 
     -- none that waits is usable
-    pub settled : ((r : Requirement) → Contains waiting r → AreShownBy s rules (requirement_of s.table.now r) → ⊥)
+    pub settled : ((r : Requirement) → Contains waiting r → AreShownBy s rules (says_in s r) → ⊥)
         → AreOfList s list (record { rules = rules; waiting = waiting })
     settled none = record {
       rules = record { rules = rules_up (symbols_in s) (facts_in s) (params_in s) list added all rules way.rules; in_text = way.in_text };
@@ -201,8 +204,8 @@ module _ (s : Setting) where
       where
         none_valid : (q : TermRequirement) → Contains (said_in s waiting) q → HasValidSides (facts_in s) (source_in s added) q → ⊥
         none_valid q h v =
-            let x = contains_of_map (requirement_of s.table.now) waiting q h in
-            none x.0 x.1 (subst (λ z. AreShownBy s rules z) x.2 (valid_shown s is added rules added_rules q v))
+            let x = contains_of_map (says_in s) waiting q h in
+            none x.0 x.1 (subst (λ z. AreShownBy s rules z) x.2 (valid_shown s added rules added_rules q v))
 
         all : AreAll list added
         all = record {

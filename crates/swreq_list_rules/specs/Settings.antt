@@ -4,26 +4,24 @@ use Rattle.swreq_machine.specs.swreq_param.declared.ids.ParamId.{ParamId}
 use Rattle.swreq_machine.specs.swreq_derive.declared.requirements.Requirement.{Requirement}
 use Rattle.swreq_machine.specs.swreq_derive.Derivation.{Source, TermFacts, TermRequirement}
 use Rattle.swreq_machine.specs.swreq_derive.Derivation.Source.{Written}
-use Rattle.swreq_machine.specs.swreq_derive.Facts.{generic_params}
+use Rattle.swreq_machine.specs.swreq_derive.Facts.{generic_params, requirement_of}
 use Rattle.swreq_machine.specs.swreq_correspondence.Symbols.{Symbols}
 use Rattle.swreq_machine.specs.swreq_rounds.Plan.{Plan}
-use Rattle.swreq_machine.specs.swreq_symbols.Known.{IsTextOver}
 use Rattle.swreq_machine.specs.swreq_symbols.Meaning.{facts_of, symbols_of}
-use Rattle.swreq_machine.specs.swreq_world.ByTable.{world_by}
+use Rattle.swreq_machine.specs.swreq_symbols.Texts.{world_of}
 use Rattle.swreq_machine.specs.swreq_world.Worlds.{TextWorld}
-use Rattle.swreq_machine.specs.swreq_valid.Protocols.{AreRulesOf}
 use Rattle.swreq_machine.specs.Machines.{list_of}
-use Rattle.swreq_machine.specs.swreq_valid.Plans.{AreKnown, listed}
-use Rattle.swreq_machine.specs.swreq_valid.Rounds.{last_rules}
+use Rattle.swreq_machine.specs.swreq_valid.Checked.{base_of}
+use Rattle.swreq_machine.specs.swreq_valid.Plans.{AreRequirementsOfText, listed}
 use Rattle.swreq_list_rules.specs.declared.setting.Setting.{Setting}
 
 -- the world of the text
 abbrev pub text_in : Setting → TextWorld
-text_in s = world_by s.table.now s.world.now
+text_in s = world_of s.checked.text
 
 -- the symbols of the text
 abbrev pub symbols_in : Setting → Symbols
-symbols_in s = symbols_of s.world.now.lexicon
+symbols_in s = symbols_of s.checked.text.world.now.lexicon
 
 -- what one derives from
 abbrev pub facts_in : Setting → TermFacts
@@ -39,17 +37,16 @@ source_in s list = Written (params_in s) list
 
 -- the rounds of a list
 abbrev pub plan_in : Setting → List TermRequirement → Plan
-plan_in s = list_of (text_in s) (last_rules s.protocols.now.rounds) s.params
+plan_in s = list_of (text_in s) (base_of s.checked) s.params
+
+-- what a requirement says
+abbrev pub says_in : Setting → Requirement → TermRequirement
+says_in s r = requirement_of s.checked.text.table.now r
 
 -- what requirements say
 abbrev pub said_in : Setting → List Requirement → List TermRequirement
-said_in s list = listed s.table.now list
+said_in s list = listed s.checked.text.table.now list
 
--- requirements of the table and of the text
+-- requirements of the text
 abbrev pub AreKnownIn : Setting → List Requirement → Type 0
-AreKnownIn s list = AreKnown s.table.now s.world.now.lexicon list
-
--- The table is that of the text, and the rules are those of its protocols.
-pub record IsSetting (s : Setting) : Type 0 where
-  pub text : IsTextOver s.table.now s.world.now
-  pub protocols : AreRulesOf (text_in s) (last_rules s.protocols.now.rounds)
+AreKnownIn s list = AreRequirementsOfText s.checked.text list

@@ -1,8 +1,8 @@
 //! Whether a requirement is derivable from a list, by the rules of the list.
 ghost use Rattle.std.specs.Prelude.{◌≡◌, ◌↔◌, IfOk, IsTrue, List};
-ghost use Rattle.swreq_machine.specs.swreq_derive.{Derivation.{Derivable, TermRequirement}, Derivation.TermStatement.{Requires}, Facts.{requirement_of}};
-ghost use Rattle.swreq_machine.specs.swreq_symbols.Known.{IsRequirementIn};
-ghost use Rattle.swreq_list_rules.specs.{ListRules.{AreRulesOfList, AreShownBy}, Settings.{IsSetting, facts_in, source_in}};
+ghost use Rattle.swreq_machine.specs.swreq_derive.{Derivation.{Derivable, TermRequirement}, Derivation.TermStatement.{Requires}};
+ghost use Rattle.swreq_machine.specs.swreq_symbols.Texts.{IsRequirementOfText};
+ghost use Rattle.swreq_list_rules.specs.{ListRules.{AreRulesOfList, AreShownBy}, Settings.{facts_in, says_in, source_in}};
 
 use crate::setting::Setting;
 use std::alloc::{AllocError, Global};
@@ -18,13 +18,12 @@ pub(crate) fn has_valid_sides(
     rules: &CompleteRules<'_>,
     r: Requirement,
 ) -> Result<bool, AllocError>
-    requires setting { IsSetting setting.now }
-    requires r { IsRequirementIn setting.now.table.now setting.now.world.now.lexicon r }
+    requires { IsRequirementOfText setting.now.checked.text r }
     ensures { IfOk result (λ b.
-        IsTrue b ↔ AreShownBy setting.now rules.now (requirement_of setting.now.table.now r)) }
+        IsTrue b ↔ AreShownBy setting.now rules.now (says_in setting.now r)) }
 {
     let over = Over::Signature(setting.params);
-    is_usable(alloc, setting.world, setting.table, rules, over, r)
+    is_usable(alloc, &setting.checked.text, rules, over, r)
 }
 
 /// Whether a requirement is derivable from a list with these rules: whether its type parameters are valid, and the rules link the two sides of
@@ -35,16 +34,15 @@ pub fn is_derivable_by(
     rules: &CompleteRules<'_>,
     r: Requirement,
 ) -> Result<bool, AllocError>
-    requires setting { IsSetting setting.now }
-    requires r { IsRequirementIn setting.now.table.now setting.now.world.now.lexicon r }
+    requires { IsRequirementOfText setting.now.checked.text r }
     ensures { (list : List TermRequirement) → AreRulesOfList setting.now list rules.now
         → IfOk result (λ b. IsTrue b ↔ Derivable (facts_in setting.now) (source_in setting.now list)
-        (Requires (requirement_of setting.now.table.now r))) }
+        (Requires (says_in setting.now r))) }
 {
     let valid = has_valid_sides(alloc, setting, rules, r)?;
     if !valid {
         return Ok(false);
     }
-    let sides = equation(alloc, setting.world, setting.table, None, &r)?;
+    let sides = equation(alloc, &setting.checked.text, None, &r)?;
     are_linked(alloc, rules, &sides.0, &sides.1)
 }

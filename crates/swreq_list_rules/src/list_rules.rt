@@ -1,8 +1,8 @@
 //! The rules of a list.
 ghost use Rattle.std.specs.Prelude.{◌≡◌, ◌↔◌, ◌++◌, [], IfOk, IsTrue, List, Contains};
-ghost use Rattle.swreq_machine.specs.swreq_derive.{Derivation.{Derivable, TermRequirement}, Derivation.TermStatement.{Requires}, Facts.{requirement_of}};
-ghost use Rattle.swreq_machine.specs.swreq_symbols.Known.{IsRequirementIn};
-ghost use Rattle.swreq_list_rules.specs.{ListRules.{AreOfList}, Settings.{AreKnownIn, IsSetting, facts_in, said_in, source_in}};
+ghost use Rattle.swreq_machine.specs.swreq_derive.{Derivation.{Derivable, TermRequirement}, Derivation.TermStatement.{Requires}};
+ghost use Rattle.swreq_machine.specs.swreq_symbols.Texts.{IsRequirementOfText};
+ghost use Rattle.swreq_list_rules.specs.{ListRules.{AreOfList}, Settings.{AreKnownIn, facts_in, said_in, says_in, source_in}};
 
 use crate::derivable::is_derivable_by;
 use crate::setting::Setting;
@@ -38,10 +38,9 @@ impl<'b> ListRules<'b> {
 
     /// The rules of the list without members.
     pub fn empty(alloc: Global, setting: &Setting<'b>) -> Result<ListRules<'b>, AllocError>
-        requires { IsSetting setting.now }
         ensures { IfOk result (AreOfList setting.entry.now []) }
     {
-        let rules = setting.protocols.rules().over(alloc)?;
+        let rules = setting.checked.protocols.rules().over(alloc)?;
         Ok(ListRules {
             rules,
             waiting: Vec::new(alloc),
@@ -66,7 +65,6 @@ impl<'b> ListRules<'b> {
         setting: &Setting<'_>,
         more: &[Requirement],
     ) -> Result<ListRules<'b>, Failed>
-        requires setting { IsSetting setting.now }
         requires waiting { AreKnownIn setting.now self.waiting }
         requires more { AreKnownIn setting.now more.now }
         ensures { (list : List TermRequirement) → AreOfList setting.now list self.entry
@@ -84,11 +82,10 @@ impl<'b> ListRules<'b> {
         setting: &Setting<'_>,
         r: Requirement,
     ) -> Result<bool, AllocError>
-        requires setting { IsSetting setting.now }
-        requires r { IsRequirementIn setting.now.table.now setting.now.world.now.lexicon r }
+        requires { IsRequirementOfText setting.now.checked.text r }
         ensures { (list : List TermRequirement) → AreOfList setting.now list self.now
             → IfOk result (λ b. IsTrue b ↔ Derivable (facts_in setting.now)
-            (source_in setting.now list) (Requires (requirement_of setting.now.table.now r))) }
+            (source_in setting.now list) (Requires (says_in setting.now r))) }
     {
         is_derivable_by(alloc, setting, &self.rules, r)
     }

@@ -1,16 +1,12 @@
 //! What lists are asked over.
 use swreq_machine::complete::Limits;
 use swreq_machine::derive::Params;
-use swreq_machine::param::ParamTable;
-use swreq_machine::valid::Protocols;
-use swreq_machine::world::World;
+use swreq_machine::valid::CheckedText;
 
 /// A text with the rules of its protocols, the generic parameters of its lists, and the limits of their completions.
-#[derive(Clone, Copy)]
+#[derive(Drop)]
 pub struct Setting<'a> {
-    pub world: &'a World,
-    pub table: &'a ParamTable,
-    pub protocols: &'a Protocols,
+    pub checked: CheckedText<'a, 'a>,
     pub params: Params,
     pub limits: Limits,
 }

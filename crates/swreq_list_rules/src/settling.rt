@@ -1,8 +1,8 @@
 //! Members of a list that become usable join its rules.
 ghost use Rattle.std.specs.Prelude.{◌≡◌, ◌<◌, IfOk, List, Contains, MatchOption, get_or, length};
-ghost use Rattle.swreq_machine.specs.swreq_derive.{declared.requirements.Requirement.{Requirement}, Derivation.{TermRequirement}, Facts.{requirement_of}};
-ghost use Rattle.swreq_machine.specs.swreq_symbols.Known.{IsRequirementIn};
-ghost use Rattle.swreq_list_rules.specs.{ListRules.{AreCompletedBy, AreOfList, AreShownBy, AreUnderway}, Settings.{AreKnownIn, IsSetting}};
+ghost use Rattle.swreq_machine.specs.swreq_derive.{declared.requirements.Requirement.{Requirement}, Derivation.{TermRequirement}};
+ghost use Rattle.swreq_machine.specs.swreq_symbols.Texts.{IsRequirementOfText};
+ghost use Rattle.swreq_list_rules.specs.{ListRules.{AreCompletedBy, AreOfList, AreShownBy, AreUnderway}, Settings.{AreKnownIn, says_in}};
 
 use crate::derivable::has_valid_sides;
 use crate::list_rules::ListRules;
@@ -20,13 +20,12 @@ fn first_usable(
     rules: &CompleteRules<'_>,
     waiting: &[Requirement],
 ) -> Result<Option<usize>, AllocError>
-    requires setting { IsSetting setting.now }
-    requires waiting { AreKnownIn setting.now waiting.now }
+    requires { AreKnownIn setting.now waiting.now }
     ensures { IfOk result (λ o. MatchOption o
         ((r : Requirement) → Contains waiting.now r
-        → AreShownBy setting.now rules.now (requirement_of setting.now.table.now r) → ⊥)
+        → AreShownBy setting.now rules.now (says_in setting.now r) → ⊥)
         (λ k. (k < length waiting.now) × ((r : Requirement) → get_or waiting.now k r ≡ r
-        → AreShownBy setting.now rules.now (requirement_of setting.now.table.now r)))) }
+        → AreShownBy setting.now rules.now (says_in setting.now r)))) }
 {
     for k in 0..waiting.len() {
         if has_valid_sides(alloc, setting, rules, waiting[k])? {
@@ -43,12 +42,11 @@ fn completed_by<'b>(
     rules: CompleteRules<'b>,
     r: Requirement,
 ) -> Result<CompleteRules<'b>, Failed>
-    requires setting { IsSetting setting.now }
-    requires r { IsRequirementIn setting.now.table.now setting.now.world.now.lexicon r }
+    requires { IsRequirementOfText setting.now.checked.text r }
     ensures { IfOk result
-        (AreCompletedBy setting.now (requirement_of setting.now.table.now r) rules.entry) }
+        (AreCompletedBy setting.now (says_in setting.now r) rules.entry) }
 {
-    let sides = equation(alloc, setting.world, setting.table, None, &r)?;
+    let sides = equation(alloc, &setting.checked.text, None, &r)?;
     extend(alloc, rules, &[sides], setting.limits, &mut Quiet)
 }
 
@@ -60,8 +58,7 @@ pub(crate) fn settle<'b>(
     rules: CompleteRules<'b>,
     waiting: Vec<Requirement>,
 ) -> Result<ListRules<'b>, Failed>
-    requires setting { IsSetting setting.now }
-    requires waiting { AreKnownIn setting.now waiting.items }
+    requires { AreKnownIn setting.now waiting.items }
     ensures { (list added : List TermRequirement)
         → AreUnderway setting.now list added rules.entry waiting.items
         → IfOk result (AreOfList setting.now list) }

@@ -13,7 +13,7 @@ use Rattle.swreq_valid.specs.swreq_lowering.declared.ids.FuncId.{FuncId}
 use Rattle.swreq_valid.specs.swreq_lowering.declared.ids.Written.{Written}
 use Rattle.swreq_valid.specs.swreq_lowering.Requirements.{PlacedRequirement}
 use Rattle.swreq_valid.specs.swreq_world.ByTable.{world_by}
-use Rattle.swreq_valid.specs.swreq_world.FactsAt.{source_of, written_list}
+use Rattle.swreq_valid.specs.swreq_world.FactsAt.{written_list}
 use Rattle.swreq_valid.specs.swreq_world.Worlds.{IdWorld, SignatureOver, signature_at}
 use Rattle.swreq_valid.proofs.swreq_symbols.OfText.{requirements_placed, signature_is, signature_written}
 use Rattle.swreq_valid.specs.swreq_symbols.Known.{IsTextOver}

@@ -1,8 +1,9 @@
 -- What is asked of a machine.
-use Rattle.std.specs.Prelude.{ℕ, List}
+use Rattle.std.specs.Prelude.{◌+◌, ◌*◌, ◌≤◌, ℕ, List}
 use Rattle.swreq_valid.specs.swreq_param.declared.ids.ParamId.{ParamId}
 use Rattle.swreq_valid.specs.swreq_param.declared.ids.Step.{Step}
-use Rattle.swreq_valid.specs.swreq_param.Terms.{Term}
+use Rattle.swreq_valid.specs.swreq_param.declared.ids.TermId.{TermId}
+use Rattle.swreq_valid.specs.swreq_param.Terms.{Term, member_count}
 use Rattle.swreq_valid.specs.swreq_derive.Derivation.{Derivable, TermRequirement, TermStatement}
 use Rattle.swreq_valid.specs.swreq_derive.Derivation.Source.{Written}
 use Rattle.swreq_valid.specs.swreq_derive.Facts.{generic_params}
@@ -14,7 +15,9 @@ use Rattle.swreq_valid.specs.swreq_correspondence.Shown.{ShowsValid}
 use Rattle.swreq_valid.specs.swreq_correspondence.Symbols.{Word, word_of}
 use Rattle.swreq_valid.specs.swreq_symbols.Meaning.{facts_of, symbols_of}
 use Rattle.swreq_valid.specs.swreq_symbols.Overs.{source_over}
+use Rattle.swreq_valid.specs.swreq_symbols.Texts.{IsTypeOfText, term_of}
 use Rattle.swreq_valid.specs.swreq_symbols.declared.over.Over.TheVariants.{Signature}
+use Rattle.swreq_valid.specs.swreq_symbols.declared.text.Text.{Text}
 use Rattle.swreq_map.specs.Properties.{Vanishes}
 use Rattle.swreq_valid.specs.swreq_symbols.Vanishing.{IsLeastBy, Links}
 use Rattle.swreq_valid.specs.swreq_world.Worlds.{TextWorld}
@@ -27,6 +30,11 @@ pub record ScratchView : Type 0 where
   pub head : ParamId
   pub steps : List Step
   pub word : List Symbol
+
+-- The type parameter is of the text, and the scratch has room for it: for four times as many symbols as it has members, and eight.
+pub record HasRoomFor (text : Text) (s : ScratchView) (t : TermId) : Type 0 where
+  pub of_text : IsTypeOfText text t
+  pub room : 4 * (member_count (term_of text t) + 2) ≤ s.room
 
 -- The statement is derivable from the list with the generic parameters of the machine.
 abbrev pub IsDerivable : TextWorld → MachineView → List TermRequirement → TermStatement → Type 0

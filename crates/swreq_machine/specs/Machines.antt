@@ -16,6 +16,7 @@ use Rattle.swreq_valid.specs.Rounds.{RoundView, last_rules}
 use Rattle.swreq_valid.specs.swreq_param.Terms.{Term}
 use Rattle.swreq_valid.specs.swreq_derive.declared.requirements.Requirement.{Requirement}
 use Rattle.swreq_valid.specs.swreq_world.ByTable.{world_by}
+use Rattle.swreq_valid.specs.Checked.{CheckedView, base_of}
 use Rattle.swreq_valid.specs.Plans.{listed}
 use Rattle.swreq_valid.specs.declared.refused.Refused.{Refused}
 
@@ -46,3 +47,7 @@ list_of w rules params list = list_plan (symbols_of w.lexicon) (facts_of w) rule
 -- the rounds of a list over the ids of a table, over the rules of the protocols
 abbrev pub machine_plan : List Term → IdWorld → List Rule → Params → List Requirement → Plan
 machine_plan terms w rules params list = list_of (world_by terms w) rules params (listed terms list)
+
+-- the rounds of a list over a text whose protocols are checked
+abbrev pub plan_over : CheckedView → Params → List Requirement → Plan
+plan_over c params list = machine_plan c.text.table.now c.text.world.now (base_of c) params list

@@ -1,21 +1,19 @@
 //! The answers of a machine, which take no memory but for the room of a scratch.
 
-ghost use Rattle.std.specs.{Prelude.{◌≡◌, ◌↔◌, ◌+◌, ◌*◌, ◌≤◌, IfOk, IsTrue, List, vec_capacity, vec_len}, Bool.{OnTrue}};
-ghost use Rattle.swreq_valid.specs.swreq_param.{Tables.{term_at}, Terms.{member_count}};
+ghost use Rattle.std.specs.{Prelude.{◌≡◌, ◌↔◌, ◌+◌, ◌≤◌, IfOk, IsTrue, List, vec_capacity, vec_len}, Bool.{OnTrue}};
+ghost use Rattle.swreq_valid.specs.swreq_param.Terms.{member_count};
 ghost use Rattle.swreq_valid.specs.swreq_derive.{Derivation.{TermRequirement}, Derivation.TermRequirement.{Conforms, Equals, IsAnyObject}, Derivation.TermStatement.{IsValid, Requires}, Facts.{requirement_of}};
-ghost use Rattle.swreq_valid.specs.swreq_symbols.{Known.{IsRequirementIn, IsTextOver, IsTypeIn}, Texts.{world_of, term_of, IsTypeOfText}};
-ghost use Rattle.swreq_valid.specs.swreq_world.ByTable.{world_by};
-ghost use Rattle.swreq_machine.specs.{Asked.{IsBehind, IsDerivable, IsLeastWord, IsShownBy}, Having.{TellsIfEqual}, Machines.{IsMachineOf}};
+ghost use Rattle.swreq_valid.specs.swreq_symbols.{Texts.{IsRequirementOfText, IsTypeOfText, term_of, world_of}};
+ghost use Rattle.swreq_machine.specs.{Asked.{HasRoomFor, IsBehind, IsDerivable, IsLeastWord, IsShownBy}, Having.{TellsIfEqual}, Machines.{IsMachineOf}};
 
 use crate::machine::Machine;
 use crate::scratch::Scratch;
 use std::alloc::{AllocError, Global};
 use swreq_map::vanishes;
 use swreq_valid::derive::Requirement;
-use swreq_valid::param::{ParamTable, ProtoId, TermId};
+use swreq_valid::param::{ProtoId, TermId};
 use swreq_valid::symbols::{Over, Reading, Text, least_word};
 use swreq_valid::word::Symbol;
-use swreq_valid::world::World;
 
 impl Machine<'_> {
     /// Whether the rules show that a type is valid. Where they do, `word` becomes its least word. Both lists of symbols keep their room.
@@ -47,44 +45,31 @@ impl Machine<'_> {
     }
 
     /// Whether a type is a type parameter: whether it is derivable from the list of the machine that it is valid.
-    pub fn is_valid(
-        &self,
-        world: &World,
-        table: &ParamTable,
-        subject: TermId,
-        scratch: &mut Scratch,
-    ) -> bool
-        requires text { IsTextOver table.now world.now }
-        requires t { IsTypeIn table.now world.now.lexicon subject }
-        requires room { 4 * (member_count (term_at table.now subject) + 2) ≤ scratch.old.room }
+    pub fn is_valid(&self, text: &Text<'_>, subject: TermId, scratch: &mut Scratch) -> bool
+        requires { HasRoomFor text.now scratch.old subject }
         ensures answer { (list : List TermRequirement)
-            → IsMachineOf (world_by table.now world.now) list self.now
-            → IsTrue result ↔ IsDerivable (world_by table.now world.now) self.now list
-            (IsValid (term_at table.now subject)) }
+            → IsMachineOf (world_of text.now) list self.now
+            → IsTrue result ↔ IsDerivable (world_of text.now) self.now list
+            (IsValid (term_of text.now subject)) }
         ensures room { scratch.new.room ≡ scratch.old.room }
     {
-        let text = Text { world, table };
-        self.walk(&text, subject, &mut scratch.word, &mut scratch.test)
+        self.walk(text, subject, &mut scratch.word, &mut scratch.test)
     }
 
     /// Whether a type is valid, and this symbol vanishes after its word.
     fn is_behind(
         &self,
-        world: &World,
-        table: &ParamTable,
+        text: &Text<'_>,
         subject: TermId,
         symbol: Symbol,
         scratch: &mut Scratch,
     ) -> bool
-        requires text { IsTextOver table.now world.now }
-        requires t { IsTypeIn table.now world.now.lexicon subject }
-        requires room { 4 * (member_count (term_at table.now subject) + 2) ≤ scratch.old.room }
+        requires { HasRoomFor text.now scratch.old subject }
         ensures answer { IsTrue result
-            ↔ IsBehind (world_by table.now world.now) self.now (term_at table.now subject) symbol }
+            ↔ IsBehind (world_of text.now) self.now (term_of text.now subject) symbol }
         ensures room { scratch.new.room ≡ scratch.old.room }
     {
-        let text = Text { world, table };
-        if self.walk(&text, subject, &mut scratch.word, &mut scratch.test) {
+        if self.walk(text, subject, &mut scratch.word, &mut scratch.test) {
             vanishes(self.rules(), &scratch.word, symbol, &mut scratch.test)
         } else {
             false
@@ -94,42 +79,31 @@ impl Machine<'_> {
     /// Whether `[subject : protocol]` is derivable from the list of the machine.
     pub fn conforms(
         &self,
-        world: &World,
-        table: &ParamTable,
+        text: &Text<'_>,
         subject: TermId,
         protocol: ProtoId,
         scratch: &mut Scratch,
     ) -> bool
-        requires text { IsTextOver table.now world.now }
-        requires t { IsTypeIn table.now world.now.lexicon subject }
-        requires room { 4 * (member_count (term_at table.now subject) + 2) ≤ scratch.old.room }
+        requires { HasRoomFor text.now scratch.old subject }
         ensures answer { (list : List TermRequirement)
-            → IsMachineOf (world_by table.now world.now) list self.now
-            → IsTrue result ↔ IsDerivable (world_by table.now world.now) self.now list
-            (Requires (Conforms (term_at table.now subject) protocol)) }
+            → IsMachineOf (world_of text.now) list self.now
+            → IsTrue result ↔ IsDerivable (world_of text.now) self.now list
+            (Requires (Conforms (term_of text.now subject) protocol)) }
         ensures room { scratch.new.room ≡ scratch.old.room }
     {
-        self.is_behind(world, table, subject, Symbol::Proto(protocol.rank), scratch)
+        self.is_behind(text, subject, Symbol::Proto(protocol.rank), scratch)
     }
 
     /// Whether `[subject : AnyObject]` is derivable from the list of the machine.
-    pub fn any_object(
-        &self,
-        world: &World,
-        table: &ParamTable,
-        subject: TermId,
-        scratch: &mut Scratch,
-    ) -> bool
-        requires text { IsTextOver table.now world.now }
-        requires t { IsTypeIn table.now world.now.lexicon subject }
-        requires room { 4 * (member_count (term_at table.now subject) + 2) ≤ scratch.old.room }
+    pub fn any_object(&self, text: &Text<'_>, subject: TermId, scratch: &mut Scratch) -> bool
+        requires { HasRoomFor text.now scratch.old subject }
         ensures answer { (list : List TermRequirement)
-            → IsMachineOf (world_by table.now world.now) list self.now
-            → IsTrue result ↔ IsDerivable (world_by table.now world.now) self.now list
-            (Requires (IsAnyObject (term_at table.now subject))) }
+            → IsMachineOf (world_of text.now) list self.now
+            → IsTrue result ↔ IsDerivable (world_of text.now) self.now list
+            (Requires (IsAnyObject (term_of text.now subject))) }
         ensures room { scratch.new.room ≡ scratch.old.room }
     {
-        self.is_behind(world, table, subject, Symbol::Layout, scratch)
+        self.is_behind(text, subject, Symbol::Layout, scratch)
     }
 
     /// Whether two types are equal; None if and only if one of them is not valid.
@@ -140,17 +114,13 @@ impl Machine<'_> {
         right: TermId,
         scratch: &mut Scratch,
     ) -> Option<bool>
-        requires a { IsTypeIn text.now.table.now text.now.world.now.lexicon left }
-        requires b { IsTypeIn text.now.table.now text.now.world.now.lexicon right }
-        requires room_a { 4 * (member_count (term_at text.now.table.now left) + 2)
-            ≤ scratch.old.room }
-        requires room_b { 4 * (member_count (term_at text.now.table.now right) + 2)
-            ≤ scratch.old.room }
+        requires left { HasRoomFor text.now scratch.old left }
+        requires right { HasRoomFor text.now scratch.old right }
         ensures answer { (list : List TermRequirement)
             → IsMachineOf (world_of text.now) list self.now
             → TellsIfEqual (IsDerivable (world_of text.now) self.now list)
-            (term_at text.now.table.now left)
-            (term_at text.now.table.now right) result }
+            (term_of text.now left)
+            (term_of text.now right) result }
         ensures room { scratch.new.room ≡ scratch.old.room }
     {
         if !self.walk(text, left, &mut scratch.word, &mut scratch.test) {
@@ -163,28 +133,17 @@ impl Machine<'_> {
     }
 
     /// Whether `[left == right]` is derivable from the list of the machine.
-    pub fn equal(
-        &self,
-        world: &World,
-        table: &ParamTable,
-        left: TermId,
-        right: TermId,
-        scratch: &mut Scratch,
-    ) -> bool
-        requires text { IsTextOver table.now world.now }
-        requires a { IsTypeIn table.now world.now.lexicon left }
-        requires b { IsTypeIn table.now world.now.lexicon right }
-        requires room_a { 4 * (member_count (term_at table.now left) + 2) ≤ scratch.old.room }
-        requires room_b { 4 * (member_count (term_at table.now right) + 2) ≤ scratch.old.room }
+    pub fn equal(&self, text: &Text<'_>, left: TermId, right: TermId, scratch: &mut Scratch) -> bool
+        requires left { HasRoomFor text.now scratch.old left }
+        requires right { HasRoomFor text.now scratch.old right }
         ensures answer { (list : List TermRequirement)
-            → IsMachineOf (world_by table.now world.now) list self.now
-            → IsTrue result ↔ IsDerivable (world_by table.now world.now) self.now list
-            (Requires (Equals (term_at table.now left)
-            (term_at table.now right))) }
+            → IsMachineOf (world_of text.now) list self.now
+            → IsTrue result ↔ IsDerivable (world_of text.now) self.now list
+            (Requires (Equals (term_of text.now left)
+            (term_of text.now right))) }
         ensures room { scratch.new.room ≡ scratch.old.room }
     {
-        let text = Text { world, table };
-        match self.are_equal(&text, left, right, scratch) {
+        match self.are_equal(text, left, right, scratch) {
             Some(equal) => equal,
             None => false,
         }
@@ -197,7 +156,7 @@ impl Machine<'_> {
         text: &Text<'_>,
         requirement: Requirement,
     ) -> Result<bool, AllocError>
-        requires r { IsRequirementIn text.now.table.now text.now.world.now.lexicon requirement }
+        requires { IsRequirementOfText text.now requirement }
         ensures { IfOk result
             (λ b. (list : List TermRequirement) → IsMachineOf (world_of text.now) list self.now
             → IsTrue b ↔ IsDerivable (world_of text.now) self.now list
@@ -206,15 +165,15 @@ impl Machine<'_> {
         match requirement {
             Requirement::Conf { subject, proto } => {
                 let mut s = Scratch::for_type(alloc, text.table, subject)?;
-                Ok(self.conforms(text.world, text.table, subject, proto, &mut s))
+                Ok(self.conforms(text, subject, proto, &mut s))
             }
             Requirement::Layout { subject } => {
                 let mut s = Scratch::for_type(alloc, text.table, subject)?;
-                Ok(self.any_object(text.world, text.table, subject, &mut s))
+                Ok(self.any_object(text, subject, &mut s))
             }
             Requirement::Same { left, right } => {
                 let mut s = Scratch::for_types(alloc, text.table, left, right)?;
-                Ok(self.equal(text.world, text.table, left, right, &mut s))
+                Ok(self.equal(text, left, right, &mut s))
             }
         }
     }

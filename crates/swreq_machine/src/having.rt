@@ -1,12 +1,10 @@
 //! What the property map of the rules of a machine answers of a type parameter, without memory.
 
-ghost use Rattle.std.specs.Prelude.{◌≡◌, ◌↔◌, ◌+◌, ◌*◌, ◌≤◌, IsTrue, List, MatchOption};
-ghost use Rattle.swreq_valid.specs.swreq_param.{Tables.{term_at}, Terms.{member_count}};
+ghost use Rattle.std.specs.Prelude.{◌≡◌, ◌↔◌, IsTrue, List, MatchOption};
 ghost use Rattle.swreq_valid.specs.swreq_derive.Derivation.{TermRequirement};
 ghost use Rattle.swreq_map.specs.{Follows.{IsMapOf}, Properties.{IsProperty}};
-ghost use Rattle.swreq_valid.specs.swreq_symbols.Known.{IsTypeIn};
-ghost use Rattle.swreq_valid.specs.swreq_world.ByTable.{world_by};
-ghost use Rattle.swreq_machine.specs.{Asked.{IsBehind, IsDerivable, IsShownBy}, Having.{IsBelow, TellsIfHas, symbol_of}, Machines.{IsMachineOf}};
+ghost use Rattle.swreq_valid.specs.swreq_symbols.Texts.{term_of, world_of};
+ghost use Rattle.swreq_machine.specs.{Asked.{HasRoomFor, IsBehind, IsDerivable, IsShownBy}, Having.{IsBelow, TellsIfHas, symbol_of}, Machines.{IsMachineOf}};
 ghost use Rattle.swreq_valid.specs.Rounds.{last_rules};
 
 use crate::machine::Machine;
@@ -47,17 +45,13 @@ impl Machine<'_> {
         x: Symbol,
         scratch: &mut Scratch,
     ) -> Option<bool>
-        requires t { IsTypeIn text.now.table.now text.now.world.now.lexicon t }
+        requires t { HasRoomFor text.now scratch.old t }
         requires map { IsMapOf (last_rules self.now.rounds) map.now }
         requires property { IsProperty map.now.protocols x }
-        requires room { 4 * (member_count (term_at text.now.table.now t) + 2) ≤ scratch.old.room }
         ensures answer { MatchOption result
-            (IsShownBy (world_by text.now.table.now text.now.world.now) self.now
-            (term_at text.now.table.now t) → ⊥)
-            (λ b. IsShownBy (world_by text.now.table.now text.now.world.now) self.now
-            (term_at text.now.table.now t)
-            × (IsTrue b ↔ IsBehind (world_by text.now.table.now text.now.world.now) self.now
-            (term_at text.now.table.now t) x)) }
+            (IsShownBy (world_of text.now) self.now (term_of text.now t) → ⊥)
+            (λ b. IsShownBy (world_of text.now) self.now (term_of text.now t)
+            × (IsTrue b ↔ IsBehind (world_of text.now) self.now (term_of text.now t) x)) }
         ensures room { scratch.new.room ≡ scratch.old.room }
     {
         if self.walk(text, t, &mut scratch.word, &mut scratch.test) {
@@ -76,14 +70,13 @@ impl Machine<'_> {
         property: Property,
         scratch: &mut Scratch,
     ) -> Option<bool>
-        requires t { IsTypeIn text.now.table.now text.now.world.now.lexicon t }
+        requires t { HasRoomFor text.now scratch.old t }
         requires map { IsMapOf (last_rules self.now.rounds) map.now }
         requires property { IsBelow map.now.protocols property }
-        requires room { 4 * (member_count (term_at text.now.table.now t) + 2) ≤ scratch.old.room }
         ensures answer { (list : List TermRequirement)
-            → IsMachineOf (world_by text.now.table.now text.now.world.now) list self.now
-            → TellsIfHas (IsDerivable (world_by text.now.table.now text.now.world.now) self.now
-            list) (term_at text.now.table.now t) property result }
+            → IsMachineOf (world_of text.now) list self.now
+            → TellsIfHas (IsDerivable (world_of text.now) self.now list)
+            (term_of text.now t) property result }
         ensures room { scratch.new.room ≡ scratch.old.room }
     {
         self.vanishing(text, map, t, property.symbol(), scratch)

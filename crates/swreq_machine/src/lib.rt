@@ -93,5 +93,5 @@ pub mod symbols {
 
 /// What the crates above use of `swreq_valid`.
 pub mod valid {
-    pub use swreq_valid::{Protocols, Refused, Rounds, are_linked, is_usable};
+    pub use swreq_valid::{CheckedText, Protocols, Refused, Rounds, are_linked, is_usable};
 }

@@ -1,19 +1,16 @@
 //! Machines of lists.
 ghost use Rattle.std.specs.Prelude.{◌≡◌, map, IfOk};
-ghost use Rattle.swreq_valid.specs.swreq_symbols.Known.{IsTextOver};
-ghost use Rattle.swreq_valid.specs.swreq_world.ByTable.{world_by};
-ghost use Rattle.swreq_valid.specs.{Answers.{Answers, IsOnlyOutcome}, Protocols.{AreRulesOf}, Plans.{AreKnown, in_signature, listed}, Rounds.{AreRounds, last_rules}};
-ghost use Rattle.swreq_machine.specs.Machines.{IsMachineOf, machine_plan, machine_rules};
+ghost use Rattle.swreq_valid.specs.swreq_symbols.Texts.{world_of};
+ghost use Rattle.swreq_valid.specs.{Answers.{Answers, IsOnlyOutcome}, Plans.{AreRequirementsOfText, in_signature, listed}, Rounds.{AreRounds, last_rules}};
+ghost use Rattle.swreq_machine.specs.Machines.{IsMachineOf, machine_rules, plan_over};
 
 use std::alloc::{AllocError, Global};
 use std::marker::Model;
 use swreq_valid::complete::{CompleteRules, Failed, Limits};
 use swreq_valid::derive::{Params, Requirement};
-use swreq_valid::param::ParamTable;
 use swreq_valid::symbols::Over;
 use swreq_valid::watch::Watch;
-use swreq_valid::world::World;
-use swreq_valid::{Protocols, RoundRequirement, RoundStart, Rounds, run_rounds};
+use swreq_valid::{CheckedText, RoundRequirement, RoundStart, Rounds, run_rounds};
 
 /// The machine of a list: its generic parameters, and the rounds that found its rules. It borrows the rules of the protocols.
 #[derive(Drop)]
@@ -85,33 +82,27 @@ fn in_signature(
 /// round.
 pub fn core<'b, W: Watch>(
     alloc: Global,
-    world: &World,
-    table: &ParamTable,
-    protocols: &'b Protocols,
+    checked: &CheckedText<'_, 'b>,
     params: Params,
     list: &[Requirement],
     limits: Limits,
     watch: &mut W,
 ) -> Result<Machine<'b>, Failed>
-    requires text { IsTextOver table.now world.now }
-    requires protocols { AreRulesOf (world_by table.now world.now)
-        (last_rules protocols.now.rounds) }
-    requires list { AreKnown table.now world.now.lexicon list.now }
-    ensures answer { Answers limits
-        (machine_plan table.now world.now (last_rules protocols.entry.now.rounds) params list.now)
+    requires { AreRequirementsOfText checked.now.text list.now }
+    ensures answer { Answers limits (plan_over checked.now params list.now)
         (W.told watch.old) (W.told watch.new) (machine_rules result) }
-    ensures only { IsOnlyOutcome limits
-        (machine_plan table.now world.now (last_rules protocols.entry.now.rounds) params list.now)
+    ensures only { IsOnlyOutcome limits (plan_over checked.now params list.now)
         (machine_rules result) }
-    ensures rounds { IfOk result (λ m. AreRounds limits (machine_plan table.now world.now
-        (last_rules protocols.entry.now.rounds) params list.now) m.rounds) }
+    ensures rounds { IfOk result
+        (λ m. AreRounds limits (plan_over checked.now params list.now) m.rounds) }
     ensures machine { IfOk result
-        (IsMachineOf (world_by table.now world.now) (listed table.now list.now)) }
+        (IsMachineOf (world_of checked.now.text) (listed checked.now.text.table.now list.now)) }
     ensures params { IfOk result (λ m. m.params ≡ params) }
 {
     let all = in_signature(alloc, params, list)?;
     let basic = Vec::new(alloc);
     let start = RoundStart { basic, all, limits };
-    let rounds = run_rounds(alloc, world, table, Some(protocols.rules()), &start, watch)?;
+    let below = checked.protocols.rules();
+    let rounds = run_rounds(alloc, &checked.text, Some(below), &start, watch)?;
     Ok(Machine::new(params, rounds))
 }

@@ -1,18 +1,17 @@
 //! The reduced type of a type parameter, without memory.
 
-ghost use Rattle.std.specs.Prelude.{◌≡◌, ◌↔◌, ◌+◌, ◌*◌, ◌≤◌, ◌<◌, ◌++◌, ◌∷◌, [], ℕ, IsTrue, List, length, vec_capacity, vec_len, MatchOption};
-ghost use Rattle.swreq_valid.specs.swreq_param.{declared.ids.AssocId.{AssocId}, declared.ids.Step.TheVariants.{Bound}, Tables.{term_at}, Terms.{Term, head, member_count, with_steps}, Terms.Term.{Generic}};
+ghost use Rattle.std.specs.Prelude.{◌≡◌, ◌↔◌, ◌+◌, ◌≤◌, ◌<◌, ◌++◌, ◌∷◌, [], ℕ, IsTrue, List, length, vec_capacity, vec_len, MatchOption};
+ghost use Rattle.swreq_valid.specs.swreq_param.{declared.ids.AssocId.{AssocId}, declared.ids.Step.TheVariants.{Bound}, Terms.{Term, head, with_steps}, Terms.Term.{Generic}};
 ghost use Rattle.swreq_valid.specs.swreq_derive.{Derivation.{TermRequirement}, Derivation.TermStatement.{IsValid}};
 ghost use Rattle.swreq_map.specs.swreq_word.{declared.symbols.Symbol.{Symbol}, declared.symbols.Symbol.TheVariants.{Member as MemberSymbol, Param}};
 ghost use Rattle.swreq_valid.specs.swreq_correspondence.Symbols.{IsRank, name_of};
-ghost use Rattle.swreq_valid.specs.swreq_world.ByTable.{world_by};
-ghost use Rattle.swreq_valid.specs.swreq_symbols.{Known.{IsTextOver, IsTypeIn}, Meaning.{symbols_of}, Texts.{world_of}, Vanishing.{IsFirstBehind, IsLeastBy}};
-ghost use Rattle.swreq_machine.specs.{Asked.{IsDerivable, IsLeastOf, IsReducedIn}, LeastTypes.{BeginsBy}, Machines.{IsMachineOf}};
+ghost use Rattle.swreq_valid.specs.swreq_symbols.{Meaning.{symbols_of}, Texts.{term_of, world_of}, Vanishing.{IsFirstBehind, IsLeastBy}};
+ghost use Rattle.swreq_machine.specs.{Asked.{HasRoomFor, IsDerivable, IsLeastOf, IsReducedIn}, LeastTypes.{BeginsBy}, Machines.{IsMachineOf}};
 
 use crate::machine::Machine;
 use crate::scratch::Scratch;
 use swreq_valid::complete::CompleteRules;
-use swreq_valid::param::{NameId, ParamId, ParamTable, Step, TermId};
+use swreq_valid::param::{NameId, ParamId, Step, TermId};
 use swreq_valid::symbols::{Text, first_behind, name_at};
 use swreq_valid::word::Symbol;
 use swreq_valid::world::World;
@@ -131,24 +130,22 @@ fn head_of(word: &[Symbol]) -> ParamId
 impl Machine<'_> {
     /// Whether a type is valid. Where it is, its reduced type and the least word congruent to its word are left in the scratch.
     pub fn reduce(&self, text: &Text<'_>, subject: TermId, scratch: &mut Scratch) -> bool
-        requires t { IsTypeIn text.now.table.now text.now.world.now.lexicon subject }
-        requires room { 4 * (member_count (term_at text.now.table.now subject) + 2)
-            ≤ scratch.old.room }
+        requires { HasRoomFor text.now scratch.old subject }
         ensures valid { (list : List TermRequirement)
             → IsMachineOf (world_of text.now) list self.now
             → IsTrue result ↔ IsDerivable (world_of text.now) self.now list
-            (IsValid (term_at text.now.table.now subject)) }
+            (IsValid (term_of text.now subject)) }
         ensures reduced { (list : List TermRequirement)
             → IsMachineOf (world_of text.now) list self.now
             → IsDerivable (world_of text.now) self.now list
-            (IsValid (term_at text.now.table.now subject))
-            → IsReducedIn (world_of text.now) self.now list (term_at text.now.table.now subject)
+            (IsValid (term_of text.now subject))
+            → IsReducedIn (world_of text.now) self.now list (term_of text.now subject)
             (with_steps (Generic scratch.new.head) scratch.new.steps) }
         ensures word { (list : List TermRequirement) → IsMachineOf (world_of text.now) list self.now
             → IsDerivable (world_of text.now) self.now list
-            (IsValid (term_at text.now.table.now subject))
+            (IsValid (term_of text.now subject))
             → IsLeastOf (world_of text.now) self.now list
-            (term_at text.now.table.now subject) scratch.new.word }
+            (term_of text.now subject) scratch.new.word }
         ensures room { scratch.new.room ≡ scratch.old.room }
     {
         let rules = self.rules();
@@ -168,25 +165,22 @@ impl Machine<'_> {
     }
 
     /// Leaves the reduced type of a valid type, and the least word congruent to its word, in the scratch.
-    pub fn reduced(&self, world: &World, table: &ParamTable, subject: TermId, scratch: &mut Scratch)
-        requires text { IsTextOver table.now world.now }
-        requires t { IsTypeIn table.now world.now.lexicon subject }
-        requires room { 4 * (member_count (term_at table.now subject) + 2) ≤ scratch.old.room }
+    pub fn reduced(&self, text: &Text<'_>, subject: TermId, scratch: &mut Scratch)
+        requires { HasRoomFor text.now scratch.old subject }
         ensures reduced { (list : List TermRequirement)
-            → IsMachineOf (world_by table.now world.now) list self.now
-            → IsDerivable (world_by table.now world.now) self.now list
-            (IsValid (term_at table.now subject))
-            → IsReducedIn (world_by table.now world.now) self.now list (term_at table.now subject)
+            → IsMachineOf (world_of text.now) list self.now
+            → IsDerivable (world_of text.now) self.now list
+            (IsValid (term_of text.now subject))
+            → IsReducedIn (world_of text.now) self.now list (term_of text.now subject)
             (with_steps (Generic scratch.new.head) scratch.new.steps) }
         ensures word { (list : List TermRequirement)
-            → IsMachineOf (world_by table.now world.now) list self.now
-            → IsDerivable (world_by table.now world.now) self.now list
-            (IsValid (term_at table.now subject))
-            → IsLeastOf (world_by table.now world.now) self.now list
-            (term_at table.now subject) scratch.new.word }
+            → IsMachineOf (world_of text.now) list self.now
+            → IsDerivable (world_of text.now) self.now list
+            (IsValid (term_of text.now subject))
+            → IsLeastOf (world_of text.now) self.now list
+            (term_of text.now subject) scratch.new.word }
         ensures room { scratch.new.room ≡ scratch.old.room }
     {
-        let text = Text { world, table };
-        let _valid = self.reduce(&text, subject, scratch);
+        let _valid = self.reduce(text, subject, scratch);
     }
 }

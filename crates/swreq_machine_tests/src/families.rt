@@ -1,43 +1,39 @@
 //! The limits that requirement signatures have of their own.
 ghost use Rattle.std.specs.Prelude.{OnOk};
 ghost use Rattle.swreq_machine.specs.swreq_derive.WellFormed.{AreProtocolsWellFormed};
-ghost use Rattle.swreq_machine.specs.swreq_symbols.{Known.{IsTextOver}, Meaning.{facts_of}};
-ghost use Rattle.swreq_machine.specs.swreq_world.ByTable.{world_by};
+ghost use Rattle.swreq_machine.specs.swreq_symbols.{Meaning.{facts_of}, Texts.{world_of}};
 
 use crate::worlds::{LIMITS, limits_of, world_of};
 use std::alloc::{AllocError, Global};
 use std::test::Fail;
 use swreq_machine::complete::{Failed, Limits};
 use swreq_machine::param::ParamTable;
+use swreq_machine::symbols::Text;
 use swreq_machine::valid::Protocols;
 use swreq_machine::watch::Quiet;
-use swreq_machine::world::World;
 use swreq_reqsig::laws::valid_sides_are_well_formed;
 use swreq_reqsig::{family_text, kept_family};
 
 /// That the protocols of a world are well formed.
-fn are_well_formed(alloc: Global, world: &World, table: &ParamTable) -> Result<(), Fail>
-    requires { IsTextOver table.now world.now }
-    ensures { OnOk result (AreProtocolsWellFormed (facts_of (world_by table.now world.now))) }
+fn are_well_formed(alloc: Global, text: &Text<'_>) -> Result<(), Fail>
+    ensures { OnOk result (AreProtocolsWellFormed (facts_of (world_of text.now))) }
 {
     valid_sides_are_well_formed();
-    let _protocols = Protocols::build(alloc, world, table, LIMITS, &mut Quiet)?;
+    let _protocols = Protocols::build(alloc, text, LIMITS, &mut Quiet)?;
     Ok(())
 }
 
 /// Appends the lines of the family of a world whose protocols are well formed, or why there is none.
 fn put_family(
     alloc: Global,
-    world: &World,
-    table: &ParamTable,
+    text: &Text<'_>,
     limits: Limits,
     out: &mut Vec<u8>,
 ) -> Result<(), AllocError>
-    requires text { IsTextOver table.now world.now }
-    requires well_formed { AreProtocolsWellFormed (facts_of (world_by table.now world.now)) }
+    requires { AreProtocolsWellFormed (facts_of (world_of text.now)) }
 {
-    match kept_family(alloc, world, table, limits, &mut Quiet) {
-        Ok(family) => family_text(alloc, world, table, &family, out),
+    match kept_family(alloc, text, limits, &mut Quiet) {
+        Ok(family) => family_text(alloc, text, &family, out),
         Err(Failed::Limit { .. }) => Ok(out.extend_from_slice(b"limit")?),
         Err(Failed::Memory) => Err(AllocError),
     }
@@ -46,15 +42,12 @@ fn put_family(
 /// Appends the lines of the family of a world, or why there is none.
 fn put_lines(
     alloc: Global,
-    world: &World,
-    table: &ParamTable,
+    text: &Text<'_>,
     limits: Limits,
     out: &mut Vec<u8>,
-) -> Result<(), Fail>
-    requires text { IsTextOver table.now world.now }
-{
-    are_well_formed(alloc, world, table)?;
-    put_family(alloc, world, table, limits, out)?;
+) -> Result<(), Fail> {
+    are_well_formed(alloc, text)?;
+    put_family(alloc, text, limits, out)?;
     Ok(())
 }
 
@@ -67,7 +60,15 @@ fn put_in(
     out: &mut Vec<u8>,
 ) -> Result<(), Fail> {
     let world = world_of(alloc, text, table)?;
-    put_lines(alloc, &world, table, limits, out)
+    put_lines(
+        alloc,
+        &Text {
+            world: &world,
+            table,
+        },
+        limits,
+        out,
+    )
 }
 
 /// Appends the lines of the family of a text, where a completion may have `max_rules` rules, or why there is none.

@@ -13,7 +13,7 @@ use swreq_machine::derive::Requirement;
 use swreq_machine::lowering::FuncId;
 use swreq_machine::param::ParamTable;
 use swreq_machine::symbols::Text;
-use swreq_machine::valid::Protocols;
+use swreq_machine::valid::{CheckedText, Protocols};
 use swreq_machine::watch::{Quiet, Recorder};
 use swreq_machine::world::World;
 use swreq_minimal::minimise;
@@ -43,7 +43,8 @@ fn count_over(
 {
     let text = Text { world, table };
     let f = FuncId { place: 0 };
-    let machine = Machine::of_signature(alloc, &text, protocols, f, LIMITS, &mut Quiet)?;
+    let checked = CheckedText { text, protocols };
+    let machine = Machine::of_signature(alloc, &checked, f, LIMITS, &mut Quiet)?;
     count_of(minimise(alloc, world, table, protocols, &machine, limits, watch))
 }
 
@@ -60,7 +61,8 @@ fn count_of_first(
     if world.functions() == 0 {
         return Err("no signature".into());
     }
-    let protocols = Protocols::build(alloc, world, table, LIMITS, &mut Quiet)?;
+    let text = Text { world, table };
+    let protocols = Protocols::build(alloc, &text, LIMITS, &mut Quiet)?;
     count_over(alloc, world, table, &protocols, limits, watch)
 }
 

@@ -6,10 +6,9 @@ use Rattle.std.proofs.lemmas.List.Elements.{Contains-append_left}
 use Rattle.swreq_machine.specs.swreq_derive.declared.requirements.Requirement.{Requirement}
 use Rattle.swreq_machine.specs.swreq_derive.Derivation.{TermRequirement}
 use Rattle.swreq_machine.specs.swreq_derive.Derivation.TermStatement.{Requires}
-use Rattle.swreq_machine.specs.swreq_derive.Facts.{requirement_of}
 use Rattle.swreq_machine.proofs.swreq_derive.Monotone.{grows}
 use Rattle.swreq_list_rules.specs.declared.setting.Setting.{Setting}
-use Rattle.swreq_list_rules.specs.Settings.{AreKnownIn, facts_in, params_in, said_in}
+use Rattle.swreq_list_rules.specs.Settings.{AreKnownIn, facts_in, params_in, said_in, says_in}
 use Rattle.swreq_minimal.specs.Lists.{IsDerivableFrom}
 use Rattle.swreq_minimal.specs.Passed.{IsLeftFrom}
 use Rattle.swreq_minimal.proofs.Halving.{behind_is, for_second, front_stays}
@@ -41,12 +40,12 @@ module _ (s : Setting) (old now : List Requirement) (from place end_of : ℕ)
 
   pub remove_is : remove now place ≡ take place old ++ drop end_of old
   remove_is =
-      without s.table.now now place any place_within
+      without s.checked.text.table.now now place any place_within
       ∙ ap₂ ◌++◌ (front_stays old place (suc place) end_of (omega arith) b c now [] is)
       (behind_is old place (suc place) end_of (omega arith) b c now [] is)
 
   pub known_on : AreKnownIn s now → AreKnownIn s (remove now place)
-  known_on known r h = known r (there_before s.table.now now place any place_within r h)
+  known_on known r h = known r (there_before s.checked.text.table.now now place any place_within r h)
 
   -- those outside the span are among the others that are left
   outside_within : (q : TermRequirement) → Contains (said_in s (take from old ++ drop end_of old)) q
@@ -60,7 +59,7 @@ module _ (s : Setting) (old now : List Requirement) (from place end_of : ℕ)
       → (all : List TermRequirement) → suc place ≤ length all → IsLeftFrom (facts_in s) (params_in s) (suc place) all (said_in s now)
       → IsLeftFrom (facts_in s) (params_in s) place all (said_in s (remove now place))
   dropped_last h all within left =
-      passed_on (facts_in s) (params_in s) s.table.now all now place any within left (remove now place)
-      (one_dropped (facts_in s) (params_in s) s.table.now now place any place_within
+      passed_on (facts_in s) (params_in s) s.checked.text.table.now all now place any within left (remove now place)
+      (one_dropped (facts_in s) (params_in s) s.checked.text.table.now now place any place_within
       (grows (facts_in s) true (params_in s) (said_in s (take from old ++ drop end_of old)) (said_in s (remove now place)) outside_within
-      (Requires (requirement_of s.table.now (get_or now place any))) h))
+      (Requires (says_in s (get_or now place any))) h))

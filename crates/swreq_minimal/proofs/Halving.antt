@@ -8,10 +8,9 @@ use Rattle.std.proofs.lemmas.List.{length-drop, map-append, take-append-drop}
 use Rattle.std.proofs.lemmas.List.Elements.{Contains-append_cases, Contains-append_left, Contains-append_right}
 use Rattle.swreq_machine.specs.swreq_derive.declared.requirements.Requirement.{Requirement}
 use Rattle.swreq_machine.specs.swreq_derive.Derivation.{TermRequirement}
-use Rattle.swreq_machine.specs.swreq_derive.Facts.{requirement_of}
 use Rattle.swreq_list_rules.specs.declared.setting.Setting.{Setting}
 use Rattle.swreq_list_rules.specs.ListRules.{AreOfList, ListRulesView}
-use Rattle.swreq_list_rules.specs.Settings.{said_in}
+use Rattle.swreq_list_rules.specs.Settings.{said_in, says_in}
 use Rattle.swreq_list_rules.proofs.Growing.{same_list}
 use Rattle.swreq_minimal.specs.Halves.{AreGrownBy}
 
@@ -109,7 +108,7 @@ module _ (s : Setting) where
   said list = said_in s list
 
   said_on : (a b : List Requirement) → said (a ++ b) ≡ said a ++ said b
-  said_on a b = map-append (requirement_of s.table.now) a b
+  said_on a b = map-append (says_in s) a b
 
   -- members more at the end of the front
   with_front : (a d f : List Requirement) (q : TermRequirement) → Contains (said (a ++ d) ++ said f) q ↔ Contains (said ((a ++ f) ++ d)) q

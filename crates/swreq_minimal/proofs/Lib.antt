@@ -16,5 +16,6 @@ pub mod Halving
 pub mod Ending
 pub mod Telling
 pub mod Whole
+pub mod OfTextLists
 pub mod PlainTypes
 pub mod Showing

@@ -3,18 +3,23 @@ use Rattle.std.specs.Prelude.{ℕ, ◌≤◌, List, length, Option, Result}
 use Rattle.swreq_machine.specs.swreq_derive.declared.requirements.Requirement.{Requirement}
 use Rattle.swreq_machine.specs.swreq_derive.Derivation.{Derivable, TermRequirement}
 use Rattle.swreq_machine.specs.swreq_derive.Derivation.TermStatement.{Requires}
-use Rattle.swreq_machine.specs.swreq_derive.Facts.{requirement_of}
 use Rattle.swreq_candidates.specs.swreq_watch.declared.events.Event.{Event}
 use Rattle.swreq_machine.specs.swreq_complete.declared.limit.Failed.{Failed}
+use Rattle.swreq_machine.specs.swreq_symbols.Texts.{IsRequirementOfText}
 use Rattle.swreq_list_rules.specs.declared.setting.Setting.{Setting}
 use Rattle.swreq_list_rules.specs.ListRules.{AreOfList, ListRulesView}
-use Rattle.swreq_list_rules.specs.Settings.{facts_in, params_in, said_in, source_in}
+use Rattle.swreq_list_rules.specs.Settings.{AreKnownIn, facts_in, params_in, said_in, says_in, source_in}
 use Rattle.swreq_minimal.specs.Passed.{IsLeftFrom, IsLeftWithout}
 use Rattle.swreq_minimal.specs.Told.{Tells}
 
 -- The requirement is derivable from the list.
 abbrev pub IsDerivableFrom : Setting → List Requirement → Requirement → Type 0
-IsDerivableFrom s list r = Derivable (facts_in s) (source_in s (said_in s list)) (Requires (requirement_of s.table.now r))
+IsDerivableFrom s list r = Derivable (facts_in s) (source_in s (said_in s list)) (Requires (says_in s r))
+
+-- The requirement is of the text, and so are those of the list.
+pub record IsAskedOf (s : Setting) (list : List Requirement) (r : Requirement) : Type 0 where
+  pub known : AreKnownIn s list
+  pub asked : IsRequirementOfText s.checked.text r
 
 -- They are the rules of the list.
 abbrev pub AreRulesFor : Setting → List Requirement → ListRulesView → Type 0

@@ -1,5 +1,5 @@
 -- What the rules of a machine tell of words: their types, and the requirements of rules.
-use Rattle.std.specs.Prelude.{◌≡◌, ℕ, List, [], ◌∷◌, ◌++◌, Option, MatchOption, Contains}
+use Rattle.std.specs.Prelude.{◌≡◌, ◌+◌, ◌≤◌, ℕ, List, [], ◌∷◌, ◌++◌, length, Option, MatchOption, Contains}
 use Rattle.swreq_machine.specs.swreq_param.declared.ids.AssocId.{AssocId}
 use Rattle.swreq_machine.specs.swreq_param.declared.ids.NameId.{NameId}
 use Rattle.swreq_machine.specs.swreq_param.declared.ids.Step.TheVariants.{Bound, Name}
@@ -20,8 +20,13 @@ use Rattle.swreq_machine.specs.swreq_correspondence.Symbols.{IsRank, Word, name_
 use Rattle.swreq_candidates.specs.Candidates.{IsNamed}
 use Rattle.swreq_machine.specs.swreq_symbols.Known.{IsRequirementIn}
 use Rattle.swreq_machine.specs.swreq_symbols.Meaning.{symbols_of}
-use Rattle.swreq_machine.specs.swreq_symbols.Vanishing.{IsFirstBehind}
+use Rattle.swreq_machine.specs.swreq_symbols.Vanishing.{IsFirstBehind, IsLeastBy}
 use Rattle.swreq_machine.specs.swreq_map.Properties.{Vanishes}
+
+-- The word is the least that the rules link to it, and there is room for it with a symbol after it.
+pub record IsTestable (rules : List Rule) (word : Word) (room : ℕ) : Type 0 where
+  pub least : IsLeastBy rules word
+  pub fits : length word + 1 ≤ room
 
 -- After the word the symbol `[P:A]` stands for the bound member d: `[P]` vanishes there, and d is the first associated type A given there.
 abbrev pub IsMemberBehind : LexiconView → List Rule → Word → Symbol → AssocId → Type 0

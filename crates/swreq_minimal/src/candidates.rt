@@ -1,18 +1,15 @@
 //! The candidates of a machine's list, read off the reduced system of its rules.
-ghost use Rattle.std.specs.Prelude.{◌≡◌, ◌⊎◌, ◌↔◌, ◌<◌, ℕ, List, length, slice_get, Some, Contains, IfOk, OnOk, MatchOption};
+ghost use Rattle.std.specs.Prelude.{◌≡◌, ◌⊎◌, ◌↔◌, ◌<◌, ℕ, length, slice_get, Some, Contains, IfOk, OnOk, MatchOption};
 ghost use Rattle.swreq_machine.specs.swreq_param.Tables.{Extends};
-ghost use Rattle.swreq_machine.specs.swreq_derive.{Derivation.{Source, TermFacts, TermRequirement}, Derivation.Source.{Written}, Facts.{generic_params, requirement_of}};
-ghost use Rattle.swreq_homotopy.specs.swreq_word.Least.{IsMinimal};
+ghost use Rattle.swreq_machine.specs.swreq_derive.{Derivation.{Source, TermFacts, TermRequirement}, Derivation.Source.{Written}, Facts.{requirement_of}};
 ghost use Rattle.swreq_machine.specs.swreq_complete.Reduced.{IsReduced};
 ghost use Rattle.swreq_machine.specs.swreq_lowering.ByTable.{HasIdsOf};
 ghost use Rattle.swreq_candidates.specs.swreq_canonical.{Canonical.{IsCanonical}, CanonicalOrder.{IsStrictlySorted}};
 ghost use Rattle.swreq_candidates.specs.{Candidates.{IsCandidateList}, Completed.{IsCompleted}};
 ghost use Rattle.swreq_machine.specs.swreq_lexicon.Views.{LexiconView};
-ghost use Rattle.swreq_machine.specs.swreq_symbols.{Known.{IsRequirementIn, IsTextOver}, Meaning.{facts_of, symbols_of}, Vanishing.{IsLeastBy, Links}};
-ghost use Rattle.swreq_machine.specs.swreq_world.ByTable.{world_by};
-ghost use Rattle.swreq_machine.specs.Machines.{IsMachineOf};
+ghost use Rattle.swreq_machine.specs.swreq_symbols.{Known.{IsRequirementIn, IsTextOver}, Meaning.{facts_of, symbols_of}, Vanishing.{Links}};
 ghost use Rattle.swreq_machine.specs.swreq_valid.Plans.{AreKnown, listed};
-ghost use Rattle.swreq_minimal.specs.{Sorted.{AreHere, BelongsAt, IsListOfFirstRules}, Typed.{IsRequirementOfRule}};
+ghost use Rattle.swreq_minimal.specs.{OfMachines.{OfItsList}, Sorted.{AreHere, BelongsAt, IsListOfFirstRules}, Typed.{IsRequirementOfRule}};
 
 use crate::of_params::of_params;
 use crate::order::{is_before, is_same};
@@ -28,8 +25,7 @@ use swreq_machine::world::World;
 
 /// The place at which a requirement belongs, or None where it is there.
 fn place_of(table: &ParamTable, found: &[Requirement], r: Requirement) -> Option<usize>
-    requires found { AreHere table.now found.now }
-    requires r { HasIdsOf table.now r }
+    requires { AreHere table.now found.now × HasIdsOf table.now r }
     ensures { MatchOption result
         (Contains (listed table.now found.now) (requirement_of table.now r))
         (BelongsAt table.now found.now r) }
@@ -52,8 +48,7 @@ fn put_sorted(
     found: &mut Vec<Requirement>,
     r: Requirement,
 ) -> Result<(), AllocError>
-    requires found { AreHere table.now found.old.items }
-    requires r { HasIdsOf table.now r }
+    requires { AreHere table.now found.old.items × HasIdsOf table.now r }
     ensures members { OnOk result ((q : TermRequirement)
         → Contains (listed table.now found.new.items) q
         ↔ (Contains (listed table.now found.old.items) q ⊎ (q ≡ requirement_of table.now r))) }
@@ -82,8 +77,7 @@ fn add(
     rule: &Rule,
     found: &mut Vec<Requirement>,
 ) -> Result<(), AllocError>
-    requires minimal { IsMinimal (Links by.now.rules.now) rule.now.left }
-    requires least { IsLeastBy by.now.rules.now rule.now.right }
+    requires reduced { IsReduced (Links by.now.rules.now) rule.now }
     requires known { AreKnown table.old by.now.world.now.lexicon found.old.items }
     ensures members { OnOk result ((q : TermRequirement)
         → Contains (listed table.new found.new.items) q
@@ -99,9 +93,7 @@ fn add(
     ensures known { OnOk result (AreKnown table.new by.now.world.now.lexicon found.new.items) }
     ensures extends { Extends table.old table.new }
 {
-    let left = rule.left.symbols();
-    let right = rule.right.symbols();
-    let one = rule_requirement(by, table, left, right)?;
+    let one = rule_requirement(by, table, rule)?;
     match one {
         None => Ok(()),
         Some(r) => put_sorted(table, found, r),
@@ -138,13 +130,10 @@ pub(crate) fn candidates(
     machine: &Machine,
 ) -> Result<Vec<Requirement>, AllocError>
     requires { IsTextOver table.old world.now }
-    ensures candidates { (list : List TermRequirement)
-        → IsMachineOf (world_by table.old world.now) list machine.now
-        → IsCompleted (symbols_of world.now.lexicon) (facts_of (world_by table.old world.now))
-        (generic_params machine.now.params) list
-        → IfOk result (λ v. IsCandidateList (symbols_of world.now.lexicon)
-        (facts_of (world_by table.old world.now))
-        (Written (generic_params machine.now.params) list) (listed table.new v.items)) }
+    ensures candidates { OfItsList table.old world.now machine.now (λ w ps list.
+        IsCompleted (symbols_of w.lexicon) (facts_of w) ps list
+        → IfOk result (λ v. IsCandidateList (symbols_of w.lexicon) (facts_of w)
+        (Written ps list) (listed table.new v.items))) }
     ensures known { IfOk result (λ v. AreKnown table.new world.now.lexicon v.items) }
     ensures extends { Extends table.old table.new }
 {

@@ -1,8 +1,6 @@
 //! Whether a requirement is derivable from a list: by its rules, by evidence, or by its machine.
 ghost use Rattle.std.specs.Prelude.{◌↔◌, IfOk, IfSome, IsTrue};
-ghost use Rattle.swreq_list_rules.specs.Settings.{AreKnownIn, IsSetting};
-ghost use Rattle.swreq_machine.specs.swreq_symbols.Known.{IsRequirementIn};
-ghost use Rattle.swreq_minimal.specs.{Lists.{AreRulesFor, IsDerivableFrom}, Told.{TellsOfList}};
+ghost use Rattle.swreq_minimal.specs.{Lists.{AreRulesFor, IsAskedOf, IsDerivableFrom}, Told.{TellsOfList}};
 
 use crate::evidence::is_evident;
 use std::alloc::Global;
@@ -20,17 +18,13 @@ fn is_derivable_by_machine<W: Watch>(
     r: Requirement,
     watch: &mut W,
 ) -> Result<bool, Failed>
-    requires setting { IsSetting setting.now }
-    requires list { AreKnownIn setting.now list.now }
-    requires r { IsRequirementIn setting.now.table.now setting.now.world.now.lexicon r }
+    requires { IsAskedOf setting.now list.now r }
     ensures answer { IfOk result (λ b. IsTrue b ↔ IsDerivableFrom setting.now list.now r) }
     ensures tells { TellsOfList setting.now list.now result (W.told watch.old) (W.told watch.new) }
 {
     let machine = core(
         alloc,
-        setting.world,
-        setting.table,
-        setting.protocols,
+        &setting.checked,
         setting.params,
         list,
         setting.limits,
@@ -47,9 +41,7 @@ fn is_derivable_by_evidence<W: Watch>(
     r: Requirement,
     watch: &mut W,
 ) -> Result<bool, Failed>
-    requires setting { IsSetting setting.now }
-    requires list { AreKnownIn setting.now list.now }
-    requires r { IsRequirementIn setting.now.table.now setting.now.world.now.lexicon r }
+    requires { IsAskedOf setting.now list.now r }
     ensures answer { IfOk result (λ b. IsTrue b ↔ IsDerivableFrom setting.now list.now r) }
     ensures tells { TellsOfList setting.now list.now result (W.told watch.old) (W.told watch.new) }
 {
@@ -69,10 +61,8 @@ pub(crate) fn is_derivable<W: Watch>(
     r: Requirement,
     watch: &mut W,
 ) -> Result<bool, Failed>
-    requires setting { IsSetting setting.now }
+    requires asked { IsAskedOf setting.now list.now r }
     requires rules { IfSome rules (λ rules. AreRulesFor setting.now list.now rules.now) }
-    requires list { AreKnownIn setting.now list.now }
-    requires r { IsRequirementIn setting.now.table.now setting.now.world.now.lexicon r }
     ensures answer { IfOk result (λ b. IsTrue b ↔ IsDerivableFrom setting.now list.now r) }
     ensures tells { TellsOfList setting.now list.now result (W.told watch.old) (W.told watch.new) }
 {

@@ -2,8 +2,8 @@
 ghost use Rattle.std.specs.Prelude.{◌≡◌, ◌<◌, ◌≤◌, [], ◌∷◌, ◌++◌, List, length, drop, remove, suc, take, IfOk, IfSome, OnOk};
 ghost use Rattle.swreq_machine.specs.swreq_derive.{declared.requirements.Requirement.{Requirement}, Derivation.{TermRequirement}};
 ghost use Rattle.swreq_candidates.specs.swreq_canonical.Minimised.{Leaves};
-ghost use Rattle.swreq_list_rules.specs.Settings.{AreKnownIn, IsSetting, facts_in, params_in, said_in};
-ghost use Rattle.swreq_minimal.specs.{Halves.{AreOutsideBoth, IsPartOf, IsSpanOf, outside_span}, Lists.{AreRulesFor, GoesThrough, TellsWithout}, Passed.{IsLastNeeded, IsLeftWithout}, Told.{Tells, TellsOfList}};
+ghost use Rattle.swreq_list_rules.specs.Settings.{AreKnownIn, facts_in, params_in, said_in};
+ghost use Rattle.swreq_minimal.specs.{Halves.{AreOutsideBoth, IsHalfOver, IsSpanOver, outside_span}, Lists.{AreRulesFor, GoesThrough, TellsWithout}, Passed.{IsLastNeeded, IsLeftWithout}, Told.{Tells, TellsOfList}};
 
 use crate::derivable::is_derivable;
 use crate::extending::{cloned, extended_if_any, rules_of};
@@ -22,7 +22,6 @@ fn drop_at<W: Watch>(
     place: usize,
     watch: &mut W,
 ) -> Result<(), Failed>
-    requires setting { IsSetting setting.now }
     requires rules { IfSome rules (λ rules. AreRulesFor setting.now
         (remove left.old.items place) rules.now) }
     requires left { AreKnownIn setting.now left.old.items }
@@ -71,10 +70,8 @@ fn drop_end(
     left: &mut Vec<Requirement>,
     span: Span,
 ) -> Result<usize, AllocError>
-    requires setting { IsSetting setting.now }
     requires rules { AreRulesFor setting.now (outside_span left.old.items span) rules.now }
-    requires left { AreKnownIn setting.now left.old.items }
-    requires span { IsSpanOf left.old.items span }
+    requires left { IsSpanOver setting.now left.old.items span }
     ensures within { IfOk result (λ to. (span.from < to) × (to ≤ span.to)) }
     ensures stays { IfOk result (λ to. left.new.items
         ≡ take to left.old.items ++ drop span.to left.old.items) }
@@ -102,11 +99,9 @@ fn drop_end_by(
     left: &mut Vec<Requirement>,
     span: Span,
 ) -> Result<usize, AllocError>
-    requires setting { IsSetting setting.now }
     requires rules { IfSome rules (λ rules. AreRulesFor setting.now
         (outside_span left.old.items span) rules.now) }
-    requires left { AreKnownIn setting.now left.old.items }
-    requires span { IsSpanOf left.old.items span }
+    requires left { IsSpanOver setting.now left.old.items span }
     ensures within { IfOk result (λ to. (span.from < to) × (to ≤ span.to)) }
     ensures stays { IfOk result (λ to. left.new.items
         ≡ take to left.old.items ++ drop span.to left.old.items) }
@@ -131,11 +126,8 @@ fn drop_half<W: Watch>(
     half: Half,
     watch: &mut W,
 ) -> Result<(), Failed>
-    requires setting { IsSetting setting.now }
     requires rules { IfSome rules (AreOutsideBoth setting.now left.old.items half) }
-    requires left { AreKnownIn setting.now left.old.items }
-    requires span { IsSpanOf left.old.items half.span }
-    requires other { IsPartOf left.old.items half.other }
+    requires half { IsHalfOver setting.now left.old.items half }
     ensures leaves { OnOk result (GoesThrough setting.now half.span.from half.span.to
         left.old.items left.new.items) }
     ensures stays { OnOk result ((kept : List Requirement)
@@ -162,10 +154,8 @@ fn drop_in<W: Watch>(
     span: Span,
     watch: &mut W,
 ) -> Result<(), Failed>
-    requires setting { IsSetting setting.now }
     requires rules { IfSome rules (AreRulesFor setting.now (outside_span left.old.items span)) }
-    requires left { AreKnownIn setting.now left.old.items }
-    requires span { IsSpanOf left.old.items span }
+    requires left { IsSpanOver setting.now left.old.items span }
     ensures leaves { OnOk result (GoesThrough setting.now span.from span.to
         left.old.items left.new.items) }
     ensures stays { OnOk result ((kept : List Requirement)
@@ -193,10 +183,8 @@ fn drop_halves<W: Watch>(
     span: Span,
     watch: &mut W,
 ) -> Result<(), Failed>
-    requires setting { IsSetting setting.now }
     requires rules { IfSome rules (AreRulesFor setting.now (outside_span left.old.items span)) }
-    requires left { AreKnownIn setting.now left.old.items }
-    requires span { IsSpanOf left.old.items span }
+    requires left { IsSpanOver setting.now left.old.items span }
     ensures leaves { OnOk result (GoesThrough setting.now span.from span.to
         left.old.items left.new.items) }
     ensures stays { OnOk result ((kept : List Requirement)
@@ -244,7 +232,6 @@ pub(crate) fn drop_derivable<W: Watch>(
     left: &mut Vec<Requirement>,
     watch: &mut W,
 ) -> Result<(), Failed>
-    requires setting { IsSetting setting.now }
     requires left { AreKnownIn setting.now left.old.items }
     requires last { IsLastNeeded (facts_in setting.now) (params_in setting.now)
         (said_in setting.now left.old.items) }

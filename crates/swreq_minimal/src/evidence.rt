@@ -6,13 +6,13 @@ ghost use Rattle.swreq_machine.specs.swreq_rule.{declared.rules.Rule.{Rule}, Ste
 ghost use Rattle.swreq_homotopy.specs.swreq_pair.Pairs.{HasPair, IsNumberOf};
 ghost use Rattle.swreq_homotopy.specs.Evidence.{AreLoops, IsMarked};
 ghost use Rattle.swreq_candidates.specs.Evidence.{AreRulesOfRest};
-ghost use Rattle.swreq_machine.specs.swreq_symbols.{Known.{IsRequirementIn, IsTextOver}, Meaning.{facts_of, symbols_of}};
-ghost use Rattle.swreq_machine.specs.swreq_world.ByTable.{world_by};
-ghost use Rattle.swreq_machine.specs.swreq_valid.{Protocols.{AreRulesOf}, Plans.{AreKnown, listed}, Rounds.{last_rules}};
-ghost use Rattle.swreq_minimal.specs.Evident.{HasSides, IsOfEquation, LinkLast};
-ghost use Rattle.swreq_list_rules.specs.Settings.{IsSetting, facts_in, params_in};
+ghost use Rattle.swreq_machine.specs.swreq_symbols.{Meaning.{facts_of, symbols_of}, Texts.{IsRequirementOfText, world_of}};
+ghost use Rattle.swreq_machine.specs.swreq_valid.Plans.{AreRequirementsOfText, listed};
+ghost use Rattle.swreq_minimal.specs.{Evident.{HasSides, IsOfEquation, LinkLast}, Lists.{IsAskedOf}};
+ghost use Rattle.swreq_list_rules.specs.Settings.{facts_in, params_in, says_in};
 
 use crate::plain::{are_plain, has_plain_types};
+use crate::text_lists::TextList;
 use std::alloc::{AllocError, Global};
 use std::cmp::Ordering;
 use swreq_homotopy::laws::evidence_links;
@@ -20,13 +20,11 @@ use swreq_homotopy::{loop_of_pair, redundant};
 use swreq_list_rules::Setting;
 use swreq_machine::derive::Requirement;
 use swreq_machine::pair::{Pair, pairs_up_to};
-use swreq_machine::param::ParamTable;
 use swreq_machine::path::Loop;
 use swreq_machine::rule::{Birth, Place, Rule};
-use swreq_machine::symbols::equation;
-use swreq_machine::valid::Protocols;
+use swreq_machine::symbols::{Text, equation};
+use swreq_machine::valid::CheckedText;
 use swreq_machine::word::{Word, compare};
-use swreq_machine::world::World;
 
 // ---- rules of equations
 
@@ -44,36 +42,30 @@ fn oriented(left: Word, right: Word) -> Option<Rule>
 }
 
 /// The rule of a requirement's equation, or None where its two sides are the same.
-fn rule_of(
-    alloc: Global,
-    world: &World,
-    table: &ParamTable,
-    r: Requirement,
-) -> Result<Option<Rule>, AllocError>
-    requires text { IsTextOver table.now world.now }
-    requires r { IsRequirementIn table.now world.now.lexicon r }
+fn rule_of(alloc: Global, text: &Text<'_>, r: Requirement) -> Result<Option<Rule>, AllocError>
+    requires { IsRequirementOfText text.now r }
     ensures { IfOk result (λ o. MatchOption o ⊤
-        (IsOfEquation (symbols_of world.now.lexicon) (requirement_of table.now r))) }
+        (IsOfEquation (symbols_of text.now.world.now.lexicon)
+        (requirement_of text.now.table.now r))) }
 {
-    let sides = equation(alloc, world, table, None, &r)?;
+    let sides = equation(alloc, text, None, &r)?;
     Ok(oriented(sides.0, sides.1))
 }
 
 /// Adds the rule of a requirement's equation, unless its two sides are the same.
 fn add_rule(
     alloc: Global,
-    world: &World,
-    table: &ParamTable,
+    text: &Text<'_>,
     r: Requirement,
     rules: &mut Vec<Rule>,
 ) -> Result<(), AllocError>
-    requires text { IsTextOver table.now world.now }
-    requires r { IsRequirementIn table.now world.now.lexicon r }
+    requires { IsRequirementOfText text.now r }
     ensures { OnOk result ((rules.new.items ≡ rules.old.items)
         ⊎ ((rule : Rule) × (rules.new.items ≡ rules.old.items ++ rule ∷ [])
-        × IsOfEquation (symbols_of world.now.lexicon) (requirement_of table.now r) rule)) }
+        × IsOfEquation (symbols_of text.now.world.now.lexicon)
+        (requirement_of text.now.table.now r) rule)) }
 {
-    let found = rule_of(alloc, world, table, r)?;
+    let found = rule_of(alloc, text, r)?;
     match found {
         None => Ok(()),
         Some(rule) => {
@@ -86,42 +78,43 @@ fn add_rule(
 /// The rules of the protocols, and then those of the equations of a list.
 fn rules_of(
     alloc: Global,
-    world: &World,
-    table: &ParamTable,
-    protocols: &Protocols,
+    checked: &CheckedText<'_, '_>,
     list: &[Requirement],
 ) -> Result<Vec<Rule>, AllocError>
-    requires text { IsTextOver table.now world.now }
-    requires protocols { AreRulesOf (world_by table.now world.now)
-        (last_rules protocols.now.rounds) }
-    requires list { AreKnown table.now world.now.lexicon list.now }
-    ensures { IfOk result (λ v. AreRulesOfRest (symbols_of world.now.lexicon)
-        (facts_of (world_by table.now world.now)) []
-        (listed table.now list.now) v.items) }
+    requires { AreRequirementsOfText checked.now.text list.now }
+    ensures { IfOk result (λ v. AreRulesOfRest (symbols_of checked.now.text.world.now.lexicon)
+        (facts_of (world_of checked.now.text)) []
+        (listed checked.now.text.table.now list.now) v.items) }
 {
-    let mut rules = protocols.rules().written_out(alloc)?;
+    let mut rules = checked.protocols.rules().written_out(alloc)?;
     for k in 0..list.len() {
         let r = list[k];
-        add_rule(alloc, world, table, r, &mut rules)?;
+        add_rule(alloc, &checked.text, r, &mut rules)?;
     }
     Ok(rules)
 }
 
 // ---- loops
 
+/// Rules that are so few that each has a number, and so has one more.
+#[derive(Clone, Copy)]
+struct Few<'a> {
+    rules: &'a [Rule],
+    ghost few: { length rules.now < 2 ^ 32 - 1 },
+}
+
 /// Adds the loop of the pair at a place, if its two sides reduce to one word.
 fn add_loop(
     alloc: Global,
-    rules: &[Rule],
+    all: &Few<'_>,
     place: Place,
     loops: &mut Vec<Loop>,
 ) -> Result<(), AllocError>
-    requires few { length rules.now < 2 ^ 32 - 1 }
-    requires pair { HasPair rules.now place }
-    requires loops { AreLoops rules.now loops.old.items }
-    ensures { OnOk result (AreLoops rules.now loops.new.items) }
+    requires pair { HasPair all.now.rules.now place }
+    requires loops { AreLoops all.now.rules.now loops.old.items }
+    ensures { OnOk result (AreLoops all.now.rules.now loops.new.items) }
 {
-    let found = loop_of_pair(alloc, rules, place)?;
+    let found = loop_of_pair(alloc, all.rules, place)?;
     match found {
         None => Ok(()),
         Some(round) => {
@@ -155,17 +148,16 @@ fn is_of_last(rules: &[Rule], place: Place) -> bool {
 /// Adds the loop of the pair, if it may show the last rule, and its two sides reduce to one word.
 fn add_pair(
     alloc: Global,
-    rules: &[Rule],
+    all: &Few<'_>,
     pair: &Pair,
     loops: &mut Vec<Loop>,
 ) -> Result<(), AllocError>
-    requires few { length rules.now < 2 ^ 32 - 1 }
-    requires pair { HasPair rules.now pair.now.place }
-    requires loops { AreLoops rules.now loops.old.items }
-    ensures { OnOk result (AreLoops rules.now loops.new.items) }
+    requires pair { HasPair all.now.rules.now pair.now.place }
+    requires loops { AreLoops all.now.rules.now loops.old.items }
+    ensures { OnOk result (AreLoops all.now.rules.now loops.new.items) }
 {
-    if may_show(rules, pair) {
-        add_loop(alloc, rules, pair.place, loops)
+    if may_show(all.rules, pair) {
+        add_loop(alloc, all, pair.place, loops)
     } else {
         Ok(())
     }
@@ -174,31 +166,29 @@ fn add_pair(
 /// Adds those loops of the pairs of the rule with this number with itself and with the rules before it that may show the last rule.
 fn add_loops(
     alloc: Global,
-    rules: &[Rule],
+    all: &Few<'_>,
     number: u32,
     loops: &mut Vec<Loop>,
 ) -> Result<(), AllocError>
-    requires few { length rules.now < 2 ^ 32 - 1 }
-    requires number { IsNumberOf rules.now number }
-    requires loops { AreLoops rules.now loops.old.items }
-    ensures { OnOk result (AreLoops rules.now loops.new.items) }
+    requires number { IsNumberOf all.now.rules.now number }
+    requires loops { AreLoops all.now.rules.now loops.old.items }
+    ensures { OnOk result (AreLoops all.now.rules.now loops.new.items) }
 {
-    let pairs = pairs_up_to(alloc, rules, number)?;
+    let pairs = pairs_up_to(alloc, all.rules, number)?;
     for k in 0..pairs.len() {
-        add_pair(alloc, rules, &pairs[k], loops)?;
+        add_pair(alloc, all, &pairs[k], loops)?;
     }
     Ok(())
 }
 
 /// Of the pairs of which one rule stands from this place on, the loops that may show the last rule.
-fn loops_from(alloc: Global, rules: &[Rule], from: usize) -> Result<Vec<Loop>, AllocError>
-    requires few { length rules.now < 2 ^ 32 - 1 }
-    ensures { IfOk result (λ v. AreLoops rules.now v.items) }
+fn loops_from(alloc: Global, all: &Few<'_>, from: usize) -> Result<Vec<Loop>, AllocError>
+    ensures { IfOk result (λ v. AreLoops all.now.rules.now v.items) }
 {
     let mut loops = Vec::new(alloc);
-    for k in from..rules.len() {
+    for k in from..all.rules.len() {
         let number = k as u32 + 1;
-        add_loops(alloc, rules, number, &mut loops)?;
+        add_loops(alloc, all, number, &mut loops)?;
     }
     Ok(loops)
 }
@@ -227,33 +217,23 @@ fn last_marked(alloc: Global, count: usize) -> Result<Vec<bool>, AllocError>
 }
 
 /// Whether one of the loops shows the last rule, which alone may go. True comes only where the other rules link its two sides.
-fn shows(
-    alloc: Global,
-    rules: &[Rule],
-    loops: &[Loop],
-    keep: &[bool],
-    may: &[bool],
-) -> Result<bool, AllocError>
-    requires loops { AreLoops rules.now loops.now }
-    requires keep { length keep.now ≡ length rules.now }
-    requires may { length may.now ≡ length rules.now }
-    requires last { (n : ℕ) → IsMarked may.now n → n ≡ length rules.now }
+fn shows(alloc: Global, rules: &[Rule], loops: &[Loop]) -> Result<bool, AllocError>
+    requires { AreLoops rules.now loops.now }
     ensures { IfOk result (λ b. IsTrue b → LinkLast rules.now) }
 {
-    evidence_links(rules, keep);
-    let found = redundant(alloc, rules, loops, keep, may)?;
+    let keep = all_marked(alloc, rules.len())?;
+    let may = last_marked(alloc, rules.len())?;
+    evidence_links(rules, &keep);
+    let found = redundant(alloc, rules, loops, &keep, &may)?;
     Ok(found.is_some())
 }
 
 /// Whether a loop of pairs from a place on shows the last rule. True comes only where the other rules link its two sides.
-fn shows_last(alloc: Global, rules: &[Rule], from: usize) -> Result<bool, AllocError>
-    requires few { length rules.now < 2 ^ 32 - 1 }
-    ensures { IfOk result (λ b. IsTrue b → LinkLast rules.now) }
+fn shows_last(alloc: Global, all: &Few<'_>, from: usize) -> Result<bool, AllocError>
+    ensures { IfOk result (λ b. IsTrue b → LinkLast all.now.rules.now) }
 {
-    let loops = loops_from(alloc, rules, from)?;
-    let keep = all_marked(alloc, rules.len())?;
-    let may = last_marked(alloc, rules.len())?;
-    shows(alloc, rules, &loops, &keep, &may)
+    let loops = loops_from(alloc, all, from)?;
+    shows(alloc, all.rules, &loops)
 }
 
 /// Whether a loop shows a rule over others. True comes only where these link its two sides.
@@ -263,7 +243,8 @@ fn is_shown(alloc: Global, rules: Vec<Rule>, from: usize, rule: Rule) -> Result<
     let mut all = rules;
     all.push(rule)?;
     if all.len() < 4_294_967_295 {
-        shows_last(alloc, &all, from)
+        let few = Few { rules: &all };
+        shows_last(alloc, &few, from)
     } else {
         Ok(false)
     }
@@ -279,25 +260,29 @@ pub(crate) fn is_evident(
     list: &[Requirement],
     r: Requirement,
 ) -> Result<bool, AllocError>
-    requires setting { IsSetting setting.now }
-    requires list { AreKnown setting.now.table.now setting.now.world.now.lexicon list.now }
-    requires r { IsRequirementIn setting.now.table.now setting.now.world.now.lexicon r }
+    requires { IsAskedOf setting.now list.now r }
     ensures { IfOk result (λ b. IsTrue b → Derivable (facts_in setting.now)
-        (Written (params_in setting.now) (listed setting.now.table.now list.now))
-        (Requires (requirement_of setting.now.table.now r))) }
+        (Written (params_in setting.now) (listed setting.now.checked.text.table.now list.now))
+        (Requires (says_in setting.now r))) }
 {
-    if !are_plain(setting.world, setting.table, setting.params, list) {
+    let checked = &setting.checked;
+    let among = TextList {
+        text: checked.text,
+        params: setting.params,
+        list,
+    };
+    if !are_plain(&among) {
         return Ok(false);
     }
-    if !has_plain_types(setting.world, setting.table, setting.params, list, r) {
+    if !has_plain_types(&among, r) {
         return Ok(false);
     }
-    let rules = rules_of(alloc, setting.world, setting.table, setting.protocols, list)?;
-    let found = rule_of(alloc, setting.world, setting.table, r)?;
+    let rules = rules_of(alloc, checked, list)?;
+    let found = rule_of(alloc, &checked.text, r)?;
     match found {
         None => Ok(false),
         Some(rule) => {
-            let from = setting.protocols.rules().count();
+            let from = checked.protocols.rules().count();
             is_shown(alloc, rules, from, rule)
         }
     }

@@ -1,6 +1,6 @@
 //! The rules of a list that is extended by members.
 ghost use Rattle.std.specs.{Prelude.{◌≡◌, IfOk, IfSome, Some}, Borrow.{Bor}};
-ghost use Rattle.swreq_list_rules.specs.{ListRules.{ListRulesView}, Settings.{AreKnownIn, IsSetting}};
+ghost use Rattle.swreq_list_rules.specs.{ListRules.{ListRulesView}, Settings.{AreKnownIn}};
 ghost use Rattle.swreq_minimal.specs.{Halves.{AreGrownBy}, Lists.{AreRulesFor}};
 
 use std::alloc::{AllocError, Global};
@@ -15,7 +15,6 @@ fn extended<'b>(
     rules: ListRules<'b>,
     more: &[Requirement],
 ) -> Result<Option<ListRules<'b>>, AllocError>
-    requires setting { IsSetting setting.now }
     requires waiting { AreKnownIn setting.now rules.waiting }
     requires more { AreKnownIn setting.now more.now }
     ensures { IfOk result (λ o. IfSome o (AreGrownBy setting.now rules.entry more.now)) }
@@ -34,7 +33,6 @@ pub(crate) fn extended_if_any<'b>(
     rules: Option<ListRules<'b>>,
     more: &[Requirement],
 ) -> Result<Option<ListRules<'b>>, AllocError>
-    requires setting { IsSetting setting.now }
     requires waiting { IfSome rules (λ rules. AreKnownIn setting.now rules.waiting) }
     requires more { AreKnownIn setting.now more.now }
     ensures { IfOk result (λ o. IfSome o (λ new. (old : ListRulesView)
@@ -66,8 +64,7 @@ pub(crate) fn rules_of<'b>(
     setting: &Setting<'b>,
     list: &[Requirement],
 ) -> Result<Option<ListRules<'b>>, AllocError>
-    requires setting { IsSetting setting.now }
-    requires list { AreKnownIn setting.now list.now }
+    requires { AreKnownIn setting.now list.now }
     ensures { IfOk result (λ o. IfSome o (AreRulesFor setting.entry.now list.now)) }
 {
     let rules = ListRules::empty(alloc, setting)?;

@@ -1,9 +1,8 @@
 //! Which bound member a symbol stands for after a word.
-ghost use Rattle.std.specs.Prelude.{◌+◌, ◌≤◌, length, vec_capacity, MatchOption};
+ghost use Rattle.std.specs.Prelude.{◌≤◌, vec_capacity, MatchOption};
 ghost use Rattle.swreq_machine.specs.swreq_param.declared.ids.AssocId.{AssocId};
 ghost use Rattle.swreq_homotopy.specs.swreq_word.declared.symbols.Symbol.TheVariants.{Member as MemberSymbol};
-ghost use Rattle.swreq_machine.specs.swreq_symbols.Vanishing.{IsLeastBy};
-ghost use Rattle.swreq_minimal.specs.Typed.{IsMemberBehind};
+ghost use Rattle.swreq_minimal.specs.Typed.{IsMemberBehind, IsTestable};
 
 use swreq_machine::complete::CompleteRules;
 use swreq_machine::map::vanishes;
@@ -20,8 +19,7 @@ fn member_at(
     rank: u64,
     test: &mut Vec<Symbol>,
 ) -> Option<AssocId>
-    requires least { IsLeastBy rules.now word.now }
-    requires fits { length word.now + 1 ≤ vec_capacity test.old }
+    requires { IsTestable rules.now word.now (vec_capacity test.old) }
     ensures answer { MatchOption result
         ((d : AssocId)
         → IsMemberBehind world.now.lexicon rules.now word.now (MemberSymbol rank) d → ⊥)
@@ -46,8 +44,7 @@ pub(crate) fn member_behind(
     x: Symbol,
     test: &mut Vec<Symbol>,
 ) -> Option<AssocId>
-    requires least { IsLeastBy rules.now word.now }
-    requires fits { length word.now + 1 ≤ vec_capacity test.old }
+    requires { IsTestable rules.now word.now (vec_capacity test.old) }
     ensures answer { MatchOption result
         ((d : AssocId) → IsMemberBehind world.now.lexicon rules.now word.now x d → ⊥)
         (IsMemberBehind world.now.lexicon rules.now word.now x) }

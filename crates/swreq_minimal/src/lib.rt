@@ -14,6 +14,7 @@ mod plain;
 mod reader;
 mod rule_requirement;
 mod taking;
+mod text_lists;
 mod typed;
 
 pub use minimised::minimise;

@@ -1,14 +1,14 @@
 //! The minimised list of a machine's list.
 ghost use Rattle.std.specs.Prelude.{◌≡◌, List, Contains, IfErr, IfOk};
 ghost use Rattle.swreq_machine.specs.swreq_param.Tables.{Extends};
-ghost use Rattle.swreq_machine.specs.swreq_derive.{Derivation.{TermRequirement}, Derivation.Source.{Written}, Equivalence.{AreEquivalent}, Facts.{generic_params}};
+ghost use Rattle.swreq_machine.specs.swreq_derive.{Derivation.{TermRequirement}, Derivation.Source.{Written}, Equivalence.{AreEquivalent}};
 ghost use Rattle.swreq_candidates.specs.swreq_canonical.{Canonical.{IsCanonical}, CanonicalOrder.{IsStrictlySorted}, Minimised.{IsIndependent, IsMinimised}};
 ghost use Rattle.swreq_machine.specs.swreq_symbols.{Known.{IsTextOver}, Meaning.{facts_of, symbols_of}};
 ghost use Rattle.swreq_machine.specs.swreq_world.ByTable.{world_by};
 ghost use Rattle.swreq_machine.specs.swreq_valid.{Protocols.{AreRulesOf}, Plans.{AreKnown, listed}, Rounds.{last_rules}};
-ghost use Rattle.swreq_machine.specs.Machines.{IsMachineOf, list_of};
-ghost use Rattle.swreq_list_rules.specs.Settings.{AreKnownIn, IsSetting, facts_in, params_in, said_in};
-ghost use Rattle.swreq_minimal.specs.{Passed.{AreMinimisedCandidates, IsPassed, IsPassedOf}, Told.{Tells, TellsFailure, TellsParts}};
+ghost use Rattle.swreq_machine.specs.Machines.{list_of};
+ghost use Rattle.swreq_list_rules.specs.Settings.{AreKnownIn, facts_in, params_in, said_in};
+ghost use Rattle.swreq_minimal.specs.{OfMachines.{OfItsList}, Passed.{AreMinimisedCandidates, IsPassed, IsPassedOf}, Told.{Tells, TellsFailure, TellsParts}};
 
 use crate::candidates::candidates;
 use crate::dropping::drop_derivable;
@@ -19,7 +19,8 @@ use swreq_machine::Machine;
 use swreq_machine::complete::{Failed, Limits};
 use swreq_machine::derive::Requirement;
 use swreq_machine::param::ParamTable;
-use swreq_machine::valid::Protocols;
+use swreq_machine::symbols::Text;
+use swreq_machine::valid::{CheckedText, Protocols};
 use swreq_machine::watch::Watch;
 use swreq_machine::world::World;
 
@@ -30,8 +31,7 @@ fn minimised_candidates<W: Watch>(
     candidates: &[Requirement],
     watch: &mut W,
 ) -> Result<Vec<Requirement>, Failed>
-    requires setting { IsSetting setting.now }
-    requires candidates { AreKnownIn setting.now candidates.now }
+    requires { AreKnownIn setting.now candidates.now }
     ensures minimised { IfOk result (λ v. AreMinimisedCandidates
         (facts_in setting.now) (params_in setting.now)
         (said_in setting.now candidates.now) (said_in setting.now v.items)) }
@@ -63,42 +63,27 @@ pub fn minimise<W: Watch>(
     requires text { IsTextOver table.old world.now }
     requires protocols { AreRulesOf (world_by table.old world.now)
         (last_rules protocols.now.rounds) }
-    ensures minimised { (list : List TermRequirement)
-        → IsMachineOf (world_by table.old world.now) list machine.now
-        → IfOk result (λ v. IsMinimised (facts_of (world_by table.old world.now))
-        (generic_params machine.now.params) list (listed table.new v.items)) }
-    ensures same { (list : List TermRequirement)
-        → IsMachineOf (world_by table.old world.now) list machine.now
-        → IfOk result (λ v. AreEquivalent (facts_of (world_by table.old world.now))
-        (generic_params machine.now.params) list (listed table.new v.items)) }
-    ensures independent { (list : List TermRequirement)
-        → IsMachineOf (world_by table.old world.now) list machine.now
-        → IfOk result (λ v. IsIndependent (facts_of (world_by table.old world.now))
-        (generic_params machine.now.params) (listed table.new v.items)) }
-    ensures canonical { (list : List TermRequirement)
-        → IsMachineOf (world_by table.old world.now) list machine.now
-        → IfOk result (λ v. (r : TermRequirement) → Contains (listed table.new v.items) r
-        → IsCanonical (facts_of (world_by table.old world.now))
-        (Written (generic_params machine.now.params) list) r) }
-    ensures sorted { (list : List TermRequirement)
-        → IsMachineOf (world_by table.old world.now) list machine.now
-        → IfOk result (λ v. IsStrictlySorted (listed table.new v.items)) }
-    ensures told { (list : List TermRequirement)
-        → IsMachineOf (world_by table.old world.now) list machine.now
-        → IfOk result (λ _. TellsParts limits
-        (list_of (world_by table.old world.now) (last_rules protocols.now.rounds)
-        machine.now.params)
-        (IsPassedOf (symbols_of world.now.lexicon) (facts_of (world_by table.old world.now))
-        (generic_params machine.now.params) list)
-        (W.told watch.old) (W.told watch.new)) }
-    ensures failed { (list : List TermRequirement)
-        → IsMachineOf (world_by table.old world.now) list machine.now
-        → IfErr result (TellsFailure limits
-        (list_of (world_by table.old world.now) (last_rules protocols.now.rounds)
-        machine.now.params)
-        (IsPassedOf (symbols_of world.now.lexicon) (facts_of (world_by table.old world.now))
-        (generic_params machine.now.params) list)
-        (W.told watch.old) (W.told watch.new)) }
+    ensures minimised { OfItsList table.old world.now machine.now (λ w ps list.
+        IfOk result (λ v. IsMinimised (facts_of w) ps list (listed table.new v.items))) }
+    ensures same { OfItsList table.old world.now machine.now (λ w ps list.
+        IfOk result (λ v. AreEquivalent (facts_of w) ps list (listed table.new v.items))) }
+    ensures independent { OfItsList table.old world.now machine.now (λ w ps list.
+        IfOk result (λ v. IsIndependent (facts_of w) ps (listed table.new v.items))) }
+    ensures canonical { OfItsList table.old world.now machine.now (λ w ps list.
+        IfOk result (λ v. (r : TermRequirement) → Contains (listed table.new v.items) r
+        → IsCanonical (facts_of w) (Written ps list) r)) }
+    ensures sorted { OfItsList table.old world.now machine.now (λ w ps list.
+        IfOk result (λ v. IsStrictlySorted (listed table.new v.items))) }
+    ensures told { OfItsList table.old world.now machine.now (λ w ps list.
+        IfOk result (λ _. TellsParts limits
+        (list_of w (last_rules protocols.now.rounds) machine.now.params)
+        (IsPassedOf (symbols_of w.lexicon) (facts_of w) ps list)
+        (W.told watch.old) (W.told watch.new))) }
+    ensures failed { OfItsList table.old world.now machine.now (λ w ps list.
+        IfErr result (TellsFailure limits
+        (list_of w (last_rules protocols.now.rounds) machine.now.params)
+        (IsPassedOf (symbols_of w.lexicon) (facts_of w) ps list)
+        (W.told watch.old) (W.told watch.new))) }
     ensures known { IfOk result (λ v. AreKnown table.new world.now.lexicon v.items) }
     ensures extends { Extends table.old table.new }
     ensures world { world_by table.new world.now ≡ world_by table.old world.now }
@@ -107,10 +92,10 @@ pub fn minimise<W: Watch>(
     let _of_protocols = protocols.rules().count();
     let _of_list = machine.rules().count();
     let found = candidates(alloc, world, table, machine)?;
+    let text = Text { world, table };
+    let checked = CheckedText { text, protocols };
     let setting = Setting {
-        world,
-        table,
-        protocols,
+        checked,
         params: machine.params(),
         limits,
     };

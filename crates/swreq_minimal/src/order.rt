@@ -39,8 +39,7 @@ fn is_kind_before(r: Requirement, q: Requirement) -> bool
 
 /// Whether a requirement comes before another one.
 pub(crate) fn is_before(table: &ParamTable, r: Requirement, q: Requirement) -> bool
-    requires r { HasIdsOf table.now r }
-    requires q { HasIdsOf table.now q }
+    requires { HasIdsOf table.now r × HasIdsOf table.now q }
     ensures { IsTrue result ↔ RequirementBefore (requirement_of table.now r)
         (requirement_of table.now q) }
 {
@@ -53,8 +52,7 @@ pub(crate) fn is_before(table: &ParamTable, r: Requirement, q: Requirement) -> b
 
 /// Whether two requirements are the same.
 pub(crate) fn is_same(table: &ParamTable, r: Requirement, q: Requirement) -> bool
-    requires r { HasIdsOf table.now r }
-    requires q { HasIdsOf table.now q }
+    requires { HasIdsOf table.now r × HasIdsOf table.now q }
     ensures { IsTrue result ↔ (requirement_of table.now r ≡ requirement_of table.now q) }
 {
     let _count = table.len();

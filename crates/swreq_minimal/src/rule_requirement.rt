@@ -1,12 +1,13 @@
 //! The requirement of a rule of a reduced system.
-ghost use Rattle.std.specs.Prelude.{◌≡◌, ◌⊎◌, ◌+◌, ◌≤◌, ◌<◌, ◌∷◌, ◌++◌, [], length, vec_capacity, List, IfOk, MatchOption};
+ghost use Rattle.std.specs.Prelude.{◌≡◌, ◌⊎◌, ◌<◌, ◌∷◌, ◌++◌, [], length, vec_capacity, List, IfOk, MatchOption};
 ghost use Rattle.swreq_machine.specs.swreq_param.{declared.ids.AssocId.{AssocId}, declared.ids.NameId.{NameId}, declared.ids.ProtoId.{ProtoId}, declared.ids.Step.TheVariants.{Bound}, Tables.{Extends, IsOf, term_at}, Terms.{Term}, Terms.Term.{Member}};
 ghost use Rattle.swreq_machine.specs.swreq_derive.{declared.known.Params.{Params}, declared.requirements.Requirement.TheVariants.{Conf, Layout as LayoutOf, Same}};
 ghost use Rattle.swreq_homotopy.specs.swreq_word.{declared.symbols.Symbol.{Symbol}, declared.symbols.Symbol.TheVariants.{Proto, Layout}, Least.{IsMinimal}};
+ghost use Rattle.swreq_machine.specs.swreq_complete.Reduced.{IsReduced};
 ghost use Rattle.swreq_candidates.specs.Candidates.{IsNamed};
 ghost use Rattle.swreq_machine.specs.swreq_lexicon.Views.{IsProtocol};
 ghost use Rattle.swreq_machine.specs.swreq_symbols.{Meaning.{symbols_of}, Vanishing.{IsFirstBehind, IsLeastBy, Links}};
-ghost use Rattle.swreq_minimal.specs.Typed.{Finds, Identifies, IsTypeBy, IsRequirementOfRule, IsSubjectOf};
+ghost use Rattle.swreq_minimal.specs.Typed.{Finds, Identifies, IsRequirementOfRule, IsSubjectOf, IsTestable, IsTypeBy};
 
 use crate::reader::Reader;
 use crate::typed::{bound, symbol_type, type_of};
@@ -14,6 +15,7 @@ use std::alloc::AllocError;
 use swreq_machine::complete::CompleteRules;
 use swreq_machine::derive::Requirement;
 use swreq_machine::param::{AssocId, NameId, ParamTable, ProtoId, TermId};
+use swreq_machine::rule::Rule;
 use swreq_machine::symbols::{first_behind, name_at};
 use swreq_machine::word::{Symbol, are_same};
 use swreq_machine::world::World;
@@ -39,8 +41,7 @@ fn first_named(
     symbol: Symbol,
     test: &mut Vec<Symbol>,
 ) -> Option<AssocId>
-    requires least { IsLeastBy rules.now front.now }
-    requires fits { length front.now + 1 ≤ vec_capacity test.old }
+    requires { IsTestable rules.now front.now (vec_capacity test.old) }
     ensures answer { MatchOption result
         ((a : NameId) (d : AssocId) → IsNamed (symbols_of world.now.lexicon) symbol a
         → IsFirstBehind world.now.lexicon rules.now front.now a d → ⊥)
@@ -254,16 +255,16 @@ fn requirement_at(
 pub(crate) fn rule_requirement(
     by: &Reader<'_, '_>,
     table: &mut ParamTable,
-    left: &[Symbol],
-    right: &[Symbol],
+    rule: &Rule,
 ) -> Result<Option<Requirement>, AllocError>
-    requires minimal { IsMinimal (Links by.now.rules.now) left.now }
-    requires least { IsLeastBy by.now.rules.now right.now }
+    requires { IsReduced (Links by.now.rules.now) rule.now }
     ensures requirement { IfOk result (Finds
         (IsRequirementOfRule by.now.world.now.lexicon by.now.rules.now by.now.params
-        left.now right.now) table.new by.now.world.now.lexicon) }
+        rule.now.left rule.now.right) table.new by.now.world.now.lexicon) }
     ensures extends { Extends table.old table.new }
 {
+    let left = rule.left.symbols();
+    let right = rule.right.symbols();
     let at = type_of(by, table, right)?;
     match at {
         None => Ok(None),

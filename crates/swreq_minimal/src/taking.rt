@@ -1,9 +1,9 @@
 //! The generators among candidates: those that are not derivable from those that were taken before them.
 ghost use Rattle.std.specs.Prelude.{◌≡◌, [], ◌∷◌, ◌++◌, List, IfOk, IfSome, OnOk};
-ghost use Rattle.swreq_machine.specs.swreq_derive.{Derivation.{TermRequirement}, Facts.{requirement_of}};
+ghost use Rattle.swreq_machine.specs.swreq_derive.Derivation.{TermRequirement};
 ghost use Rattle.swreq_candidates.specs.swreq_canonical.Generators.{Takes};
-ghost use Rattle.swreq_list_rules.specs.Settings.{AreKnownIn, IsSetting, facts_in, params_in, said_in};
-ghost use Rattle.swreq_machine.specs.swreq_symbols.Known.{IsRequirementIn};
+ghost use Rattle.swreq_list_rules.specs.Settings.{AreKnownIn, facts_in, params_in, said_in, says_in};
+ghost use Rattle.swreq_machine.specs.swreq_symbols.Texts.{IsRequirementOfText};
 ghost use Rattle.swreq_minimal.specs.{Lists.{AreRulesFor}, Passed.{IsTakenBefore}, Told.{Tells, TellsOfList}};
 
 use crate::derivable::is_derivable;
@@ -22,10 +22,8 @@ fn take_candidate<'b>(
     rules: Option<ListRules<'b>>,
     candidate: Requirement,
 ) -> Result<Option<ListRules<'b>>, AllocError>
-    requires setting { IsSetting setting.now }
     requires rules { IfSome rules (AreRulesFor setting.now taken.old.items) }
-    requires candidate { IsRequirementIn setting.now.table.now
-        setting.now.world.now.lexicon candidate }
+    requires candidate { IsRequirementOfText setting.now.checked.text candidate }
     ensures taken { OnOk result (taken.new.items ≡ taken.old.items ++ candidate ∷ []) }
     ensures rules { IfOk result (λ o. IfSome o (AreRulesFor setting.entry.now taken.new.items)) }
 {
@@ -43,16 +41,14 @@ fn take_underivable<'b, W: Watch>(
     candidate: Requirement,
     watch: &mut W,
 ) -> Result<Option<ListRules<'b>>, Failed>
-    requires setting { IsSetting setting.now }
     requires taken { AreKnownIn setting.now taken.old.items }
     requires rules { IfSome rules (AreRulesFor setting.now taken.old.items) }
-    requires candidate { IsRequirementIn setting.now.table.now
-        setting.now.world.now.lexicon candidate }
+    requires candidate { IsRequirementOfText setting.now.checked.text candidate }
     ensures takes { OnOk result ((before : List TermRequirement)
         → Takes (facts_in setting.entry.now) (params_in setting.entry.now) []
         before (said_in setting.entry.now taken.old.items)
         → Takes (facts_in setting.entry.now) (params_in setting.entry.now) []
-        (before ++ requirement_of setting.entry.now.table.now candidate ∷ [])
+        (before ++ says_in setting.entry.now candidate ∷ [])
         (said_in setting.entry.now taken.new.items)) }
     ensures known { OnOk result (AreKnownIn setting.entry.now taken.new.items) }
     ensures rules { IfOk result (λ o. IfSome o (AreRulesFor setting.entry.now taken.new.items)) }
@@ -73,8 +69,7 @@ pub(crate) fn generators<W: Watch>(
     candidates: &[Requirement],
     watch: &mut W,
 ) -> Result<Vec<Requirement>, Failed>
-    requires setting { IsSetting setting.now }
-    requires candidates { AreKnownIn setting.now candidates.now }
+    requires { AreKnownIn setting.now candidates.now }
     ensures takes { IfOk result (λ v. Takes (facts_in setting.now) (params_in setting.now) []
         (said_in setting.now candidates.now) (said_in setting.now v.items)) }
     ensures known { IfOk result (λ v. AreKnownIn setting.now v.items) }

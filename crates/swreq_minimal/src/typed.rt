@@ -1,12 +1,12 @@
 //! The type of a word, as rules tell it.
-ghost use Rattle.std.specs.Prelude.{◌≡◌, ◌+◌, ◌≤◌, ◌<◌, ◌∷◌, ◌++◌, [], length, take, vec_capacity, List, IfOk, MatchOption};
+ghost use Rattle.std.specs.Prelude.{◌≡◌, ◌≤◌, ◌<◌, ◌∷◌, ◌++◌, [], length, take, vec_capacity, List, IfOk, MatchOption};
 ghost use Rattle.swreq_machine.specs.swreq_param.{declared.ids.AssocId.{AssocId}, declared.ids.Step.TheVariants.{Bound}, Tables.{Extends, IsOf, term_at}, Terms.Term.{Member}};
 ghost use Rattle.swreq_machine.specs.swreq_derive.declared.known.Params.{Params};
 ghost use Rattle.swreq_homotopy.specs.swreq_word.declared.symbols.Symbol.TheVariants.{Param};
 ghost use Rattle.swreq_machine.specs.swreq_rule.declared.rules.Rule.{Rule};
 ghost use Rattle.swreq_machine.specs.swreq_lexicon.Views.{LexiconView};
 ghost use Rattle.swreq_machine.specs.swreq_symbols.Vanishing.{IsLeastBy};
-ghost use Rattle.swreq_minimal.specs.Typed.{Identifies, IsMemberBehind, IsTypeBy};
+ghost use Rattle.swreq_minimal.specs.Typed.{Identifies, IsMemberBehind, IsTestable, IsTypeBy};
 
 use crate::given::member_behind;
 use crate::reader::Reader;
@@ -85,8 +85,7 @@ fn step(
     test: &mut Vec<Symbol>,
 ) -> Result<Option<TermId>, AllocError>
     requires t { IsOf table.old t }
-    requires least { IsLeastBy by.now.rules.now front.now }
-    requires fits { length front.now + 1 ≤ vec_capacity test.old }
+    requires tested { IsTestable by.now.rules.now front.now (vec_capacity test.old) }
     ensures member { IfOk result (λ o. MatchOption o
         ((d : AssocId)
         → IsMemberBehind by.now.world.now.lexicon by.now.rules.now front.now symbol d → ⊥)
@@ -113,8 +112,7 @@ fn go_on(
 ) -> Result<Option<TermId>, AllocError>
     requires at { MatchOption at (Unit {0}) (IsOf table.old) }
     requires some { 0 < length front.now }
-    requires least { IsLeastBy by.now.rules.now front.now }
-    requires fits { length front.now + 1 ≤ vec_capacity test.old }
+    requires tested { IsTestable by.now.rules.now front.now (vec_capacity test.old) }
     ensures typed { (params : Params)
         → Identifies (IsTypeBy by.now.world.now.lexicon by.now.rules.now params front.now)
         table.old at

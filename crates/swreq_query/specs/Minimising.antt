@@ -1,13 +1,15 @@
 -- What a watcher is told of minimising a signature.
-use Rattle.std.specs.Prelude.{List}
+use Rattle.std.specs.Prelude.{List, Option}
 use Rattle.swreq_print.specs.swreq_derive.Derivation.{TermRequirement}
 use Rattle.swreq_print.specs.swreq_derive.Facts.{generic_params}
 use Rattle.swreq_print.specs.swreq_rule.declared.rules.Rule.{Rule}
 use Rattle.swreq_machine.specs.swreq_watch.declared.events.Event.{Event}
+use Rattle.swreq_machine.specs.swreq_watch.Told.{GrewBy}
 use Rattle.swreq_machine.specs.swreq_complete.declared.limit.Limits.{Limits}
 use Rattle.swreq_machine.specs.swreq_complete.declared.limit.Failed.{Failed}
+use Rattle.swreq_print.specs.swreq_lowering.declared.ids.FuncId.{FuncId}
 use Rattle.swreq_print.specs.swreq_lowering.Requirements.{PlacedRequirement}
-use Rattle.swreq_machine.specs.swreq_world.Worlds.{SignatureOver, TextWorld}
+use Rattle.swreq_machine.specs.swreq_world.Worlds.{SignatureOver, TextWorld, signature_at}
 use Rattle.swreq_machine.specs.swreq_symbols.Meaning.{facts_of, symbols_of}
 use Rattle.swreq_machine.specs.Machines.{list_of}
 use Rattle.swreq_minimal.specs.Passed.{IsPassedOf}
@@ -27,3 +29,10 @@ module _ (limits : Limits) (w : TextWorld) (rules : List Rule) where
   -- because memory runs out.
   abbrev pub MinimisingFails : SignatureOver PlacedRequirement → Failed → List Event → Type 0
   MinimisingFails g failed told = FailsBy limits (list_of w rules g.params) (IsMet w g) failed told
+
+  -- A watcher that had been told `old` has been told `new`: what minimising the signature tells has been added.
+  abbrev pub TellsMinimised : FuncId → Option (List Event) → Option (List Event) → Type 0
+  TellsMinimised f old new = (told : List Event) × MinimisingTells (signature_at w f) told × GrewBy old new told
+
+  abbrev pub FailsMinimised : FuncId → Option (List Event) → Option (List Event) → Failed → Type 0
+  FailsMinimised f old new failed = (told : List Event) × MinimisingFails (signature_at w f) failed told × GrewBy old new told

@@ -6,7 +6,7 @@ ghost use Rattle.swreq_machine.specs.swreq_symbols.{Known.{IsAskedIn}, Texts.{wo
 ghost use Rattle.swreq_machine.specs.{Asked.{IsDerivable}, Machines.{IsMachineOf}};
 ghost use Rattle.swreq_machine.specs.swreq_valid.Rounds.{last_rules};
 ghost use Rattle.swreq_print.specs.swreq_lowering.{ByTable.{asks_by}, declared.ids.Asks.TheVariants.{Signature}};
-ghost use Rattle.swreq_query.specs.Asked.{AppendsAnswer, IsRoomFor, IsVerdictOf};
+ghost use Rattle.swreq_query.specs.Asked.{AppendsAnswer, HasRoomToAnswer, IsVerdictOf};
 
 use crate::reduced::reduced_line;
 use crate::verdict::{Verdict, judge};
@@ -21,7 +21,7 @@ use swreq_text::append_bytes;
 /// Room for the answer to what is asked.
 pub fn room_for(alloc: Global, text: &Text<'_>, asks: Asks) -> Result<Scratch, AllocError>
     requires { IsAskedIn text.now.table.now text.now.world.now.lexicon asks }
-    ensures { IfOk result (λ s. IsRoomFor (asks_by text.now.table.now asks) s.room) }
+    ensures { IfOk result (λ s. HasRoomToAnswer text.now s asks) }
 {
     match asks {
         Asks::Signature => Scratch::with_room(alloc, 0),
@@ -50,11 +50,10 @@ pub fn answer(
     scratch: &mut Scratch,
     out: &mut Vec<u8>,
 ) -> Result<Option<Verdict>, AllocError>
-    requires asks { IsAskedIn text.now.table.now text.now.world.now.lexicon asks }
+    requires asks { HasRoomToAnswer text.now scratch.old asks }
     requires no_signature { asks ≢ Signature }
     requires map { IsMapOf (last_rules machine.now.rounds) map.now }
     requires protocols { map.now.protocols ≡ length text.now.world.now.lexicon.protocols }
-    requires room { IsRoomFor (asks_by text.now.table.now asks) scratch.old.room }
     ensures ok { OnOk result ((list : List TermRequirement)
         → IsMachineOf (world_of text.now) list machine.now
         → AppendsAnswer text.now.world.now.lexicon

@@ -1,20 +1,19 @@
 //! The line of a minimised signature.
-ghost use Rattle.std.specs.Prelude.{◌≡◌, ◌≢◌, ◌⊎◌, ◌<◌, ◌++◌, List, ℕ, codes, length, IfErr, OnErr, OnOk};
+ghost use Rattle.std.specs.Prelude.{◌≡◌, ◌≢◌, ◌⊎◌, ◌++◌, codes, IfErr, OnErr, OnOk};
 ghost use Rattle.swreq_print.specs.swreq_param.Tables.{Extends};
 ghost use Rattle.swreq_text.specs.Joined.{GrewByPart};
 ghost use Rattle.swreq_print.specs.swreq_derive.Facts.{generic_params};
 ghost use Rattle.swreq_machine.specs.swreq_complete.declared.limit.Failed.TheVariants.{Memory};
 ghost use Rattle.swreq_machine.specs.swreq_symbols.Known.{IsTextOver};
-ghost use Rattle.swreq_machine.specs.swreq_valid.{Protocols.{AreRulesOf}, Plans.{AreKnown, listed}, Rounds.{last_rules}};
-ghost use Rattle.swreq_machine.specs.Machines.{IsMachineOf};
-ghost use Rattle.swreq_machine.specs.swreq_watch.{declared.events.Event.{Event}, Told.{GrewBy}};
-ghost use Rattle.swreq_machine.specs.swreq_world.{ByTable.{world_by}, Worlds.{signature_at}, FactsAt.{written_list}};
+ghost use Rattle.swreq_machine.specs.swreq_valid.{Protocols.{AreRulesOf}, Plans.{AreRequirementsOfText, listed}, Rounds.{last_rules}};
+ghost use Rattle.swreq_machine.specs.swreq_world.ByTable.{world_by};
 ghost use Rattle.swreq_print.specs.Signatures.{signature_text};
-ghost use Rattle.swreq_query.specs.{Minimising.{MinimisingFails, MinimisingTells}, Signatures.{IsMinimisedLine}};
+ghost use Rattle.swreq_query.specs.{Minimising.{FailsMinimised, TellsMinimised}, Signatures.{AppendsMinimised, AppendsPartOfMinimised, IsMachineOfSignature}};
 
 use std::alloc::{AllocError, Global};
 use swreq_machine::Machine;
 use swreq_machine::complete::{Failed, Limits};
+use swreq_machine::symbols::Text;
 use swreq_machine::valid::Protocols;
 use swreq_machine::watch::Watch;
 use swreq_machine::world::World;
@@ -29,43 +28,45 @@ use swreq_text::append_bytes;
 #[tactic(auto, using(swreq_text::proofs::Grown::none_grew))]
 fn put_signature(
     alloc: Global,
-    world: &World,
-    table: &ParamTable,
+    text: &Text<'_>,
     params: Params,
     list: &[Requirement],
     out: &mut Vec<u8>,
 ) -> Result<(), AllocError>
-    requires { AreKnown table.now world.now.lexicon list.now }
+    requires { AreRequirementsOfText text.now list.now }
     ensures ok { OnOk result (out.new.items ≡ out.old.items
-        ++ (signature_text world.now.lexicon (generic_params params) (listed table.now list.now)
+        ++ (signature_text text.now.world.now.lexicon (generic_params params)
+        (listed text.now.table.now list.now)
         ++ codes "\n")) }
     ensures err { OnErr result (GrewByPart out.old.items
-        (signature_text world.now.lexicon (generic_params params) (listed table.now list.now)
+        (signature_text text.now.world.now.lexicon (generic_params params)
+        (listed text.now.table.now list.now)
         ++ codes "\n") out.new.items) }
 {
-    signature_text(alloc, world.lexicon(), table, params, list, out)?;
+    signature_text(alloc, text.world.lexicon(), text.table, params, list, out)?;
     append_bytes(out, b"\n")
 }
 
 /// Writes the line of a minimised list, and answers `Failed::Memory` if memory runs out.
 fn put_line(
     alloc: Global,
-    world: &World,
-    table: &ParamTable,
+    text: &Text<'_>,
     params: Params,
     list: &[Requirement],
     out: &mut Vec<u8>,
 ) -> Result<(), Failed>
-    requires { AreKnown table.now world.now.lexicon list.now }
+    requires { AreRequirementsOfText text.now list.now }
     ensures line { OnOk result (out.new.items ≡ out.old.items
-        ++ (signature_text world.now.lexicon (generic_params params) (listed table.now list.now)
+        ++ (signature_text text.now.world.now.lexicon (generic_params params)
+        (listed text.now.table.now list.now)
         ++ codes "\n")) }
     ensures failed { IfErr result (λ failed. failed ≡ Memory) }
     ensures part { OnErr result (GrewByPart out.old.items
-        (signature_text world.now.lexicon (generic_params params) (listed table.now list.now)
+        (signature_text text.now.world.now.lexicon (generic_params params)
+        (listed text.now.table.now list.now)
         ++ codes "\n") out.new.items) }
 {
-    put_signature(alloc, world, table, params, list, out)?;
+    put_signature(alloc, text, params, list, out)?;
     Ok(())
 }
 
@@ -88,30 +89,20 @@ pub fn minimised_line<W: Watch>(
     requires text { IsTextOver table.old world.now }
     requires protocols { AreRulesOf (world_by table.old world.now)
         (last_rules protocols.now.rounds) }
-    requires f { f.place < length world.now.signatures }
-    requires machine { IsMachineOf (world_by table.old world.now)
-        (written_list (signature_at (world_by table.old world.now) f)) machine.now }
-    requires params { machine.now.params ≡ (signature_at (world_by table.old world.now) f).params }
-    ensures line { OnOk result ((line : List ℕ) × IsMinimisedLine (world_by table.old world.now)
-        (signature_at (world_by table.old world.now) f) line
-        × (out.new.items ≡ out.old.items ++ line)) }
-    ensures told { OnOk result ((told : List Event)
-        × MinimisingTells limits (world_by table.old world.now) (last_rules protocols.now.rounds)
-        (signature_at (world_by table.old world.now) f) told
-        × GrewBy (W.told watch.old) (W.told watch.new) told) }
-    ensures failed { IfErr result (λ failed. (told : List Event)
-        × MinimisingFails limits (world_by table.old world.now) (last_rules protocols.now.rounds)
-        (signature_at (world_by table.old world.now) f) failed told
-        × GrewBy (W.told watch.old) (W.told watch.new) told) }
-    ensures part { OnErr result ((out.new.items ≡ out.old.items) ⊎ ((line : List ℕ)
-        × IsMinimisedLine (world_by table.old world.now)
-        (signature_at (world_by table.old world.now) f) line
-        × GrewByPart out.old.items line out.new.items)) }
+    requires machine { IsMachineOfSignature table.old world.now f machine.now }
+    ensures line { OnOk result
+        (AppendsMinimised (world_by table.old world.now) f out.old.items out.new.items) }
+    ensures told { OnOk result (TellsMinimised limits (world_by table.old world.now)
+        (last_rules protocols.now.rounds) f (W.told watch.old) (W.told watch.new)) }
+    ensures failed { IfErr result (FailsMinimised limits (world_by table.old world.now)
+        (last_rules protocols.now.rounds) f (W.told watch.old) (W.told watch.new)) }
+    ensures part { OnErr result ((out.new.items ≡ out.old.items) ⊎ AppendsPartOfMinimised
+        (world_by table.old world.now) f out.old.items out.new.items) }
     ensures unchanged { IfErr result (λ failed. failed ≢ Memory → out.new.items ≡ out.old.items) }
     ensures extends { Extends table.old table.new }
     ensures world { world_by table.new world.now ≡ world_by table.old world.now }
     ensures text { IsTextOver table.new world.now }
 {
     let list = minimise(alloc, world, table, protocols, machine, limits, watch)?;
-    put_line(alloc, world, table, world.params(f), &list, out)
+    put_line(alloc, &Text { world, table }, world.params(f), &list, out)
 }

@@ -1,10 +1,10 @@
 //! The line of a reduced type.
-ghost use Rattle.std.specs.Prelude.{◌≡◌, ◌+◌, ◌*◌, ◌≤◌, ◌++◌, List, codes, IfOk, OnErr, OnOk};
-ghost use Rattle.swreq_print.specs.swreq_param.{Tables.{term_at}, Terms.{member_count, with_steps}, Terms.Term.{Generic}};
+ghost use Rattle.std.specs.Prelude.{◌≡◌, ◌++◌, List, codes, IfOk, OnErr, OnOk};
+ghost use Rattle.swreq_print.specs.swreq_param.{Terms.{with_steps}, Terms.Term.{Generic}};
 ghost use Rattle.swreq_print.specs.swreq_derive.Derivation.{TermRequirement};
 ghost use Rattle.swreq_print.specs.Types.{type_text};
-ghost use Rattle.swreq_machine.specs.swreq_symbols.{Known.{IsTypeIn}, Texts.{world_of}};
-ghost use Rattle.swreq_machine.specs.{Asked.{IsDerivable}, Machines.{IsMachineOf}};
+ghost use Rattle.swreq_machine.specs.swreq_symbols.Texts.{term_of, world_of};
+ghost use Rattle.swreq_machine.specs.{Asked.{HasRoomFor, IsDerivable}, Machines.{IsMachineOf}};
 ghost use Rattle.swreq_print.specs.swreq_lowering.Queries.TermAsks.{AsksReduced};
 ghost use Rattle.swreq_query.specs.Asked.{AppendsAnswer, IsVerdictOf};
 
@@ -45,17 +45,16 @@ pub(crate) fn reduced_line(
     scratch: &mut Scratch,
     out: &mut Vec<u8>,
 ) -> Result<Option<Verdict>, AllocError>
-    requires t { IsTypeIn text.now.table.now text.now.world.now.lexicon t }
-    requires room { 4 * (member_count (term_at text.now.table.now t) + 2) ≤ scratch.old.room }
+    requires { HasRoomFor text.now scratch.old t }
     ensures ok { OnOk result ((list : List TermRequirement)
         → IsMachineOf (world_of text.now) list machine.now
         → AppendsAnswer text.now.world.now.lexicon
         (IsDerivable (world_of text.now) machine.now list)
-        (AsksReduced (term_at text.now.table.now t)) out.old.items out.new.items) }
+        (AsksReduced (term_of text.now t)) out.old.items out.new.items) }
     ensures verdict { IfOk result (λ verdict. (list : List TermRequirement)
         → IsMachineOf (world_of text.now) list machine.now
         → IsVerdictOf (IsDerivable (world_of text.now) machine.now list)
-        (AsksReduced (term_at text.now.table.now t)) verdict) }
+        (AsksReduced (term_of text.now t)) verdict) }
     ensures err { OnErr result (out.new.items ≡ out.old.items) }
     ensures room { scratch.new.room ≡ scratch.old.room }
 {

@@ -1,13 +1,13 @@
 //! Whether a requirement is derivable.
-ghost use Rattle.std.specs.Prelude.{◌≡◌, ◌+◌, ◌*◌, ◌≤◌, List, length};
-ghost use Rattle.swreq_print.specs.swreq_param.{Tables.{term_at}, Terms.{member_count}};
+ghost use Rattle.std.specs.Prelude.{◌≡◌, List, length};
 ghost use Rattle.swreq_print.specs.swreq_derive.{Derivation.{TermRequirement}, Derivation.TermRequirement.{Equals}, Facts.{requirement_of}};
 ghost use Rattle.swreq_machine.specs.swreq_map.Follows.{IsMapOf};
 ghost use Rattle.swreq_print.specs.swreq_lexicon.Views.{LexiconView};
-ghost use Rattle.swreq_machine.specs.swreq_symbols.{Known.{IsRequirementIn, IsTypeIn}, Texts.{world_of}};
-ghost use Rattle.swreq_machine.specs.{Asked.{IsDerivable}, Having.{IsBelow, has}, Machines.{IsMachineOf}};
+ghost use Rattle.swreq_print.specs.swreq_lowering.declared.ids.Asks.TheVariants as asked;
+ghost use Rattle.swreq_machine.specs.swreq_symbols.Texts.{term_of, world_of};
+ghost use Rattle.swreq_machine.specs.{Asked.{HasRoomFor, IsDerivable}, Having.{IsBelow, has}, Machines.{IsMachineOf}};
 ghost use Rattle.swreq_machine.specs.swreq_valid.Rounds.{last_rules};
-ghost use Rattle.swreq_query.specs.{Answers.{IsAnswered, answer_line}, Asked.{IsRoomForSides, answer_of, verdict_of}};
+ghost use Rattle.swreq_query.specs.{Answers.{IsAnswered, answer_line}, Asked.{HasRoomToAnswer, answer_of, verdict_of}};
 
 use swreq_machine::map::PropertyMap;
 use swreq_machine::symbols::Text;
@@ -59,14 +59,13 @@ fn judge_property(
     property: Property,
     scratch: &mut Scratch,
 ) -> Verdict
-    requires t { IsTypeIn text.now.table.now text.now.world.now.lexicon t }
+    requires t { HasRoomFor text.now scratch.old t }
     requires map { IsMapOf (last_rules machine.now.rounds) map.now }
     requires property { IsBelow map.now.protocols property }
-    requires room { 4 * (member_count (term_at text.now.table.now t) + 2) ≤ scratch.old.room }
     ensures answer { (list : List TermRequirement)
         → IsMachineOf (world_of text.now) list machine.now
         → IsAnswered (IsDerivable (world_of text.now) machine.now list)
-        (has (term_at text.now.table.now t) property) (answer_of result) }
+        (has (term_of text.now t) property) (answer_of result) }
     ensures room { scratch.new.room ≡ scratch.old.room }
 {
     verdict_of(machine.has(text, map, t, property, scratch))
@@ -80,14 +79,12 @@ fn judge_equality(
     b: TermId,
     scratch: &mut Scratch,
 ) -> Verdict
-    requires a { IsTypeIn text.now.table.now text.now.world.now.lexicon a }
-    requires b { IsTypeIn text.now.table.now text.now.world.now.lexicon b }
-    requires room_a { 4 * (member_count (term_at text.now.table.now a) + 2) ≤ scratch.old.room }
-    requires room_b { 4 * (member_count (term_at text.now.table.now b) + 2) ≤ scratch.old.room }
+    requires a { HasRoomFor text.now scratch.old a }
+    requires b { HasRoomFor text.now scratch.old b }
     ensures answer { (list : List TermRequirement)
         → IsMachineOf (world_of text.now) list machine.now
         → IsAnswered (IsDerivable (world_of text.now) machine.now list)
-        (Equals (term_at text.now.table.now a) (term_at text.now.table.now b))
+        (Equals (term_of text.now a) (term_of text.now b))
         (answer_of result) }
     ensures room { scratch.new.room ≡ scratch.old.room }
 {
@@ -104,12 +101,9 @@ pub fn judge(
     requirement: Requirement,
     scratch: &mut Scratch,
 ) -> Verdict
-    requires requirement { IsRequirementIn text.now.table.now text.now.world.now.lexicon
-        requirement }
+    requires requirement { HasRoomToAnswer text.now scratch.old (asked.Requirement requirement) }
     requires map { IsMapOf (last_rules machine.now.rounds) map.now }
     requires protocols { map.now.protocols ≡ length text.now.world.now.lexicon.protocols }
-    requires room { IsRoomForSides (requirement_of text.now.table.now requirement)
-        scratch.old.room }
     ensures answer { (list : List TermRequirement)
         → IsMachineOf (world_of text.now) list machine.now
         → IsAnswered (IsDerivable (world_of text.now) machine.now list)

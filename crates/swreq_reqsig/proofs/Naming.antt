@@ -4,12 +4,14 @@ use Rattle.std.proofs.lemmas.Bool.{cases_eq}
 use Rattle.std.proofs.lemmas.List.{get_or-set_other, get_or-set_same, length-replicate, length-set}
 use Rattle.std.proofs.lemmas.List.Elements.{Contains-append_cases, Contains-append_left, Contains-append_right}
 use Rattle.std.proofs.lemmas.Option.{same_Some, slice_get_within}
+use Rattle.std.proofs.Math.Decide.{ℕ_discrete}
+use Rattle.swreq_print.proofs.swreq_lemmas.Stable.{Stable, decided_stable, each_way_stable, given_stable, member_decided}
 use Rattle.swreq_print.proofs.swreq_lemmas.Members.{first_member, member_cases, no_member}
 use Rattle.swreq_valid.specs.swreq_param.declared.ids.NameId.{NameId}
 use Rattle.swreq_valid.specs.swreq_param.declared.ids.ProtoId.{ProtoId}
 use Rattle.swreq_reqsig.specs.declared.outlines.Outline.{Outline}
 use Rattle.swreq_reqsig.specs.declared.outlines.Outline.TheVariants.{Conformance, Object, Equality}
-use Rattle.swreq_reqsig.specs.Named.{AreNamed, AreNamedBefore, AreNoted, IsNoted, Names, kept_for, list_of}
+use Rattle.swreq_reqsig.specs.Named.{AreNamed, AreNamedBefore, AreNoted, IsNoted, Names, NamesAt, kept_for, list_of}
 
 -- ---- one place more
 
@@ -129,3 +131,29 @@ module _ (outlines : List Outline) (count : ℕ) where
     (λ c. ((h.each a k).0 c).1),
     λ m. (h.each a k).1 ((let w = slice_get_within outlines k m.outline m.there in omega (arith, w, l)), m),
   )
+
+-- ---- that the lists keep the places is decided, so it follows from its truncation
+
+last_decided : (a b : Option NameId) → Dec (a ≡ b)
+last_decided a b = elim (ℕ_discrete (list_of a) (list_of b)) [ yes e ↦ yes (one_list a b e) | no n ↦ no (λ e. n (ap list_of e)) ]
+
+names_decided : (a : Option NameId) (outline : Outline) → Dec (Names a outline)
+names_decided a (Conformance b q) = last_decided b a
+names_decided a (Object b p) = last_decided b a
+names_decided a (Equality b c p) = elim (last_decided b a) [
+  | yes e ↦ yes (inl e)
+  | no left ↦ elim (last_decided c a) [ yes e ↦ yes (inr e) | no right ↦ no (λ h. elim h [ inl e ↦ left e | inr e ↦ right e ]) ]
+]
+
+names_at : (outlines : List Outline) (a : Option NameId) (k : ℕ) (o : Option Outline) → slice_get outlines k ≡ o
+    → Dec (NamesAt outlines a k)
+names_at outlines a k None is = no (λ h. let e : None ≡ Some h.outline = sym is ∙ h.there in cc)
+names_at outlines a k (Some outline) is = elim (names_decided a outline) [
+  | yes names ↦ yes (record { outline = outline; there = is; names = names })
+  | no none ↦ no (λ h. none (subst (Names a) (same_Some _ _ (sym h.there ∙ is)) h.names))
+]
+
+pub named_stable : (outlines : List Outline) (lists : List (List ℕ)) → Stable (AreNamed outlines lists)
+named_stable outlines lists = given_stable _ (λ a. given_stable _ (λ k. each_way_stable
+    (decided_stable (member_decided k (λ j. ℕ_discrete j k) (kept_for lists a)))
+    (decided_stable (names_at outlines a k (slice_get outlines k) refl))))

@@ -1,10 +1,11 @@
 //! Whether one requirement stays.
 ghost use Rattle.std.specs.Prelude.{◌≡◌, ◌↔◌, ◌<◌, suc, Err, IfErr, IfOk, IsTrue, List, Ok, OnOk, Some, length, slice_get};
-ghost use Rattle.swreq_valid.specs.swreq_derive.{Derivation.{Derivable}, Derivation.Source.{SelfOf}, Derivation.TermStatement.{Requires}, Facts.{requirement_of}, Kept.{owned_facts}};
+ghost use Rattle.swreq_valid.specs.swreq_derive.{Derivation.{Derivable}, Derivation.Source.{SelfOf}, Derivation.TermStatement.{Requires}, Facts.{requirement_of}, Kept.{owned_facts}, WellFormed.{AreProtocolsWellFormed}};
+ghost use Rattle.swreq_valid.specs.swreq_symbols.{Meaning.{facts_of}, Texts.{world_of}};
 ghost use Rattle.swreq_print.specs.swreq_rule.declared.rules.Rule.{Rule};
 ghost use Rattle.swreq_valid.specs.swreq_watch.{declared.events.Event.{Event}, Told.{GrewBy}};
 ghost use Rattle.swreq_valid.specs.Answers.{Answers};
-ghost use Rattle.swreq_reqsig.specs.{Families.{DerivesWith, associated_types_of, family_of, family_plan, owned}, GoingThrough.{AreKept, without}, Places.{IsPlaceIn, all_places}, Settings.{IsSetting, text_in}, Told.{FailsAt, IsSettled, MeetsFamily}};
+ghost use Rattle.swreq_reqsig.specs.{Families.{DerivesWith, associated_types_of, family_of, family_plan, owned}, GoingThrough.{AreKept, without}, Places.{IsPlaceIn, all_places}, Settings.{text_in}, Told.{FailsAt, IsSettled, MeetsFamily}};
 
 use crate::derived::is_derivable;
 use crate::flags::kept_by;
@@ -14,41 +15,35 @@ use crate::selection::Selection;
 use crate::setting::Setting;
 use std::alloc::Global;
 use swreq_valid::Protocols;
-use swreq_valid::complete::Failed;
+use swreq_valid::complete::{Failed, Limits};
+use swreq_valid::symbols::Text;
 use swreq_valid::watch::Watch;
 
 /// Whether a requirement is derivable with those alone whose flags are set. The watcher is told the events of their rounds.
 fn is_derivable_with<W: Watch>(
     alloc: Global,
-    setting: &Setting<'_>,
+    text: &Text<'_>,
+    limits: Limits,
     flags: &[bool],
     place: &Place,
     watch: &mut W,
 ) -> Result<bool, Failed>
-    requires setting { IsSetting setting.now }
-    requires flags { length flags.now ≡ length (all_places setting.now.world.now) }
-    requires place { IsPlaceIn setting.now.world.now place.now }
+    requires flags { length flags.now ≡ length (all_places text.now.world.now) }
+    requires place { IsPlaceIn text.now.world.now place.now }
     ensures answer { IfOk result (λ b. IsTrue b ↔ Derivable
-        (owned_facts (associated_types_of (text_in setting.now))
-        (family_of (text_in setting.now) flags.now)) (SelfOf place.now.proto)
-        (Requires (requirement_of setting.now.table.now place.now.requirement))) }
+        (owned_facts (associated_types_of (world_of text.now))
+        (family_of (world_of text.now) flags.now)) (SelfOf place.now.proto)
+        (Requires (requirement_of text.now.table.now place.now.requirement))) }
     ensures told { IfOk result (λ _. (rules : List Rule)
-        × Answers setting.now.limits (family_plan (text_in setting.now) flags.now)
+        × Answers limits (family_plan (world_of text.now) flags.now)
         (W.told watch.old) (W.told watch.new) (Ok rules)) }
     ensures failed { IfErr result (λ failed.
-        Answers setting.now.limits (family_plan (text_in setting.now) flags.now)
+        Answers limits (family_plan (world_of text.now) flags.now)
         (W.told watch.old) (W.told watch.new) (Err failed)) }
 {
-    let keep = kept_by(alloc, setting.world, flags)?;
-    let protocols = Protocols::build_kept(
-        alloc,
-        setting.world,
-        setting.table,
-        &keep,
-        setting.limits,
-        watch,
-    )?;
-    Ok(is_derivable(alloc, setting, &protocols, place)?)
+    let keep = kept_by(alloc, text, flags)?;
+    let protocols = Protocols::build_kept(alloc, text, &keep, limits, watch)?;
+    Ok(is_derivable(alloc, text, &protocols, place)?)
 }
 
 /// Whether the requirement at a place is derivable with those alone whose flags are set. It is asked of those that its protocol reaches by
@@ -56,18 +51,15 @@ fn is_derivable_with<W: Watch>(
 fn is_derivable_without<W: Watch>(
     alloc: Global,
     setting: &Setting<'_>,
-    places: &[Place],
     flags: &[bool],
     at: usize,
     watch: &mut W,
 ) -> Result<bool, Failed>
-    requires setting { IsSetting setting.now }
-    requires places { places.now ≡ all_places setting.now.world.now }
-    requires flags { length flags.now ≡ length places.now }
-    requires at { at < length places.now }
-    ensures answer { IfOk result (λ b. (x : Place) → slice_get places.now at ≡ Some x → IsTrue b
-        ↔ DerivesWith (text_in setting.now) (family_of (text_in setting.now) flags.now)
-        x.proto (Requires (requirement_of setting.now.table.now x.requirement))) }
+    requires flags { length flags.now ≡ length setting.now.places.now }
+    requires at { at < length setting.now.places.now }
+    ensures answer { IfOk result (λ b. (x : Place) → slice_get setting.now.places.now at ≡ Some x
+        → IsTrue b ↔ DerivesWith (text_in setting.now) (family_of (text_in setting.now) flags.now)
+        x.proto (Requires (requirement_of setting.now.text.table.now x.requirement))) }
     ensures settled { OnOk result ((part : List Event)
         × IsSettled setting.now.limits (text_in setting.now) at flags.now part
         × GrewBy (W.told watch.old) (W.told watch.new) part) }
@@ -77,14 +69,13 @@ fn is_derivable_without<W: Watch>(
 {
     let selection = Selection {
         setting: *setting,
-        places,
         flags,
     };
     match asked(alloc, &selection, at)? {
         None => Ok(false),
         Some(asked) => {
-            let place = &places[at];
-            is_derivable_with(alloc, setting, &asked, place, watch)
+            let place = &setting.places[at];
+            is_derivable_with(alloc, &setting.text, setting.limits, &asked, place, watch)
         }
     }
 }
@@ -93,14 +84,12 @@ fn is_derivable_without<W: Watch>(
 pub(crate) fn drop_if_derivable<W: Watch>(
     alloc: Global,
     setting: &Setting<'_>,
-    places: &[Place],
     flags: &mut Vec<bool>,
     at: usize,
     watch: &mut W,
 ) -> Result<(), Failed>
-    requires setting { IsSetting setting.now }
-    requires places { places.now ≡ all_places setting.now.world.now }
-    requires at { at < length places.now }
+    requires well_formed { AreProtocolsWellFormed (facts_of (text_in setting.now)) }
+    requires at { at < length setting.now.places.now }
     requires left { AreKept (associated_types_of (text_in setting.now))
         (owned (text_in setting.now)) (suc at) flags.old.items }
     ensures met { OnOk result ((part : List Event)
@@ -113,7 +102,7 @@ pub(crate) fn drop_if_derivable<W: Watch>(
         × GrewBy (W.told watch.old) (W.told watch.new) part) }
 {
     flags[at] = false;
-    let derivable = is_derivable_without(alloc, setting, places, flags, at, watch)?;
+    let derivable = is_derivable_without(alloc, setting, flags, at, watch)?;
     flags[at] = !derivable;
     Ok(())
 }

@@ -1,10 +1,10 @@
 //! Going through the requirements of the protocols, from the last to the first.
 ghost use Rattle.std.specs.Prelude.{◌≡◌, Err, IfErr, IfOk, List, replicate, true};
+ghost use Rattle.swreq_valid.specs.{swreq_derive.WellFormed.{AreProtocolsWellFormed}, swreq_symbols.Meaning.{facts_of}};
 ghost use Rattle.swreq_valid.specs.swreq_watch.{declared.events.Event.{Event}, Told.{GrewBy}};
-ghost use Rattle.swreq_reqsig.specs.{Places.{all_places}, Settings.{IsSetting, text_in}, Told.{AnswersFamily, WasReduced}};
+ghost use Rattle.swreq_reqsig.specs.{Settings.{text_in}, Told.{AnswersFamily, WasReduced}};
 
 use crate::deciding::drop_if_derivable;
-use crate::places::Place;
 use crate::setting::Setting;
 use std::alloc::{AllocError, Global};
 use swreq_valid::complete::Failed;
@@ -22,11 +22,9 @@ fn all_set(alloc: Global, count: usize) -> Result<Vec<bool>, AllocError>
 pub(crate) fn drop_derivable<W: Watch>(
     alloc: Global,
     setting: &Setting<'_>,
-    places: &[Place],
     watch: &mut W,
 ) -> Result<Vec<bool>, Failed>
-    requires setting { IsSetting setting.now }
-    requires places { places.now ≡ all_places setting.now.world.now }
+    requires { AreProtocolsWellFormed (facts_of (text_in setting.now)) }
     ensures gone { IfOk result (λ flags. (told : List Event)
         × WasReduced setting.now.limits (text_in setting.now) 0 flags.items told
         × GrewBy (W.told watch.old) (W.told watch.new) told) }
@@ -34,11 +32,11 @@ pub(crate) fn drop_derivable<W: Watch>(
         AnswersFamily setting.now.limits (text_in setting.now)
         (W.told watch.old) (W.told watch.new) (Err failed)) }
 {
-    let mut flags = all_set(alloc, places.len())?;
-    let mut left = places.len();
+    let mut flags = all_set(alloc, setting.places.len())?;
+    let mut left = setting.places.len();
     while left > 0 {
         left -= 1;
-        drop_if_derivable(alloc, setting, places, &mut flags, left, watch)?;
+        drop_if_derivable(alloc, setting, &mut flags, left, watch)?;
     }
     Ok(flags)
 }

@@ -1,8 +1,7 @@
 //! The family of requirement signatures that is given.
 ghost use Rattle.std.specs.Prelude.{◌≡◌, IfOk, length};
 ghost use Rattle.swreq_valid.specs.swreq_derive.WellFormed.{AreProtocolsWellFormed};
-ghost use Rattle.swreq_valid.specs.swreq_symbols.{Known.{IsTextOver}, Meaning.{facts_of}};
-ghost use Rattle.swreq_valid.specs.swreq_world.ByTable.{world_by};
+ghost use Rattle.swreq_valid.specs.swreq_symbols.{Meaning.{facts_of}, Texts.{world_of}};
 ghost use Rattle.swreq_reqsig.specs.{Families.{AreRequirementSignatures, IsGivenFamily, members}, Told.{AnswersFamily, IsOnlyFamily}};
 
 use crate::family::Family;
@@ -14,9 +13,8 @@ use crate::places::all_places;
 use crate::setting::Setting;
 use std::alloc::Global;
 use swreq_valid::complete::{Failed, Limits};
-use swreq_valid::param::ParamTable;
+use swreq_valid::symbols::Text;
 use swreq_valid::watch::Watch;
-use swreq_valid::world::World;
 
 /// The family of requirement signatures of a text whose protocols are well formed.
 ///
@@ -35,34 +33,32 @@ use swreq_valid::world::World;
 /// told the events of these rounds, one after the other.
 pub fn kept_family<W: Watch>(
     alloc: Global,
-    world: &World,
-    table: &ParamTable,
+    text: &Text<'_>,
     limits: Limits,
     watch: &mut W,
 ) -> Result<Family, Failed>
-    requires text { IsTextOver table.now world.now }
-    requires well_formed { AreProtocolsWellFormed (facts_of (world_by table.now world.now)) }
-    ensures answer { AnswersFamily limits (world_by table.now world.now)
+    requires { AreProtocolsWellFormed (facts_of (world_of text.now)) }
+    ensures answer { AnswersFamily limits (world_of text.now)
         (W.told watch.old) (W.told watch.new) result }
-    ensures only { IsOnlyFamily limits (world_by table.now world.now) result }
+    ensures only { IsOnlyFamily limits (world_of text.now) result }
     ensures given { IfOk result (λ family.
-        IsGivenFamily (world_by table.now world.now) family.kept) }
+        IsGivenFamily (world_of text.now) family.kept) }
     ensures protocols { IfOk result (λ family.
-        length family.kept ≡ length world.now.lexicon.protocols) }
+        length family.kept ≡ length text.now.world.now.lexicon.protocols) }
     ensures signatures { IfOk result (λ family.
-        AreRequirementSignatures (world_by table.now world.now)
-        (members (world_by table.now world.now) family.kept)) }
+        AreRequirementSignatures (world_of text.now)
+        (members (world_of text.now) family.kept)) }
 {
-    let places = all_places(alloc, world)?;
-    let outlines = outlines(alloc, world, table, &places)?;
-    let named = named(alloc, world.lexicon().names(), &outlines)?;
+    let places = all_places(alloc, text)?;
+    let outlines = outlines(alloc, text, &places)?;
+    let named = named(alloc, text.world.lexicon().names(), &outlines)?;
     let setting = Setting {
-        world,
-        table,
+        text: *text,
+        places: &places,
         outlines: &outlines,
         named: &named,
         limits,
     };
-    let flags = drop_derivable(alloc, &setting, &places, watch)?;
-    Ok(family_of(alloc, world, &flags)?)
+    let flags = drop_derivable(alloc, &setting, watch)?;
+    Ok(family_of(alloc, text, &flags)?)
 }

@@ -1,12 +1,11 @@
 //! The requirements of all protocols in one list.
 ghost use Rattle.std.specs.Prelude.{◌≡◌, ◌++◌, IfOk, OnOk};
-ghost use Rattle.swreq_valid.specs.swreq_world.Closed.{AreIds};
 ghost use Rattle.swreq_reqsig.specs.Places.{all_places, places_from};
 
 use std::alloc::{AllocError, Global};
 use swreq_valid::derive::Requirement;
 use swreq_valid::param::ProtoId;
-use swreq_valid::world::World;
+use swreq_valid::symbols::Text;
 
 /// A requirement of a protocol, with its number among those of the protocol, from 1.
 #[derive(Clone, Copy, Debug)]
@@ -40,14 +39,13 @@ fn add_places(p: ProtoId, list: &[Requirement], all: &mut Vec<Place>) -> Result<
 }
 
 /// The requirements of all protocols, protocols and requirements in written order.
-pub(crate) fn all_places(alloc: Global, world: &World) -> Result<Vec<Place>, AllocError>
-    requires { AreIds world.now.lexicon }
-    ensures { IfOk result (λ v. v.items ≡ all_places world.now) }
+pub(crate) fn all_places(alloc: Global, text: &Text<'_>) -> Result<Vec<Place>, AllocError>
+    ensures { IfOk result (λ v. v.items ≡ all_places text.now.world.now) }
 {
     let mut all = Vec::new(alloc);
-    for k in 0..world.protocols() {
-        let p = world.proto_at(k);
-        let list = world.bare_requirements(p);
+    for k in 0..text.world.protocols() {
+        let p = text.world.proto_at(k);
+        let list = text.world.bare_requirements(p);
         add_places(p, list, &mut all)?;
     }
     Ok(all)

@@ -2,7 +2,7 @@
 ghost use Rattle.std.specs.Prelude.{◌≡◌, ◌<◌, ◌&&◌, false, true, IfOk, List, MatchOption, length, slice_get, slice_index_or, slice_set, Some, replicate};
 ghost use Rattle.swreq_valid.specs.swreq_param.{Terms.{Term}, declared.ids.TermId.{TermId}};
 ghost use Rattle.swreq_valid.specs.swreq_derive.declared.requirements.Requirement.TheVariants.{Conf};
-ghost use Rattle.swreq_reqsig.specs.{Marks.{HasPassed, HasRanksBelow, HaveRanksBelow, IsClosedAt, IsMarked, IsMarkedBy, TellLed, TellReached, kept_at, marked}, Asked.{AreAsked, IsBeyond}, Selections.{IsSelection}, Settings.{text_in}};
+ghost use Rattle.swreq_reqsig.specs.{Marks.{HasPassed, HasRanksBelow, IsClosedAt, IsMarked, IsMarkedBy, TellLed, TellReached, kept_at, marked}, Asked.{AreAsked, IsBeyond}, Selections.{protocols_in}, Settings.{text_in}};
 
 use crate::places::Place;
 use crate::saying::is_unsaid;
@@ -64,17 +64,18 @@ fn go_on(place: &Place, kept: bool, marks: &mut Vec<bool>) -> bool
 /// Goes through the places from the last to the first, and from each marked protocol on. Whether more are marked.
 ///
 /// Most protocols inherit from those before them, so that their parents are marked in the same pass.
-fn pass(places: &[Place], flags: &[bool], marks: &mut Vec<bool>) -> bool
-    requires flags { length flags.now ≡ length places.now }
-    requires ranks { HaveRanksBelow (length marks.old.items) places.now }
-    ensures { HasPassed places.now flags.now 0 result marks.old.items marks.new.items }
+fn pass(selection: &Selection<'_>, marks: &mut Vec<bool>) -> bool
+    requires { length marks.old.items ≡ protocols_in selection.now }
+    ensures { HasPassed selection.now.setting.places.now selection.now.flags.now
+        0 result marks.old.items marks.new.items }
 {
+    let places = selection.setting.places;
     let mut grew = false;
     let mut left = places.len();
     while left > 0 {
         left -= 1;
         let place = &places[left];
-        let added = go_on(place, flags[left], marks);
+        let added = go_on(place, selection.flags[left], marks);
         grew = grew || added;
     }
     grew
@@ -105,52 +106,42 @@ pub(crate) fn is_any_marked(marks: &[bool]) -> bool
     marks.contains(&true)
 }
 
-/// Marks all protocols that those marked reach by the requirements whose flags are set.
-pub(crate) fn close(places: &[Place], flags: &[bool], marks: &mut Vec<bool>)
-    requires flags { length flags.now ≡ length places.now }
-    requires ranks { HaveRanksBelow (length marks.old.items) places.now }
+/// Marks all protocols that those marked reach by the requirements that are selected.
+pub(crate) fn close(selection: &Selection<'_>, marks: &mut Vec<bool>)
+    requires { length marks.old.items ≡ protocols_in selection.now }
     ensures { (terms : List Term)
-        → TellLed (kept_at terms places.now flags.now) marks.old.items marks.new.items }
+        → TellLed (kept_at terms selection.now.setting.places.now selection.now.flags.now)
+        marks.old.items marks.new.items }
 {
     let mut grows = is_any_marked(marks);
     while grows {
-        grows = pass(places, flags, marks);
+        grows = pass(selection, marks);
     }
 }
 
-/// Marks for all protocols, set for those that a protocol reaches by the requirements whose flags are set.
-fn reached(
-    alloc: Global,
-    protocols: usize,
-    places: &[Place],
-    flags: &[bool],
-    p: ProtoId,
-) -> Result<Vec<bool>, AllocError>
-    requires flags { length flags.now ≡ length places.now }
-    requires ranks { HaveRanksBelow protocols places.now }
-    requires proto { p.rank < protocols }
+/// Marks for all protocols, set for those that a protocol reaches by the requirements that are selected.
+fn reached(alloc: Global, selection: &Selection<'_>, p: ProtoId) -> Result<Vec<bool>, AllocError>
+    requires { p.rank < protocols_in selection.now }
     ensures { IfOk result (λ marks. (terms : List Term)
-        → TellReached (kept_at terms places.now flags.now) p marks.items) }
+        → TellReached (kept_at terms selection.now.setting.places.now selection.now.flags.now)
+        p marks.items) }
 {
+    let protocols = selection.setting.text.world.protocols() as usize;
     let mut marks = first_mark(alloc, protocols, p)?;
-    close(places, flags, &mut marks);
+    close(selection, &mut marks);
     Ok(marks)
 }
 
-/// The flags of those that are kept and whose protocols are marked.
-fn marked(
-    alloc: Global,
-    places: &[Place],
-    flags: &[bool],
-    marks: &[bool],
-) -> Result<Vec<bool>, AllocError>
-    requires { length flags.now ≡ length places.now }
-    ensures { IfOk result (λ v. v.items ≡ marked places.now flags.now marks.now) }
+/// The flags of those that are selected and whose protocols are marked.
+fn marked(alloc: Global, selection: &Selection<'_>, marks: &[bool]) -> Result<Vec<bool>, AllocError>
+    ensures { IfOk result (λ v. v.items
+        ≡ marked selection.now.setting.places.now selection.now.flags.now marks.now) }
 {
+    let places = selection.setting.places;
     let mut v = Vec::new(alloc);
     for k in 0..places.len() {
         let place = &places[k];
-        v.push(is_of_marked(place, flags[k], marks))?;
+        v.push(is_of_marked(place, selection.flags[k], marks))?;
     }
     Ok(v)
 }
@@ -176,8 +167,7 @@ pub(crate) fn asked(
     selection: &Selection<'_>,
     at: usize,
 ) -> Result<Option<Vec<bool>>, AllocError>
-    requires selection { IsSelection selection.now }
-    requires at { at < length selection.now.places.now }
+    requires { at < length selection.now.setting.places.now }
     ensures { IfOk result (λ found. MatchOption found
         (IsBeyond (text_in selection.now.setting) at selection.now.flags.now)
         (λ asked.
@@ -187,18 +177,11 @@ pub(crate) fn asked(
     if unsaid {
         return Ok(None);
     }
-    let place = &selection.places[at];
-    let protocols = selection.setting.world.protocols() as usize;
-    let marks = reached(
-        alloc,
-        protocols,
-        selection.places,
-        selection.flags,
-        place.proto,
-    )?;
+    let place = &selection.setting.places[at];
+    let marks = reached(alloc, selection, place.proto)?;
     if is_beyond(&marks, &place.requirement) {
         return Ok(None);
     }
-    let asked = marked(alloc, selection.places, selection.flags, &marks)?;
+    let asked = marked(alloc, selection, &marks)?;
     Ok(Some(asked))
 }

@@ -1,7 +1,7 @@
 //! What a family says of type parameters with one last name, and which requirements it leaves unsaid.
 ghost use Rattle.std.specs.Prelude.{◌≡◌, ◌<◌, ◌↔◌, ◌⊎◌, Bool, IfOk, IsTrue, None, Some, length, slice_get, true};
 ghost use Rattle.swreq_valid.specs.swreq_derive.Facts.{requirement_of};
-ghost use Rattle.swreq_reqsig.specs.{declared.places.Place.{Place}, Marks.{IsMarked}, Outlines.{AreSaid, ArePlaces, BearsBy, HasProtocolBelow, HaveProtocolsBelow, IsMarkedToo, IsSaidAt, IsSaidBy, IsSaidIn, outline_in}, Named.{kept_for}, Saying.{IsUnsaid, SaysConforms, SaysEqual, SaysObject}, Selections.{IsSelection, lexicon_in, selected_in}};
+ghost use Rattle.swreq_reqsig.specs.{declared.places.Place.{Place}, Marks.{IsMarked}, Outlines.{AreSaid, ArePlaces, BearsBy, HasProtocolBelow, HaveProtocolsBelow, IsMarkedToo, IsSaidAt, IsSaidBy, IsSaidIn, outline_in}, Named.{kept_for}, Saying.{IsUnsaid, SaysConforms, SaysEqual, SaysObject}, Selections.{lexicon_in, protocols_in, selected_in}};
 
 use crate::named::list_of;
 use crate::outlines::{Kind, Outline};
@@ -40,7 +40,6 @@ fn mark(outline: &Outline, kept: bool, name: Option<NameId>, marks: &mut Vec<boo
 
 /// The places of the requirements that name a last name, selected or not.
 fn places_of<'a>(selection: &Selection<'a>, name: Option<NameId>) -> &'a [usize]
-    requires { IsSelection selection.now }
     ensures places { result.now ≡ kept_for selection.now.setting.named.now name }
     ensures are { ArePlaces selection.now.setting.outlines.now selection.now.flags.now result.now }
 {
@@ -49,8 +48,8 @@ fn places_of<'a>(selection: &Selection<'a>, name: Option<NameId>) -> &'a [usize]
 
 /// Marks the protocol of the conformance at a place, where that is selected and its subject has the last name.
 fn mark_at(selection: &Selection<'_>, k: usize, name: Option<NameId>, marks: &mut Vec<bool>)
-    requires outlines { k < length selection.now.setting.outlines.now }
-    requires flags { k < length selection.now.flags.now }
+    requires place { (k < length selection.now.setting.outlines.now)
+        × (k < length selection.now.flags.now) }
     requires rank { HaveProtocolsBelow (length marks.old.items) selection.now.setting.outlines.now }
     ensures { (outline : Outline) (kept : Bool)
         → slice_get selection.now.setting.outlines.now k ≡ Some outline
@@ -68,15 +67,14 @@ fn mark_at(selection: &Selection<'_>, k: usize, name: Option<NameId>, marks: &mu
 /// Marks for all protocols, set for those to which it is said of a type parameter with the last name that it conforms.
 fn stated(
     alloc: Global,
-    protocols: usize,
     selection: &Selection<'_>,
     name: Option<NameId>,
 ) -> Result<Vec<bool>, AllocError>
-    requires selection { IsSelection selection.now }
-    requires ranks { HaveProtocolsBelow protocols selection.now.setting.outlines.now }
     ensures { IfOk result (λ marks. AreSaid selection.now.setting.outlines.now
-        selection.now.flags.now name protocols marks.items) }
+        selection.now.flags.now name
+        (protocols_in selection.now) marks.items) }
 {
+    let protocols = selection.setting.text.world.protocols() as usize;
     let mut marks = none_marked(alloc, protocols)?;
     let places = places_of(selection, name);
     for at in 0..places.len() {
@@ -91,13 +89,11 @@ fn said(
     selection: &Selection<'_>,
     name: Option<NameId>,
 ) -> Result<Vec<bool>, AllocError>
-    requires { IsSelection selection.now }
     ensures { IfOk result (λ marks. (q : ProtoId) → IsMarked marks.items q
         ↔ SaysConforms (lexicon_in selection.now) (selected_in selection.now) name q) }
 {
-    let protocols = selection.setting.world.protocols() as usize;
-    let mut marks = stated(alloc, protocols, selection, name)?;
-    close(selection.places, selection.flags, &mut marks);
+    let mut marks = stated(alloc, selection, name)?;
+    close(selection, &mut marks);
     Ok(marks)
 }
 
@@ -144,8 +140,8 @@ fn says_at(
     name: Option<NameId>,
     marks: &[bool],
 ) -> bool
-    requires outlines { k < length selection.now.setting.outlines.now }
-    requires flags { k < length selection.now.flags.now }
+    requires { (k < length selection.now.setting.outlines.now)
+        × (k < length selection.now.flags.now) }
     ensures { (outline : Outline) (kept : Bool)
         → slice_get selection.now.setting.outlines.now k ≡ Some outline
         → slice_get selection.now.flags.now k ≡ Some kept
@@ -180,7 +176,6 @@ fn is_said_in(
 /// Whether one of the requirements says so of a type parameter with the last name: one with the name, or one of `Self` where a protocol is
 /// marked.
 fn is_said(kind: Kind, name: Option<NameId>, marks: &[bool], selection: &Selection<'_>) -> bool
-    requires { IsSelection selection.now }
     ensures { IsTrue result
         ↔ IsSaidAt selection.now.setting.outlines.now selection.now.flags.now kind name marks.now }
 {
@@ -199,7 +194,6 @@ fn is_apart(
     selection: &Selection<'_>,
     name: Option<NameId>,
 ) -> Result<bool, AllocError>
-    requires { IsSelection selection.now }
     ensures { IfOk result (λ b. IsTrue b
         ↔ (SaysEqual (lexicon_in selection.now) (selected_in selection.now) name → ⊥)) }
 {
@@ -215,7 +209,6 @@ fn lacks_conformance(
     name: Option<NameId>,
     proto: ProtoId,
 ) -> Result<bool, AllocError>
-    requires { IsSelection selection.now }
     ensures { IfOk result (λ b. IsTrue b
         ↔ ((SaysEqual (lexicon_in selection.now) (selected_in selection.now) name → ⊥)
         × (SaysConforms (lexicon_in selection.now) (selected_in selection.now) name proto → ⊥))) }
@@ -233,7 +226,6 @@ fn lacks_object(
     selection: &Selection<'_>,
     name: Option<NameId>,
 ) -> Result<bool, AllocError>
-    requires { IsSelection selection.now }
     ensures { IfOk result (λ b. IsTrue b
         ↔ ((SaysEqual (lexicon_in selection.now) (selected_in selection.now) name → ⊥)
         × (SaysObject (lexicon_in selection.now) (selected_in selection.now) name → ⊥))) }
@@ -253,7 +245,6 @@ fn lacks_equality(
     left: Option<NameId>,
     right: Option<NameId>,
 ) -> Result<bool, AllocError>
-    requires { IsSelection selection.now }
     ensures { IfOk result (λ b. IsTrue b ↔ ((left ≡ right → ⊥)
         × ((SaysEqual (lexicon_in selection.now) (selected_in selection.now) left → ⊥)
         ⊎ (SaysEqual (lexicon_in selection.now) (selected_in selection.now) right → ⊥)))) }
@@ -276,11 +267,10 @@ fn is_itself(subject: Option<NameId>, proto: ProtoId, owner: ProtoId) -> bool
 
 /// The requirement at a place, by the last names of its type parameters.
 fn outline_at(selection: &Selection<'_>, at: usize) -> Outline
-    requires selection { IsSelection selection.now }
-    requires at { at < length selection.now.places.now }
-    ensures { (x : Place) → slice_get selection.now.places.now at ≡ Some x
+    requires { at < length selection.now.setting.outlines.now }
+    ensures { (x : Place) → slice_get selection.now.setting.places.now at ≡ Some x
         → outline_in (lexicon_in selection.now) x.proto
-        (requirement_of selection.now.setting.table.now x.requirement) ≡ result }
+        (requirement_of selection.now.setting.text.table.now x.requirement) ≡ result }
 {
     selection.setting.outlines[at]
 }
@@ -291,15 +281,14 @@ pub(crate) fn is_unsaid(
     selection: &Selection<'_>,
     at: usize,
 ) -> Result<bool, AllocError>
-    requires selection { IsSelection selection.now }
-    requires at { at < length selection.now.places.now }
-    ensures { IfOk result (λ b. (x : Place) → slice_get selection.now.places.now at ≡ Some x
+    requires { at < length selection.now.setting.places.now }
+    ensures { IfOk result (λ b. (x : Place) → slice_get selection.now.setting.places.now at ≡ Some x
         → IsTrue b ↔ IsUnsaid (lexicon_in selection.now) (selected_in selection.now) x.proto
-        (requirement_of selection.now.setting.table.now x.requirement)) }
+        (requirement_of selection.now.setting.text.table.now x.requirement)) }
 {
     match outline_at(selection, at) {
         Outline::Conformance { subject, proto } => {
-            if is_itself(subject, proto, selection.places[at].proto) {
+            if is_itself(subject, proto, selection.setting.places[at].proto) {
                 return Ok(false);
             }
             lacks_conformance(alloc, selection, subject, proto)

@@ -3,8 +3,7 @@ ghost use Rattle.std.specs.{Prelude.{◌≡◌, ◌<◌, ◌-◌, ◌++◌, IfOk
 ghost use Rattle.swreq_valid.specs.swreq_derive.Facts.{requirement_of};
 ghost use Rattle.swreq_valid.specs.swreq_lowering.ByTable.{HasIdsOf};
 ghost use Rattle.swreq_print.specs.{Names.{protocol_name}, Signatures.{self_text}};
-ghost use Rattle.swreq_valid.specs.swreq_symbols.Known.{IsTextOver};
-ghost use Rattle.swreq_valid.specs.swreq_world.ByTable.{world_by};
+ghost use Rattle.swreq_valid.specs.swreq_symbols.Texts.{world_of};
 ghost use Rattle.swreq_reqsig.specs.{Families.{numbered}, Texts.{family_text, kept_of, protocol_line, where_text}};
 
 use crate::family::Family;
@@ -14,7 +13,7 @@ use swreq_print::self_text;
 use swreq_text::{Print, append_bytes, put_joined};
 use swreq_valid::derive::Requirement;
 use swreq_valid::param::{ParamTable, ProtoId};
-use swreq_valid::world::World;
+use swreq_valid::symbols::Text;
 
 /// What prints requirements of protocols over a table, with these names.
 #[derive(Drop)]
@@ -125,39 +124,36 @@ fn put_line(
 /// The line of a protocol that keeps the requirements with these numbers.
 fn put_numbered(
     alloc: Global,
-    world: &World,
-    table: &ParamTable,
+    text: &Text<'_>,
     p: ProtoId,
     numbers: &[u32],
     out: &mut Vec<u8>,
 ) -> Result<(), AllocError>
-    requires text { IsTextOver table.now world.now }
-    requires proto { p.rank < length world.now.lexicon.protocols }
-    ensures { OnOk result (out.new.items ≡ out.old.items ++ protocol_line world.now.lexicon p
-        (kept_of (world_by table.now world.now) p numbers.now)) }
+    requires { p.rank < length text.now.world.now.lexicon.protocols }
+    ensures { OnOk result (out.new.items
+        ≡ out.old.items ++ protocol_line text.now.world.now.lexicon p
+        (kept_of (world_of text.now) p numbers.now)) }
 {
-    let list = numbered(alloc, world.bare_requirements(p), numbers)?;
-    put_line(alloc, world.lexicon(), table, p, &list, out)
+    let list = numbered(alloc, text.world.bare_requirements(p), numbers)?;
+    put_line(alloc, text.world.lexicon(), text.table, p, &list, out)
 }
 
 /// A line for each protocol, in written order.
 fn put_family(
     alloc: Global,
-    world: &World,
-    table: &ParamTable,
+    text: &Text<'_>,
     family: &Family,
     out: &mut Vec<u8>,
 ) -> Result<(), AllocError>
-    requires text { IsTextOver table.now world.now }
-    requires protocols { length family.now.kept ≡ length world.now.lexicon.protocols }
+    requires { length family.now.kept ≡ length text.now.world.now.lexicon.protocols }
     ensures { OnOk result (out.new.items
-        ≡ out.old.items ++ family_text (world_by table.now world.now) family.now.kept) }
+        ≡ out.old.items ++ family_text (world_of text.now) family.now.kept) }
 {
     let lists = family.kept.items();
-    for k in 0..world.protocols() {
-        let p = world.proto_at(k);
+    for k in 0..text.world.protocols() {
+        let p = text.world.proto_at(k);
         let numbers = &lists[k as usize];
-        put_numbered(alloc, world, table, p, numbers.items(), out)?;
+        put_numbered(alloc, text, p, numbers.items(), out)?;
     }
     Ok(())
 }
@@ -166,18 +162,16 @@ fn put_family(
 /// requirements that it keeps where there are any, with `Self` for the generic parameter, and `>`. If memory runs out, `out` is unchanged.
 pub fn family_text(
     alloc: Global,
-    world: &World,
-    table: &ParamTable,
+    text: &Text<'_>,
     family: &Family,
     out: &mut Vec<u8>,
 ) -> Result<(), AllocError>
-    requires text { IsTextOver table.now world.now }
-    requires protocols { length family.now.kept ≡ length world.now.lexicon.protocols }
+    requires { length family.now.kept ≡ length text.now.world.now.lexicon.protocols }
     ensures ok { OnOk result (out.new.items
-        ≡ out.old.items ++ family_text (world_by table.now world.now) family.now.kept) }
+        ≡ out.old.items ++ family_text (world_of text.now) family.now.kept) }
     ensures err { OnErr result (out.new.items ≡ out.old.items) }
 {
-    let mut text = Vec::new(alloc);
-    put_family(alloc, world, table, family, &mut text)?;
-    append_bytes(out, &text)
+    let mut lines = Vec::new(alloc);
+    put_family(alloc, text, family, &mut lines)?;
+    append_bytes(out, &lines)
 }

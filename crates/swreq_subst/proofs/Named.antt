@@ -1,6 +1,6 @@
 -- Calls of which no name is refused, and the items of lists one by one.
-use Rattle.std.proofs.Common.{◌≡◌, ◌≢◌, ℕ, suc, ◌+◌, ◌<◌, true, List, [], ◌∷◌, ◌++◌, Option, Some, None, length, map, take, get_or, refl, sym, ap, subst, ◌∙◌}
-use Rattle.std.specs.Prelude.{All, is_some, nat_eq}
+use Rattle.std.proofs.Common.{◌≡◌, ◌≢◌, ℕ, suc, ◌+◌, ◌<◌, List, [], ◌∷◌, ◌++◌, Option, Some, None, length, map, take, get_or, refl, sym, ap, subst, ◌∙◌}
+use Rattle.std.specs.Prelude.{All, nat_eq}
 use Rattle.std.specs.List.{flat_map}
 use Rattle.std.specs.Option.{option_map}
 use Rattle.std.proofs.lemmas.Bool.{eqb-true}
@@ -9,17 +9,15 @@ use Rattle.std.proofs.lemmas.List.Elements.{All-append, All-cons, All-nil}
 use Rattle.swreq_resolve.specs.swreq_decl.declared.skeleton.CallDecl.{CallDecl}
 use Rattle.swreq_resolve.specs.swreq_decl.declared.skeleton.Span.{Span}
 use Rattle.swreq_resolve.specs.swreq_decl.declared.skeleton.TypeDecl.{TypeDecl}
-use Rattle.swreq_resolve.specs.swreq_names.declared.signature.Param.{Param}
 use Rattle.swreq_resolve.specs.swreq_names.declared.signature.Signature.{Signature}
-use Rattle.swreq_resolve.specs.swreq_names.Spaces.{nested_in, param_of, signature_of, struct_of, word}
+use Rattle.swreq_resolve.specs.swreq_names.Spaces.{nested_in, signature_of, struct_of, word}
 use Rattle.swreq_resolve.specs.swreq_rank.Ranks.{Bytes}
-use Rattle.swreq_resolve.specs.declared.refusal.Fault.TheVariants.{ConcreteType, WrongArity}
+use Rattle.swreq_resolve.specs.declared.refusal.Fault.TheVariants.{WrongArity}
 use Rattle.swreq_resolve.specs.RefusedTypes.{of_type_on}
-use Rattle.swreq_resolve.specs.Refusals.{begins_in_signature, of_asked, of_nested_query, of_step}
+use Rattle.swreq_resolve.specs.Refusals.{of_asked, of_nested_query}
 use Rattle.swreq_machine.specs.swreq_lowering.declared.ids.FuncId.{FuncId}
 use Rattle.swreq_machine.specs.swreq_lowering.Signatures.{func_id}
-use Rattle.swreq_machine.specs.swreq_lowering.Types.{param_id}
-use Rattle.swreq_machine.specs.swreq_world.Lookups.{order_of, param_of_signature}
+use Rattle.swreq_machine.specs.swreq_world.Lookups.{order_of}
 use Rattle.swreq_machine.specs.swreq_world.Worlds.{IdWorld, signature_at}
 use Rattle.swreq_subst.specs.Arguments.{param_count}
 use Rattle.swreq_subst.specs.Refusals.{declared, func_called, of_call, of_count, of_name, of_types, query_on, signature_called}
@@ -91,20 +89,6 @@ module _ (w : IdWorld) (text : Bytes) where
       (eqb-true (length c.args) (param_count (signature_at w h).params)
       (passes (nat_eq (length c.args) (param_count (signature_at w h).params)) WrongArity c.callee.start e))
 
-  begins_there : (o : Option Param) (n : ℕ) → is_some o ≡ true → option_map (param_id n) o ≢ None
-  begins_there None n e none = absurd cc
-  begins_there (Some p) n e none = absurd cc
-
-  -- the first word of a type of which no name is refused
-  head_there : (ids : HaveIds w) (f : FuncId) (g : Signature) (t : TypeDecl) → (signature_at w f).signature ≡ g
-      → of_type_on (declared w) g text t ≡ []
-      → param_of_signature w f (word text t.head) ≢ None
-  head_there ids f g t same e =
-      let begins = passes (begins_in_signature (declared w) g (word text t.head)) ConcreteType t.head.start
-      (first_nothing _ (flat_map (of_step text (declared w)) t.steps) e) in
-      begins_there (param_of (declared w) (signature_at w f).signature (word text t.head)) (signature_at w f).own_depth
-      (subst (λ (h : Signature). is_some (param_of (declared w) h (word text t.head)) ≡ true) (sym same) begins)
-
   -- ---- a call
 
   module _ (ids : HaveIds w) (c : CallDecl) (resolves : of_call w text c ≡ []) where
@@ -141,11 +125,7 @@ module _ (w : IdWorld) (text : Bytes) where
           (second_nothing (of_count w text (func_called w text c.callee_outer c.callee) c)
           (of_types w text (signature_called w text c.caller_outer c.caller) c.args) but_names)
 
-      pub heads_named : All (λ (t : TypeDecl). param_of_signature w f (word text t.head) ≢ None) c.args
-      heads_named k d l =
-          head_there ids f caller.0 (get_or c.args k d) same_caller
-          (nothing_of_each (of_type_on (declared w) caller.0 text) c.args k d types_named l)
-
-      pub steps_named : All (λ (t : TypeDecl). flat_map (of_step text (declared w)) t.steps ≡ []) c.args
-      steps_named k d l = second_nothing _ (flat_map (of_step text (declared w)) (get_or c.args k d).steps)
+      pub each_named : All (λ (t : TypeDecl). of_type_on (declared w) (signature_at w f).signature text t ≡ []) c.args
+      each_named k d l =
+          subst (λ (g : Signature). of_type_on (declared w) g text (get_or c.args k d) ≡ []) (sym same_caller)
           (nothing_of_each (of_type_on (declared w) caller.0 text) c.args k d types_named l)

@@ -4,5 +4,6 @@ pub mod Calls
 pub mod Refusals
 pub mod Refused
 pub mod Saying
+pub mod Words
 pub mod Failing
 pub mod Lines

@@ -1,9 +1,9 @@
 //! Type parameters of a table with types in place of their generic parameters.
-ghost use Rattle.std.specs.Prelude.{◌≡◌, ◌<◌, All, IfOk, length, map};
-ghost use Rattle.swreq_machine.specs.swreq_param.{Tables.{Extends, IsOf, term_at}, Terms.{head, with_steps}};
+ghost use Rattle.std.specs.Prelude.{◌≡◌, All, IfOk, map};
+ghost use Rattle.swreq_machine.specs.swreq_param.{Tables.{Extends, IsOf, term_at}, Terms.{with_steps}};
 ghost use Rattle.swreq_machine.specs.swreq_derive.Facts.{requirement_of};
-ghost use Rattle.swreq_machine.specs.swreq_lowering.{ByTable.{HasIdsOf}, Heads.{IsOver}};
-ghost use Rattle.swreq_subst.specs.Arguments.{place_of, requirement_with, with_arguments};
+ghost use Rattle.swreq_machine.specs.swreq_lowering.ByTable.{HasIdsOf};
+ghost use Rattle.swreq_subst.specs.Arguments.{HasArgument, HasArguments, place_of, requirement_with, with_arguments};
 
 use std::alloc::{AllocError, Global};
 use swreq_machine::derive::{Params, Requirement};
@@ -48,8 +48,7 @@ fn with_arguments(
     u: TermId,
 ) -> Result<TermId, AllocError>
     requires args { All (IsOf table.old) args.now }
-    requires u { IsOf table.old u }
-    requires param { place_of params (head (term_at table.old u)) < length args.now }
+    requires u { HasArgument table.old params args.now u }
     ensures id { IfOk result (λ id. IsOf table.new id) }
     ensures stands { IfOk result (λ id. term_at table.new id
         ≡ with_arguments params (map (term_at table.old) args.now) (term_at table.old u)) }
@@ -69,8 +68,7 @@ pub(crate) fn requirement_with(
     r: Requirement,
 ) -> Result<Requirement, AllocError>
     requires args { All (IsOf table.old) args.now }
-    requires ids { HasIdsOf table.old r }
-    requires over { IsOver (λ g. place_of params g < length args.now) (requirement_of table.old r) }
+    requires r { HasArguments table.old params args.now r }
     ensures ids { IfOk result (HasIdsOf table.new) }
     ensures stands { IfOk result (λ q. requirement_of table.new q
         ≡ requirement_with params (map (term_at table.old) args.now) (requirement_of table.old r)) }

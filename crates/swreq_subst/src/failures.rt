@@ -2,12 +2,11 @@
 ghost use Rattle.std.specs.Prelude.{◌≡◌, ◌↔◌, ◌<◌, ◌^◌, ◌∷◌, ◌++◌, [], if◌then◌else◌, OnOk, List, All, IsTrue, IfOk, Some, length, map};
 ghost use Rattle.swreq_machine.specs.swreq_param.{Tables.{Extends, term_at}, declared.ids.TermId.{TermId}};
 ghost use Rattle.swreq_machine.specs.swreq_derive.{Derivation.{TermRequirement}, Derivation.Source.{Written}, Derivation.TermStatement.{Requires}, Facts.{generic_params, requirement_of}};
-ghost use Rattle.swreq_machine.specs.swreq_lowering.Heads.{IsOver};
-ghost use Rattle.swreq_machine.specs.swreq_symbols.Known.{IsRequirementIn, IsTextOver, IsTypeIn};
+ghost use Rattle.swreq_machine.specs.swreq_symbols.Known.{IsTextOver};
 ghost use Rattle.swreq_machine.specs.{Asked.{IsDerivable}, Machines.{IsMachineOf}};
 ghost use Rattle.swreq_machine.specs.swreq_valid.Plans.{listed};
 ghost use Rattle.swreq_machine.specs.swreq_world.{ByTable.{world_by}, FactsAt.{facts_of}};
-ghost use Rattle.swreq_subst.specs.{Arguments.{place_of, requirement_with}, Calls.{AreThere, IsCallIn, IsMachineOn, call_by}, Failing.{AreFailing, AreFailingIn}};
+ghost use Rattle.swreq_subst.specs.{Arguments.{requirement_with}, Calls.{AreThere, IsCallIn, IsMachineOn, call_by}, Failing.{AreFailing, AreFailingIn, CanBeJudged, IsJudgingOver, judged_in}};
 
 use crate::arguments::requirement_with;
 use crate::calls::Call;
@@ -30,14 +29,11 @@ struct Judging<'a> {
 
 /// Whether a requirement holds with the types in place of its generic parameters.
 fn holds(by: &Judging<'_>, table: &mut ParamTable, r: Requirement) -> Result<bool, AllocError>
-    requires text { IsTextOver table.old by.now.world.now }
-    requires args { All (IsTypeIn table.old by.now.world.now.lexicon) by.now.args.now }
-    requires r { IsRequirementIn table.old by.now.world.now.lexicon r }
-    requires over { IsOver (λ g. place_of by.now.params g < length by.now.args.now)
-        (requirement_of table.old r) }
+    requires by { IsJudgingOver table.old by.now }
+    requires r { CanBeJudged table.old by.now r }
     ensures holds { IfOk result (λ b. (list : List TermRequirement)
-        → IsMachineOf (world_by table.old by.now.world.now) list by.now.machine.now
-        → IsTrue b ↔ IsDerivable (world_by table.old by.now.world.now) by.now.machine.now list
+        → IsMachineOf (judged_in table.old by.now) list by.now.machine.now
+        → IsTrue b ↔ IsDerivable (judged_in table.old by.now) by.now.machine.now list
         (Requires (requirement_with by.now.params (map (term_at table.old) by.now.args.now)
         (requirement_of table.old r)))) }
     ensures extends { Extends table.old table.new }
@@ -83,15 +79,12 @@ fn numbers_of(
     table: &mut ParamTable,
     list: &[Requirement],
 ) -> Result<Vec<u32>, AllocError>
-    requires text { IsTextOver table.old by.now.world.now }
-    requires args { All (IsTypeIn table.old by.now.world.now.lexicon) by.now.args.now }
-    requires list { All (IsRequirementIn table.old by.now.world.now.lexicon) list.now }
-    requires over { All (λ r. IsOver (λ g. place_of by.now.params g < length by.now.args.now)
-        (requirement_of table.old r)) list.now }
+    requires by { IsJudgingOver table.old by.now }
+    requires list { All (CanBeJudged table.old by.now) list.now }
     requires few { length list.now < 2 ^ 32 }
     ensures failing { IfOk result (λ numbers. (given : List TermRequirement)
-        → IsMachineOf (world_by table.old by.now.world.now) given by.now.machine.now
-        → AreFailing (facts_of (world_by table.old by.now.world.now))
+        → IsMachineOf (judged_in table.old by.now) given by.now.machine.now
+        → AreFailing (facts_of (judged_in table.old by.now))
         (Written (generic_params by.now.machine.now.params) given)
         by.now.params (map (term_at table.old) by.now.args.now)
         (listed table.old list.now) numbers.items) }

@@ -9,6 +9,7 @@ mod line;
 mod refusals;
 mod resolving;
 mod types;
+mod words;
 
 pub use calls::Call;
 pub use failures::failing;

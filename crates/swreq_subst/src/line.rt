@@ -1,9 +1,9 @@
 //! The line that answers a call.
 ghost use Rattle.std.specs.Prelude.{◌≡◌, ◌↔◌, ◌++◌, ◌<◌, ◌≤◌, List, All, IsTrue, IfOk, OnOk, OnErr, MatchBool, length, map};
-ghost use Rattle.swreq_machine.specs.swreq_param.Tables.{Extends, term_at};
+ghost use Rattle.swreq_machine.specs.swreq_param.Tables.{Extends};
 ghost use Rattle.swreq_machine.specs.swreq_derive.{Derivation.{TermRequirement}, Derivation.TermStatement.{IsValid}, Facts.{requirement_of}};
 ghost use Rattle.swreq_machine.specs.swreq_lowering.ByTable.{HasIdsOf};
-ghost use Rattle.swreq_machine.specs.swreq_symbols.Known.{IsTextOver, IsTypeIn};
+ghost use Rattle.swreq_machine.specs.swreq_symbols.{Known.{IsTextOver}, Texts.{IsTypeOfText, term_of, world_of}};
 ghost use Rattle.swreq_machine.specs.{Asked.{IsDerivable}, Machines.{IsMachineOf}};
 ghost use Rattle.swreq_machine.specs.swreq_world.ByTable.{world_by};
 ghost use Rattle.swreq_subst.specs.{Calls.{AreAllValid, IsArgumentIn, IsCallIn, IsMachineOn, IsOneInvalid, IsValidThere, call_by}, Lines.{AppendsLine, text_at, verdict_text}};
@@ -13,6 +13,7 @@ use crate::failures::failing;
 use std::alloc::{AllocError, Global};
 use swreq_machine::derive::Requirement;
 use swreq_machine::param::{ParamTable, TermId};
+use swreq_machine::symbols::Text;
 use swreq_machine::world::World;
 use swreq_machine::{Machine, Scratch};
 use swreq_print::lexicon::Lexicon;
@@ -22,40 +23,36 @@ use swreq_text::{Print, append_bytes, put_joined};
 /// Whether t is derivable from the list of the machine.
 fn is_valid(
     alloc: Global,
-    world: &World,
-    table: &ParamTable,
+    text: &Text<'_>,
     machine: &Machine,
     t: TermId,
 ) -> Result<bool, AllocError>
-    requires text { IsTextOver table.now world.now }
-    requires t { IsTypeIn table.now world.now.lexicon t }
+    requires { IsTypeOfText text.now t }
     ensures { IfOk result (λ b.
-        (list : List TermRequirement) → IsMachineOf (world_by table.now world.now) list machine.now
-        → IsTrue b ↔ IsDerivable (world_by table.now world.now) machine.now list
-        (IsValid (term_at table.now t))) }
+        (list : List TermRequirement) → IsMachineOf (world_of text.now) list machine.now
+        → IsTrue b ↔ IsDerivable (world_of text.now) machine.now list
+        (IsValid (term_of text.now t))) }
 {
-    let mut room = Scratch::for_type(alloc, table, t)?;
-    let valid = machine.is_valid(world, table, t, &mut room);
+    let mut room = Scratch::for_type(alloc, text.table, t)?;
+    let valid = machine.is_valid(text, t, &mut room);
     Ok(valid)
 }
 
 /// Whether a type is there, and derivable from the list of the machine.
 fn is_valid_there(
     alloc: Global,
-    world: &World,
-    table: &ParamTable,
+    text: &Text<'_>,
     machine: &Machine,
     argument: Option<TermId>,
 ) -> Result<bool, AllocError>
-    requires text { IsTextOver table.now world.now }
-    requires argument { IsArgumentIn table.now world.now.lexicon argument }
+    requires { IsArgumentIn text.now.table.now text.now.world.now.lexicon argument }
     ensures { IfOk result (λ b.
-        (list : List TermRequirement) → IsMachineOf (world_by table.now world.now) list machine.now
-        → IsTrue b ↔ IsValidThere (IsDerivable (world_by table.now world.now) machine.now list)
-        table.now argument) }
+        (list : List TermRequirement) → IsMachineOf (world_of text.now) list machine.now
+        → IsTrue b ↔ IsValidThere (IsDerivable (world_of text.now) machine.now list)
+        text.now.table.now argument) }
 {
     match argument {
-        Some(t) => is_valid(alloc, world, table, machine, t),
+        Some(t) => is_valid(alloc, text, machine, t),
         None => Ok(false),
     }
 }
@@ -63,23 +60,21 @@ fn is_valid_there(
 /// Whether each type is there, and derivable from the list of the machine.
 fn are_valid(
     alloc: Global,
-    world: &World,
-    table: &ParamTable,
+    text: &Text<'_>,
     machine: &Machine,
     args: &[Option<TermId>],
 ) -> Result<bool, AllocError>
-    requires text { IsTextOver table.now world.now }
-    requires args { All (IsArgumentIn table.now world.now.lexicon) args.now }
+    requires { All (IsArgumentIn text.now.table.now text.now.world.now.lexicon) args.now }
     ensures { IfOk result (λ b.
-        (list : List TermRequirement) → IsMachineOf (world_by table.now world.now) list machine.now
-        → MatchBool b (AreAllValid (IsDerivable (world_by table.now world.now) machine.now list)
-        table.now args.now)
-        (IsOneInvalid (IsDerivable (world_by table.now world.now) machine.now list) table.now
+        (list : List TermRequirement) → IsMachineOf (world_of text.now) list machine.now
+        → MatchBool b (AreAllValid (IsDerivable (world_of text.now) machine.now list)
+        text.now.table.now args.now)
+        (IsOneInvalid (IsDerivable (world_of text.now) machine.now list) text.now.table.now
         args.now)) }
 {
     for k in 0..args.len() {
         let argument = args[k];
-        if !is_valid_there(alloc, world, table, machine, argument)? {
+        if !is_valid_there(alloc, text, machine, argument)? {
             return Ok(false);
         }
     }
@@ -98,7 +93,8 @@ struct Numbered<'a> {
 impl Print<u32> for Numbered<'_> {
     ghost text = { λ s n. text_at s.names.now (map (requirement_of s.table.now) s.list.now) n };
 
-    ghost fits = { λ s n. (0 < n) × (n ≤ length s.list.now) × All (HasIdsOf s.table.now) s.list.now };
+    ghost fits = { λ s n.
+        (0 < n) × (n ≤ length s.list.now) × All (HasIdsOf s.table.now) s.list.now };
 
     #[tactic(auto, using(swreq_text::proofs::Grown::none_grew))]
     fn put(&self, out: &mut Vec<u8>, item: &u32) -> Result<(), AllocError> {
@@ -108,34 +104,17 @@ impl Print<u32> for Numbered<'_> {
 }
 
 /// Writes `yes` where there are no numbers, and otherwise `no: ` and the requirements with these numbers, joined by `, `; and a line feed.
-fn put_verdict(
-    alloc: Global,
-    names: &Lexicon,
-    table: &ParamTable,
-    list: &[Requirement],
-    numbers: &[u32],
-    out: &mut Vec<u8>,
-) -> Result<(), AllocError>
-    requires ids { All (HasIdsOf table.now) list.now }
-    requires numbers { All (λ n. (0 < n) × (n ≤ length list.now)) numbers.now }
-    ensures { OnOk result (out.new.items ≡ out.old.items
-        ++ verdict_text names.now (map (requirement_of table.now) list.now) numbers.now) }
+fn put_verdict(lines: &Numbered<'_>, numbers: &[u32], out: &mut Vec<u8>) -> Result<(), AllocError>
+    requires ids { All (HasIdsOf lines.now.table.now) lines.now.list.now }
+    requires numbers { All (λ n. (0 < n) × (n ≤ length lines.now.list.now)) numbers.now }
+    ensures { OnOk result (out.new.items ≡ out.old.items ++ verdict_text lines.now.names.now
+        (map (requirement_of lines.now.table.now) lines.now.list.now) numbers.now) }
 {
     match numbers {
         [] => append_bytes(out, b"yes\n"),
         [_, ..] => {
             append_bytes(out, b"no: ")?;
-            put_joined(
-                out,
-                &Numbered {
-                    alloc,
-                    names,
-                    table,
-                    list,
-                },
-                b", ",
-                numbers,
-            )?;
+            put_joined(out, lines, b", ", numbers)?;
             append_bytes(out, b"\n")
         }
     }
@@ -161,12 +140,19 @@ pub fn call_text(
     ensures err { OnErr result (out.new.items ≡ out.old.items) }
     ensures extends { Extends table.old table.new }
 {
-    if !are_valid(alloc, world, table, machine, c.args.items())? {
+    let text = Text { world, table };
+    if !are_valid(alloc, &text, machine, c.args.items())? {
         return append_bytes(out, b"invalid\n");
     }
     let numbers = failing(alloc, world, table, machine, c)?;
     let list = world.bare_signature(alloc, c.g)?;
+    let lines = Numbered {
+        alloc,
+        names: world.lexicon(),
+        table,
+        list: &list,
+    };
     let mut line = Vec::new(alloc);
-    put_verdict(alloc, world.lexicon(), table, &list, &numbers, &mut line)?;
+    put_verdict(&lines, &numbers, &mut line)?;
     append_bytes(out, &line)
 }

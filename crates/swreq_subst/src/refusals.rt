@@ -3,10 +3,10 @@ ghost use Rattle.std.specs.Prelude.{◌≡◌, None, Some};
 ghost use Rattle.swreq_resolve.specs.swreq_names.Spaces.{struct_of, word};
 ghost use Rattle.swreq_resolve.specs.First as order;
 ghost use Rattle.swreq_resolve.specs.{First.{least, walk, when}, RefusedTypes.{of_type_on}, Refusals.{of_nested_query}};
-ghost use Rattle.swreq_subst.specs.{Arguments.{param_count}, Refusals.{declared, func_called, of_call, of_count, of_name, of_types, query_on, refusals, signature_called}, Saying.{HaveIds}};
+ghost use Rattle.swreq_subst.specs.{Arguments.{param_count}, Refusals.{declared, func_called, of_call, of_count, of_name, of_types, query_on, refusals, signature_called}};
 
+use crate::words::Words;
 use swreq_machine::derive::Params;
-use swreq_machine::world::World;
 use swreq_print::decl::{CallDecl, Span, TypeDecl};
 use swreq_print::lowering::FuncId;
 use swreq_print::names::{Declared, Signature, word};
@@ -54,18 +54,17 @@ fn check_nested(
 
 /// Refuses the name of a signature, where there is no such signature.
 fn check_name(
-    world: &World,
-    text: &[u8],
+    words: &Words<'_>,
     outer: Option<Span>,
     name: Span,
     best: Option<Refusal>,
 ) -> Option<Refusal>
-    ensures { result ≡ least best (of_name world.now text.now outer name) }
+    ensures { result ≡ least best (of_name words.now.world.now words.now.text.now outer name) }
 {
-    let d = world.lexicon().resolved().declared();
+    let d = words.world.lexicon().resolved().declared();
     match outer {
-        Some(outer) => check_nested(d, text, outer, name, best),
-        None => match d.signature_of(word(text, name)) {
+        Some(outer) => check_nested(d, words.text, outer, name, best),
+        None => match d.signature_of(word(words.text, name)) {
             Some(_) => best,
             None => noted(best, true, Fault::UnknownSignature, name.start),
         },
@@ -73,33 +72,25 @@ fn check_name(
 }
 
 /// The signature that a call names, or None where no signature has the name. `outer` is the name of the struct around it.
-fn signature_called(
-    world: &World,
-    text: &[u8],
-    outer: Option<Span>,
-    name: Span,
-) -> Option<Signature>
-    ensures { result ≡ signature_called world.now text.now outer name }
+fn signature_called(words: &Words<'_>, outer: Option<Span>, name: Span) -> Option<Signature>
+    ensures { result ≡ signature_called words.now.world.now words.now.text.now outer name }
 {
-    let names = world.lexicon().resolved();
+    let names = words.world.lexicon().resolved();
     match outer {
-        Some(outer) => names.find_nested(word(text, outer), word(text, name)),
-        None => names.find_signature(word(text, name)),
+        Some(outer) => names.find_nested(word(words.text, outer), word(words.text, name)),
+        None => names.find_signature(word(words.text, name)),
     }
 }
 
 /// The id of the signature that a call names, or None where no signature has the name.
-pub(crate) fn func_called(
-    world: &World,
-    text: &[u8],
-    outer: Option<Span>,
-    name: Span,
-) -> Option<FuncId>
-    ensures { result ≡ func_called world.now text.now outer name }
+pub(crate) fn func_called(words: &Words<'_>, outer: Option<Span>, name: Span) -> Option<FuncId>
+    ensures { result ≡ func_called words.now.world.now words.now.text.now outer name }
 {
     match outer {
-        Some(outer) => world.find_func(Some(word(text, outer)), word(text, name)),
-        None => world.find_func(None, word(text, name)),
+        Some(outer) => words
+            .world
+            .find_func(Some(word(words.text, outer)), word(words.text, name)),
+        None => words.world.find_func(None, word(words.text, name)),
     }
 }
 
@@ -111,14 +102,14 @@ fn param_count(params: Params) -> usize
 }
 
 /// Refuses a callee whose generic parameters are not as many as the types of the call.
-fn check_count(world: &World, text: &[u8], c: &CallDecl, best: Option<Refusal>) -> Option<Refusal>
-    requires { HaveIds world.now }
-    ensures { result ≡ least best (of_count world.now text.now
-        (func_called world.now text.now c.now.callee_outer c.now.callee) c.now) }
+fn check_count(words: &Words<'_>, c: &CallDecl, best: Option<Refusal>) -> Option<Refusal>
+    ensures { result ≡ least best (of_count words.now.world.now words.now.text.now
+        (func_called words.now.world.now words.now.text.now c.now.callee_outer c.now.callee)
+        c.now) }
 {
-    match func_called(world, text, c.callee_outer, c.callee) {
+    match func_called(words, c.callee_outer, c.callee) {
         Some(g) => {
-            let wrong = c.args.items().len() != param_count(world.params(g));
+            let wrong = c.args.items().len() != param_count(words.world.params(g));
             noted(best, wrong, Fault::WrongArity, c.callee.start)
         }
         None => best,
@@ -158,39 +149,38 @@ fn check_types_on(
 
 /// Refuses names in the types of a call. They are looked at only where the caller is a signature.
 #[tactic(auto, using(swreq_resolve::proofs::Walks::walked))]
-fn check_types(world: &World, text: &[u8], c: &CallDecl, best: Option<Refusal>) -> Option<Refusal>
-    ensures { result ≡ least best (of_types world.now text.now
-        (signature_called world.now text.now c.now.caller_outer c.now.caller) c.now.args) }
+fn check_types(words: &Words<'_>, c: &CallDecl, best: Option<Refusal>) -> Option<Refusal>
+    ensures { result ≡ least best (of_types words.now.world.now words.now.text.now
+        (signature_called words.now.world.now words.now.text.now c.now.caller_outer c.now.caller)
+        c.now.args) }
 {
-    match signature_called(world, text, c.caller_outer, c.caller) {
+    match signature_called(words, c.caller_outer, c.caller) {
         Some(signature) => {
-            let d = world.lexicon().resolved().declared();
-            check_types_on(d, signature, text, c.args.items(), best)
+            let d = words.world.lexicon().resolved().declared();
+            check_types_on(d, signature, words.text, c.args.items(), best)
         }
         None => best,
     }
 }
 
 #[tactic(auto, using(swreq_resolve::proofs::Walks::least_both))]
-fn check_call(world: &World, text: &[u8], c: &CallDecl, best: Option<Refusal>) -> Option<Refusal>
-    requires { HaveIds world.now }
-    ensures { result ≡ least best (of_call world.now text.now c.now) }
+fn check_call(words: &Words<'_>, c: &CallDecl, best: Option<Refusal>) -> Option<Refusal>
+    ensures { result ≡ least best (of_call words.now.world.now words.now.text.now c.now) }
 {
-    let best = check_name(world, text, c.caller_outer, c.caller, best);
-    let best = check_name(world, text, c.callee_outer, c.callee, best);
-    let best = check_count(world, text, c, best);
-    check_types(world, text, c, best)
+    let best = check_name(words, c.caller_outer, c.caller, best);
+    let best = check_name(words, c.callee_outer, c.callee, best);
+    let best = check_count(words, c, best);
+    check_types(words, c, best)
 }
 
 /// The first name of these calls that is refused.
-pub(crate) fn first_refusal(world: &World, text: &[u8], calls: &[CallDecl]) -> Option<Refusal>
-    requires { HaveIds world.now }
-    ensures { result ≡ least None (refusals world.now text.now calls.now) }
+pub(crate) fn first_refusal(words: &Words<'_>, calls: &[CallDecl]) -> Option<Refusal>
+    ensures { result ≡ least None (refusals words.now.world.now words.now.text.now calls.now) }
 {
     let mut best = None;
     for k in 0..calls.len() {
         let call = &calls[k];
-        best = check_call(world, text, call, best);
+        best = check_call(words, call, best);
     }
     best
 }

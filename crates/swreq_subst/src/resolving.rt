@@ -1,14 +1,14 @@
 //! The calls that are written, or the first name that is refused.
-ghost use Rattle.std.specs.{Prelude.{◌≡◌, ◌≢◌, ◌<◌, ◌⊎◌, [], All, Err, None, Some, IfErr, IfOk, IsOk, map, length}, List.{flat_map}, Option.{option_map}};
-ghost use Rattle.swreq_resolve.specs.swreq_names.Spaces.{word};
+ghost use Rattle.std.specs.{Prelude.{◌≡◌, ◌≢◌, ◌<◌, ◌⊎◌, [], All, Err, None, Some, IfErr, IfOk, IsOk, map, length}, Option.{option_map}};
 ghost use Rattle.swreq_machine.specs.swreq_param.Tables.{Extends, term_at};
-ghost use Rattle.swreq_resolve.specs.{declared.refusal.NameErr.{NameErr}, declared.refusal.NameErr.TheVariants.{Memory}, Refusals.{of_step}};
-ghost use Rattle.swreq_machine.specs.swreq_world.Lookups.{param_of_signature};
+ghost use Rattle.swreq_resolve.specs.{declared.refusal.NameErr.{NameErr}, declared.refusal.NameErr.TheVariants.{Memory}, RefusedTypes.{of_type_on}};
+ghost use Rattle.swreq_machine.specs.swreq_world.Worlds.{signature_at};
 ghost use Rattle.swreq_subst.specs.{Calls.{IsArgumentIn, IsCallIn, call_by}, Refusals.{RefusesCalls, declared, func_called, of_call, refusals}, Saying.{HaveIds, OneByOne, SayCalls, SaysArgument, SaysCall}};
 
 use crate::calls::Call;
 use crate::refusals::{first_refusal, func_called};
 use crate::types::type_of;
+use crate::words::Words;
 use std::alloc::{AllocError, Global};
 use swreq_machine::param::{ParamTable, TermId};
 use swreq_machine::world::World;
@@ -18,11 +18,11 @@ use swreq_resolve::{NameErr, error_of};
 use swreq_text::Seq;
 
 /// The signature of this name, which there is.
-fn called(world: &World, text: &[u8], outer: Option<Span>, name: Span) -> FuncId
-    requires { func_called world.now text.now outer name ≢ None }
-    ensures { func_called world.now text.now outer name ≡ Some result }
+fn called(words: &Words<'_>, outer: Option<Span>, name: Span) -> FuncId
+    requires { func_called words.now.world.now words.now.text.now outer name ≢ None }
+    ensures { func_called words.now.world.now words.now.text.now outer name ≡ Some result }
 {
-    match func_called(world, text, outer, name) {
+    match func_called(words, outer, name) {
         Some(f) => f,
         None => unreachable!(),
     }
@@ -31,28 +31,25 @@ fn called(world: &World, text: &[u8], outer: Option<Span>, name: Span) -> FuncId
 /// The types of a call of the signature f.
 fn types_of(
     alloc: Global,
-    world: &World,
+    words: &Words<'_>,
     table: &mut ParamTable,
     f: FuncId,
-    text: &[u8],
     types: &[TypeDecl],
 ) -> Result<Vec<Option<TermId>>, AllocError>
-    requires ids { HaveIds world.now }
-    requires signature { f.place < length world.now.signatures }
-    requires heads { All (λ t. param_of_signature world.now f (word text.now t.head) ≢ None)
-        types.now }
-    requires resolve { All (λ t. flat_map (of_step text.now (declared world.now)) t.steps ≡ [])
-        types.now }
-    ensures say { IfOk result (λ found. OneByOne (SaysArgument world.now text.now f)
+    requires signature { f.place < length words.now.world.now.signatures }
+    requires resolve { All (λ t. of_type_on (declared words.now.world.now)
+        (signature_at words.now.world.now f).signature words.now.text.now t ≡ []) types.now }
+    ensures say { IfOk result (λ found. OneByOne
+        (SaysArgument words.now.world.now words.now.text.now f)
         (map (option_map (term_at table.new)) found.items) types.now) }
     ensures known { IfOk result
-        (λ found. All (IsArgumentIn table.new world.now.lexicon) found.items) }
+        (λ found. All (IsArgumentIn table.new words.now.world.now.lexicon) found.items) }
     ensures extends { Extends table.old table.new }
 {
     let mut found = Vec::new(alloc);
     for k in 0..types.len() {
         let written = &types[k];
-        let argument = type_of(alloc, world, table, f, text, written)?;
+        let argument = type_of(alloc, words, table, f, written)?;
         found.push(argument)?;
     }
     Ok(found)
@@ -61,21 +58,19 @@ fn types_of(
 /// A call of which no name is refused.
 fn call_of(
     alloc: Global,
-    world: &World,
+    words: &Words<'_>,
     table: &mut ParamTable,
-    text: &[u8],
     c: &CallDecl,
 ) -> Result<Call, AllocError>
-    requires ids { HaveIds world.now }
-    requires resolves { of_call world.now text.now c.now ≡ [] }
+    requires { of_call words.now.world.now words.now.text.now c.now ≡ [] }
     ensures says { IfOk result
-        (λ call. SaysCall world.now text.now (call_by table.new call) c.now) }
-    ensures known { IfOk result (IsCallIn table.new world.now) }
+        (λ call. SaysCall words.now.world.now words.now.text.now (call_by table.new call) c.now) }
+    ensures known { IfOk result (IsCallIn table.new words.now.world.now) }
     ensures extends { Extends table.old table.new }
 {
-    let f = called(world, text, c.caller_outer, c.caller);
-    let g = called(world, text, c.callee_outer, c.callee);
-    let args = types_of(alloc, world, table, f, text, c.args.items())?;
+    let f = called(words, c.caller_outer, c.caller);
+    let g = called(words, c.callee_outer, c.callee);
+    let args = types_of(alloc, words, table, f, c.args.items())?;
     Ok(Call {
         f,
         g,
@@ -86,22 +81,21 @@ fn call_of(
 /// Calls of which no name is refused.
 fn calls_of(
     alloc: Global,
-    world: &World,
+    words: &Words<'_>,
     table: &mut ParamTable,
-    text: &[u8],
     calls: &[CallDecl],
 ) -> Result<Vec<Call>, AllocError>
-    requires ids { HaveIds world.now }
-    requires resolve { refusals world.now text.now calls.now ≡ [] }
-    ensures say { IfOk result
-        (λ found. SayCalls world.now text.now (map (call_by table.new) found.items) calls.now) }
-    ensures known { IfOk result (λ found. All (IsCallIn table.new world.now) found.items) }
+    requires { refusals words.now.world.now words.now.text.now calls.now ≡ [] }
+    ensures say { IfOk result (λ found. SayCalls words.now.world.now words.now.text.now
+        (map (call_by table.new) found.items) calls.now) }
+    ensures known { IfOk result
+        (λ found. All (IsCallIn table.new words.now.world.now) found.items) }
     ensures extends { Extends table.old table.new }
 {
     let mut found = Vec::new(alloc);
     for k in 0..calls.len() {
         let written = &calls[k];
-        let call = call_of(alloc, world, table, text, written)?;
+        let call = call_of(alloc, words, table, written)?;
         found.push(call)?;
     }
     Ok(found)
@@ -134,8 +128,9 @@ pub fn resolve_calls(
     ensures refuses { (e : NameErr) → RefusesCalls world.now text.now calls.now e
         → (result ≡ Err e) ⊎ (result ≡ Err Memory) }
 {
-    match first_refusal(world, text, calls) {
+    let words = Words { world, text };
+    match first_refusal(&words, calls) {
         Some(r) => Err(error_of(r)),
-        None => Ok(calls_of(alloc, world, table, text, calls)?),
+        None => Ok(calls_of(alloc, &words, table, calls)?),
     }
 }

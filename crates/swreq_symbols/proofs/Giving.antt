@@ -6,7 +6,6 @@ use Rattle.std.proofs.lemmas.Option.{same_Some, slice_get_within}
 use Rattle.swreq_correspondence.specs.swreq_param.declared.ids.AssocId.{AssocId}
 use Rattle.swreq_correspondence.specs.swreq_param.declared.ids.NameId.{NameId}
 use Rattle.swreq_correspondence.specs.swreq_param.declared.ids.ProtoId.{ProtoId}
-use Rattle.swreq_correspondence.specs.swreq_param.declared.ids.Step.TheVariants.{Bound}
 use Rattle.swreq_correspondence.specs.swreq_word.declared.symbols.Symbol.TheVariants.{Proto}
 use Rattle.swreq_complete.specs.swreq_rule.declared.rules.Rule.{Rule}
 use Rattle.swreq_world.specs.swreq_lexicon.declared.pair.ProtocolName.{ProtocolName}
@@ -14,7 +13,7 @@ use Rattle.swreq_world.specs.swreq_lexicon.Lexicons.{pair}
 use Rattle.swreq_world.specs.swreq_lexicon.Views.{LexiconView}
 use Rattle.swreq_correspondence.specs.Symbols.{Word}
 use Rattle.swreq_map.specs.Properties.{Vanishes}
-use Rattle.swreq_symbols.specs.Vanishing.{HasStep, DeclaresType, IsFirstBehind, IsGivenBehind}
+use Rattle.swreq_symbols.specs.Vanishing.{DeclaresType, IsFirstBehind, IsGivenBehind}
 use Rattle.swreq_symbols.proofs.Declared.{at_rank, from_rank}
 
 -- ---- of any property of protocols

@@ -1,16 +1,17 @@
 //! The words of type parameters, and the equations of requirements.
 ghost use Rattle.std.specs.Prelude.{◌≡◌, ◌<◌, length, IfOk};
-ghost use Rattle.swreq_correspondence.specs.swreq_param.{declared.ids.Step.TheVariants.{Bound}, Tables.{term_at}};
+ghost use Rattle.swreq_correspondence.specs.swreq_param.declared.ids.Step.TheVariants.{Bound};
 ghost use Rattle.swreq_correspondence.specs.swreq_derive.Facts.{requirement_of};
 ghost use Rattle.swreq_correspondence.specs.Symbols.{left_side, right_side, spell, start, symbol};
 ghost use Rattle.swreq_world.specs.Closed.{AreIds, IsStepOf};
-ghost use Rattle.swreq_symbols.specs.{Known.{IsRequirementIn, IsTextOver, IsTypeIn}, Meaning.{symbols_of}, Overs.{ending, source_by}};
+ghost use Rattle.swreq_symbols.specs.{Meaning.{symbols_of}, Overs.{ending, source_by}, Texts.{IsRequirementOfText, IsTypeOfText, term_of}};
 
+use crate::text::Text;
 use std::alloc::{AllocError, Global};
 use swreq_complete::word::{Symbol, Word};
 use swreq_world::World;
 use swreq_world::derive::Requirement;
-use swreq_world::param::{AssocId, ParamId, ParamTable, ProtoId, Step, TermId};
+use swreq_world::param::{AssocId, ParamId, ProtoId, Step, TermId};
 
 /// The symbol of an associated type.
 fn symbol_of_assoc(world: &World, d: AssocId) -> Symbol
@@ -64,24 +65,22 @@ fn ended(alloc: Global, end: Option<Symbol>) -> Result<Vec<Symbol>, AllocError>
 /// The word of a type parameter, and then this symbol.
 fn spelled(
     alloc: Global,
-    world: &World,
-    table: &ParamTable,
+    text: &Text<'_>,
     owner: Option<ProtoId>,
     t: TermId,
     end: Option<Symbol>,
 ) -> Result<Word, AllocError>
-    requires ids { AreIds world.now.lexicon }
-    requires t { IsTypeIn table.now world.now.lexicon t }
-    ensures { IfOk result (λ w. w ≡ spell (symbols_of world.now.lexicon) (source_by owner)
-        (term_at table.now t) (ending end)) }
+    requires { IsTypeOfText text.now t }
+    ensures { IfOk result (λ w. w ≡ spell (symbols_of text.now.world.now.lexicon) (source_by owner)
+        (term_of text.now t) (ending end)) }
 {
     let mut symbols = ended(alloc, end)?;
     let mut at = t;
-    'members: while let Some((base, step)) = table.split(at) {
-        symbols.push(symbol_of(world, step))?;
+    'members: while let Some((base, step)) = text.table.split(at) {
+        symbols.push(symbol_of(text.world, step))?;
         at = base;
     }
-    symbols.push(start_of(owner, table.head(t)))?;
+    symbols.push(start_of(owner, text.table.head(t)))?;
     symbols.reverse();
     Ok(Word::new(symbols))
 }
@@ -90,39 +89,30 @@ fn spelled(
 /// list of a signature.
 pub fn equation(
     alloc: Global,
-    world: &World,
-    table: &ParamTable,
+    text: &Text<'_>,
     owner: Option<ProtoId>,
     r: &Requirement,
 ) -> Result<(Word, Word), AllocError>
-    requires text { IsTextOver table.now world.now }
-    requires r { IsRequirementIn table.now world.now.lexicon r.now }
-    ensures left { IfOk result (λ e. e.0 ≡ left_side (symbols_of world.now.lexicon)
-        (source_by owner) (requirement_of table.now r.now)) }
-    ensures right { IfOk result (λ e. e.1 ≡ right_side (symbols_of world.now.lexicon)
-        (source_by owner) (requirement_of table.now r.now)) }
+    requires { IsRequirementOfText text.now r.now }
+    ensures left { IfOk result (λ e. e.0 ≡ left_side (symbols_of text.now.world.now.lexicon)
+        (source_by owner) (requirement_of text.now.table.now r.now)) }
+    ensures right { IfOk result (λ e. e.1 ≡ right_side (symbols_of text.now.world.now.lexicon)
+        (source_by owner) (requirement_of text.now.table.now r.now)) }
 {
     match *r {
         Requirement::Conf { subject, proto } => {
-            let left = spelled(
-                alloc,
-                world,
-                table,
-                owner,
-                subject,
-                Some(Symbol::Proto(proto.rank)),
-            )?;
-            let right = spelled(alloc, world, table, owner, subject, None)?;
+            let left = spelled(alloc, text, owner, subject, Some(Symbol::Proto(proto.rank)))?;
+            let right = spelled(alloc, text, owner, subject, None)?;
             Ok((left, right))
         }
         Requirement::Layout { subject } => {
-            let left = spelled(alloc, world, table, owner, subject, Some(Symbol::Layout))?;
-            let right = spelled(alloc, world, table, owner, subject, None)?;
+            let left = spelled(alloc, text, owner, subject, Some(Symbol::Layout))?;
+            let right = spelled(alloc, text, owner, subject, None)?;
             Ok((left, right))
         }
         Requirement::Same { left, right } => {
-            let left = spelled(alloc, world, table, owner, left, None)?;
-            let right = spelled(alloc, world, table, owner, right, None)?;
+            let left = spelled(alloc, text, owner, left, None)?;
+            let right = spelled(alloc, text, owner, right, None)?;
             Ok((left, right))
         }
     }

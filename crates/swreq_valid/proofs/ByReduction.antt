@@ -1,10 +1,9 @@
 -- What reduction shows of type parameters, from what the code decides.
-use Rattle.std.proofs.Common.{◌≡◌, ◌↔◌, ◌∙◌, inl, inr, refl, sym, ap, subst, ℕ, ◌<◌, ◌≤◌, ◌+◌, arith, Bool, IsTrue, List, length, slice_get, Some, Result, Ok, Err, IfOk}
+use Rattle.std.proofs.Common.{◌≡◌, ◌↔◌, ◌∙◌, sym, subst, Bool, IsTrue, List, slice_get, Some, Result, Ok, Err, IfOk}
 use Rattle.std.specs.declared.alloc.AllocError.{AllocError}
 use Rattle.swreq_complete.proofs.swreq_lemmas.Elements.{get_contains}
 use Rattle.swreq_rounds.specs.swreq_param.declared.ids.AssocId.{AssocId}
 use Rattle.swreq_rounds.specs.swreq_param.declared.ids.NameId.{NameId}
-use Rattle.swreq_rounds.specs.swreq_param.declared.ids.ProtoId.{ProtoId}
 use Rattle.swreq_rounds.specs.swreq_param.declared.ids.Step.{Step}
 use Rattle.swreq_rounds.specs.swreq_param.declared.ids.Step.TheVariants.{Bound, Name}
 use Rattle.swreq_rounds.specs.swreq_param.Terms.{Term}

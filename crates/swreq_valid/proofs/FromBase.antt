@@ -1,6 +1,5 @@
 -- The rules of the last round begin with the base of the plan.
 use Rattle.std.proofs.Common.{◌≡◌, Bool, List, ◌∷◌, Option, refl, subst, sym}
-use Rattle.swreq_complete.specs.swreq_rule.declared.rules.Rule.{Rule}
 use Rattle.swreq_complete.specs.Reached.{BeginsWith}
 use Rattle.swreq_complete.specs.declared.limit.Limits.{Limits}
 use Rattle.swreq_rounds.specs.Plan.{Plan}

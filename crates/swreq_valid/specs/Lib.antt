@@ -23,3 +23,4 @@ pub mod ByReduction
 pub mod Courses
 pub mod Underway
 pub mod Protocols
+pub mod Checked

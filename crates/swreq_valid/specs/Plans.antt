@@ -12,6 +12,7 @@ use Rattle.swreq_complete.specs.swreq_rule.declared.rules.Rule.{Rule}
 use Rattle.swreq_rounds.specs.Plan.{Item, Plan}
 use Rattle.swreq_symbols.specs.declared.over.Over.{Over}
 use Rattle.swreq_symbols.specs.declared.over.Over.TheVariants.{Signature, Protocol}
+use Rattle.swreq_symbols.specs.declared.text.Text.{Text}
 use Rattle.swreq_symbols.specs.Known.{IsRequirementIn}
 use Rattle.swreq_symbols.specs.Meaning.{facts_of, symbols_of}
 use Rattle.swreq_world.specs.ByTable.{world_by}
@@ -55,6 +56,14 @@ AreWritten terms x list = (r : Written) → Contains list r → IsRequirementIn 
 -- Requirements of the table and of the text.
 abbrev pub AreKnown : List Term → LexiconView → List Requirement → Type 0
 AreKnown terms x list = (r : Requirement) → Contains list r → IsRequirementIn terms x r
+
+-- They are requirements of the text.
+abbrev pub AreRequirementsOfText : Text → List Requirement → Type 0
+AreRequirementsOfText text list = AreKnown text.table.now text.world.now.lexicon list
+
+-- They are written in the text.
+abbrev pub AreWrittenInText : Text → List Written → Type 0
+AreWrittenInText text list = AreWritten text.table.now text.world.now.lexicon list
 
 -- ---- what the code keeps of requirements
 

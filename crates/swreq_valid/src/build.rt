@@ -2,8 +2,7 @@
 #![tactic(auto, using(swreq_symbols::proofs::OfTexts::text_over))]
 
 ghost use Rattle.std.specs.Prelude.{◌≡◌, IfOk, length};
-ghost use Rattle.swreq_symbols.specs.{Known.{IsTextOver}, Meaning.{facts_of, symbols_of}, Texts.{world_of}};
-ghost use Rattle.swreq_world.specs.ByTable.{world_by};
+ghost use Rattle.swreq_symbols.specs.{Meaning.{facts_of, symbols_of}, Texts.{world_of}};
 ghost use Rattle.swreq_rounds.specs.Presents.{AreProtocolRules};
 ghost use Rattle.swreq_valid.specs.{Answers.{Answers, IsOnlyOutcome}, Keeping.{AreFlags, TellEach, TellUsable, kept_answer, kept_facts, kept_plan}, Built.{Builds, IsOnlyBuilt, Judges, protocol_rules}, Protocols.{AreRulesOf, protocols_of}, Rounds.{AreRounds, last_rules}, Sides.{IsShownIn, protocol_sides}};
 
@@ -16,8 +15,6 @@ use std::alloc::{AllocError, Global};
 use swreq_complete::watch::Watch;
 use swreq_complete::{Failed, Limits};
 use swreq_symbols::Text;
-use swreq_world::World;
-use swreq_world::param::ParamTable;
 
 /// The rules of the protocols that these rounds found, with the requirements that they show usable.
 fn with_usable(
@@ -66,30 +63,27 @@ impl Protocols {
     /// side, protocols in written order. The watcher is told the events of the rounds.
     pub fn build<W: Watch>(
         alloc: Global,
-        world: &World,
-        table: &ParamTable,
+        text: &Text<'_>,
         limits: Limits,
         watch: &mut W,
     ) -> Result<Protocols, Refused>
-        requires text { IsTextOver table.now world.now }
-        ensures answer { Builds limits (protocols_of (world_by table.now world.now))
-            (facts_of (world_by table.now world.now))
-            (protocol_sides (world_by table.now world.now))
+        ensures answer { Builds limits (protocols_of (world_of text.now))
+            (facts_of (world_of text.now))
+            (protocol_sides (world_of text.now))
             (W.told watch.old) (W.told watch.new) (protocol_rules result) }
-        ensures only { IsOnlyBuilt limits (protocols_of (world_by table.now world.now))
-            (facts_of (world_by table.now world.now))
-            (protocol_sides (world_by table.now world.now))
+        ensures only { IsOnlyBuilt limits (protocols_of (world_of text.now))
+            (facts_of (world_of text.now))
+            (protocol_sides (world_of text.now))
             (protocol_rules result) }
         ensures rounds { IfOk result
-            (λ p. AreRounds limits (protocols_of (world_by table.now world.now)) p.rounds) }
+            (λ p. AreRounds limits (protocols_of (world_of text.now)) p.rounds) }
         ensures rules { IfOk result
-            (λ p. AreRulesOf (world_by table.now world.now) (last_rules p.rounds)) }
-        ensures usable { IfOk result (λ p. TellUsable (world_by table.now world.now)
-            (facts_of (world_by table.now world.now)) p.usable) }
+            (λ p. AreRulesOf (world_of text.now) (last_rules p.rounds)) }
+        ensures usable { IfOk result (λ p. TellUsable (world_of text.now)
+            (facts_of (world_of text.now)) p.usable) }
     {
-        let text = Text { world, table };
-        let rounds = complete_protocols(alloc, &text, limits, watch)?;
-        judge_protocols(alloc, &text, rounds)
+        let rounds = complete_protocols(alloc, text, limits, watch)?;
+        judge_protocols(alloc, text, rounds)
     }
 }
 
@@ -100,30 +94,27 @@ impl Protocols {
     /// The watcher is told the events of the rounds.
     pub fn build_kept<W: Watch>(
         alloc: Global,
-        world: &World,
-        table: &ParamTable,
+        text: &Text<'_>,
         keep: &Kept,
         limits: Limits,
         watch: &mut W,
     ) -> Result<Protocols, Failed>
-        requires text { IsTextOver table.now world.now }
-        requires keep { AreFlags world.now keep.now.lists }
-        ensures answer { Answers limits (kept_plan (world_by table.now world.now) keep.now.lists)
+        requires keep { AreFlags text.now.world.now keep.now.lists }
+        ensures answer { Answers limits (kept_plan (world_of text.now) keep.now.lists)
             (W.told watch.old) (W.told watch.new)
             (kept_answer result) }
         ensures only { IsOnlyOutcome limits
-            (kept_plan (world_by table.now world.now) keep.now.lists) (kept_answer result) }
+            (kept_plan (world_of text.now) keep.now.lists) (kept_answer result) }
         ensures rounds { IfOk result (λ p.
-            AreRounds limits (kept_plan (world_by table.now world.now) keep.now.lists) p.rounds) }
+            AreRounds limits (kept_plan (world_of text.now) keep.now.lists) p.rounds) }
         ensures rules { IfOk result
-            (λ p. AreProtocolRules (symbols_of world.now.lexicon) (kept_facts
-            (world_by table.now world.now) keep.now.lists) (last_rules p.rounds)) }
-        ensures usable { IfOk result (λ p. TellUsable (world_by table.now world.now) (kept_facts
-            (world_by table.now world.now) keep.now.lists) p.usable) }
+            (λ p. AreProtocolRules (symbols_of text.now.world.now.lexicon) (kept_facts
+            (world_of text.now) keep.now.lists) (last_rules p.rounds)) }
+        ensures usable { IfOk result (λ p. TellUsable (world_of text.now) (kept_facts
+            (world_of text.now) keep.now.lists) p.usable) }
     {
-        let text = Text { world, table };
-        let rounds = complete_kept(alloc, &text, keep, limits, watch)?;
-        let protocols = with_usable(alloc, &text, rounds)?;
+        let rounds = complete_kept(alloc, text, keep, limits, watch)?;
+        let protocols = with_usable(alloc, text, rounds)?;
         Ok(protocols)
     }
 }

@@ -69,7 +69,7 @@ fn conforms(
 {
     let requirement = Requirement::Conf { subject, proto };
     let owner = by.over.owner();
-    let (left, right) = equation(alloc, by.text.world, by.text.table, owner, &requirement)?;
+    let (left, right) = equation(alloc, &by.text, owner, &requirement)?;
     reduce_alike(alloc, by.rules, left.symbols(), right.symbols())
 }
 

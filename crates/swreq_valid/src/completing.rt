@@ -43,13 +43,7 @@ fn join(
         (item_of text.now.table.now rs want.now) ∷ [] else [])) }
 {
     if used {
-        let e = equation(
-            alloc,
-            text.world,
-            text.table,
-            want.over.owner(),
-            &want.requirement,
-        )?;
+        let e = equation(alloc, text, want.over.owner(), &want.requirement)?;
         equations.push(e)?;
     }
     Ok(())

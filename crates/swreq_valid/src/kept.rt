@@ -112,7 +112,7 @@ fn run_kept<W: Watch>(
     let basic = basic(alloc, text.world)?;
     let all = kept_requirements(alloc, text.world, keep)?;
     let start = RoundStart { basic, all, limits };
-    run_rounds(alloc, text.world, text.table, None, &start, watch)
+    run_rounds(alloc, text, None, &start, watch)
 }
 
 /// Runs the rounds of the protocols with the kept requirements.
@@ -157,14 +157,7 @@ fn usable_of(
     let list = text.world.bare_requirements(protocol);
     for k in 0..list.len() {
         let requirement = list[k];
-        let shown = is_usable(
-            alloc,
-            text.world,
-            text.table,
-            rules,
-            Over::Protocol(protocol),
-            requirement,
-        )?;
+        let shown = is_usable(alloc, text, rules, Over::Protocol(protocol), requirement)?;
         flags.push(shown)?;
     }
     Ok(flags)

@@ -5,6 +5,7 @@ mod again;
 mod basic;
 mod build;
 mod by_reduction;
+mod checked;
 mod completing;
 mod course;
 mod flags;
@@ -23,6 +24,7 @@ mod underway;
 mod usable;
 mod wanted;
 
+pub use checked::CheckedText;
 pub use kept::Kept;
 pub use linked::are_linked;
 pub use protocols::Protocols;

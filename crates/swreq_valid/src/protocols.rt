@@ -113,7 +113,7 @@ fn run_protocols<W: Watch>(
     let basic = basic(alloc, text.world)?;
     let all = requirements(alloc, text.world)?;
     let start = RoundStart { basic, all, limits };
-    run_rounds(alloc, text.world, text.table, None, &start, watch)
+    run_rounds(alloc, text, None, &start, watch)
 }
 
 /// Runs the rounds of the protocols.

@@ -3,7 +3,6 @@
 
 ghost use Rattle.std.specs.Prelude.{List, IfOk};
 ghost use Rattle.swreq_complete.specs.swreq_watch.declared.events.Event.{Event};
-ghost use Rattle.swreq_symbols.specs.Known.{IsTextOver};
 ghost use Rattle.swreq_valid.specs.{Answers.{Answers, IsOnlyOutcome}, Plans.{AreWanted, plan_of}, Rounds.{AreRounds, first_rules, rules_of}, Underway.{IsDueNow, IsTaken, IsUnderway}};
 
 use crate::completing::complete;
@@ -17,8 +16,6 @@ use std::alloc::Global;
 use swreq_complete::watch::Watch;
 use swreq_complete::{CompleteRules, Failed};
 use swreq_symbols::Text;
-use swreq_world::World;
-use swreq_world::param::ParamTable;
 
 /// Completes the round, and takes it from there.
 fn completed<'b, W: Watch>(
@@ -86,23 +83,21 @@ fn turn<'b, W: Watch>(
 /// watcher is told the events of the rounds.
 pub fn run_rounds<'b, W: Watch>(
     alloc: Global,
-    world: &World,
-    table: &ParamTable,
+    text: &Text<'_>,
     below: Option<&'b CompleteRules<'b>>,
     start: &RoundStart,
     watch: &mut W,
 ) -> Result<Rounds<'b>, Failed>
-    requires text { IsTextOver table.now world.now }
-    requires wanted { AreWanted table.now world.now.lexicon start.now.all.items }
-    ensures answer { Answers start.now.limits (plan_of world.now table.now
+    requires { AreWanted text.now.table.now text.now.world.now.lexicon start.now.all.items }
+    ensures answer { Answers start.now.limits (plan_of text.now.world.now text.now.table.now
         (first_rules below.entry) start.now) (W.told watch.old) (W.told watch.new)
         (rules_of result) }
     ensures only { IsOnlyOutcome start.now.limits
-        (plan_of world.now table.now (first_rules below.entry) start.now) (rules_of result) }
+        (plan_of text.now.world.now text.now.table.now (first_rules below.entry) start.now)
+        (rules_of result) }
     ensures rounds { IfOk result (AreRounds start.now.limits
-        (plan_of world.now table.now (first_rules below.entry) start.now)) }
+        (plan_of text.now.world.now text.now.table.now (first_rules below.entry) start.now)) }
 {
-    let text = Text { world, table };
     let used = none_used(alloc, start.all.len())?;
     let mut state = Underway {
         used,
@@ -110,7 +105,7 @@ pub fn run_rounds<'b, W: Watch>(
         before: Vec::new(alloc),
     };
     'each: loop {
-        match turn(alloc, &text, below, start, state, watch)? {
+        match turn(alloc, text, below, start, state, watch)? {
             Turn::Goes(next) => state = next,
             Turn::Lasts(rounds) => return Ok(rounds),
         }

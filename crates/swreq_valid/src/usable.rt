@@ -6,8 +6,7 @@ ghost use Rattle.swreq_rounds.specs.swreq_derive.Facts.{requirement_of};
 ghost use Rattle.swreq_complete.specs.swreq_rule.declared.rules.Rule.{Rule};
 ghost use Rattle.swreq_rounds.specs.swreq_correspondence.Shown.{ShowsUsable, ShowsValid};
 ghost use Rattle.swreq_rounds.specs.Plan.{AreShown};
-ghost use Rattle.swreq_symbols.specs.{Known.{IsRequirementIn, IsTextOver}, Meaning.{facts_of, symbols_of}, Overs.{source_over}, Texts.{IsTypeOfText, term_of, world_of}, Vanishing.{Links}};
-ghost use Rattle.swreq_world.specs.ByTable.{world_by};
+ghost use Rattle.swreq_symbols.specs.{Meaning.{facts_of, symbols_of}, Overs.{source_over}, Texts.{IsRequirementOfText, IsTypeOfText, term_of, world_of}, Vanishing.{Links}};
 ghost use Rattle.swreq_valid.specs.{Flags.{Tells}, Plans.{AreWanted, items_of, plan_of}};
 
 use crate::wanted::RoundStart;
@@ -15,9 +14,8 @@ use std::alloc::{AllocError, Global};
 use swreq_complete::CompleteRules;
 use swreq_complete::word::Symbol;
 use swreq_symbols::{Over, Reading, Text, least_word};
-use swreq_world::World;
 use swreq_world::derive::Requirement;
-use swreq_world::param::{ParamTable, TermId};
+use swreq_world::param::TermId;
 
 /// Whether the rules show that a type parameter is valid.
 pub(crate) fn is_shown(
@@ -50,25 +48,22 @@ pub(crate) fn is_shown(
 /// Whether the rules show that the type parameters of a requirement are valid.
 pub fn is_usable(
     alloc: Global,
-    world: &World,
-    table: &ParamTable,
+    text: &Text<'_>,
     rules: &CompleteRules<'_>,
     over: Over,
     requirement: Requirement,
 ) -> Result<bool, AllocError>
-    requires text { IsTextOver table.now world.now }
-    requires want { IsRequirementIn table.now world.now.lexicon requirement }
+    requires { IsRequirementOfText text.now requirement }
     ensures { IfOk result (λ b. IsTrue b
-        ↔ ShowsUsable (symbols_of world.now.lexicon) (facts_of (world_by table.now world.now))
-        (source_over over) (Links rules.now) (requirement_of table.now requirement)) }
+        ↔ ShowsUsable (symbols_of text.now.world.now.lexicon) (facts_of (world_of text.now))
+        (source_over over) (Links rules.now) (requirement_of text.now.table.now requirement)) }
 {
-    let text = Text { world, table };
     match requirement {
-        Requirement::Conf { subject, .. } => is_shown(alloc, &text, rules, over, subject),
-        Requirement::Layout { subject } => is_shown(alloc, &text, rules, over, subject),
+        Requirement::Conf { subject, .. } => is_shown(alloc, text, rules, over, subject),
+        Requirement::Layout { subject } => is_shown(alloc, text, rules, over, subject),
         Requirement::Same { left, right } => {
-            if is_shown(alloc, &text, rules, over, left)? {
-                is_shown(alloc, &text, rules, over, right)
+            if is_shown(alloc, text, rules, over, left)? {
+                is_shown(alloc, text, rules, over, right)
             } else {
                 Ok(false)
             }
@@ -92,14 +87,7 @@ pub(crate) fn usable(
     let mut flags = Vec::new(alloc);
     for k in 0..start.all.len() {
         let want = &start.all[k];
-        let shown = is_usable(
-            alloc,
-            text.world,
-            text.table,
-            rules,
-            want.over,
-            want.requirement,
-        )?;
+        let shown = is_usable(alloc, text, rules, want.over, want.requirement)?;
         flags.push(shown)?;
     }
     Ok(flags)

@@ -47,7 +47,7 @@ use Rattle.swreq_world.specs.Worlds.{IdWorld, SignatureOver, TextWorld, requirem
 -- ---- ids of the table
 
 module _ (terms : List Term) where
-  ids_stable : (r : Requirement) → Stable (HasIdsOf terms r)
+  pub ids_stable : (r : Requirement) → Stable (HasIdsOf terms r)
   ids_stable (Conf t p) = less_stable t.place (length terms)
   ids_stable (Layout t) = less_stable t.place (length terms)
   ids_stable (Same t u) = both_stable (less_stable t.place (length terms)) (less_stable u.place (length terms))
@@ -128,7 +128,7 @@ module _ (x : LexiconView) where
   term_stable (Generic g) = λ h. tt
   term_stable (Member t s) = both_stable (term_stable t) (step_stable s)
 
-  requirement_stable : (r : TermRequirement) → Stable (IsRequirementOf x r)
+  pub requirement_stable : (r : TermRequirement) → Stable (IsRequirementOf x r)
   requirement_stable (Conforms t p) = both_stable (term_stable t) (less_stable p.rank (length x.protocols))
   requirement_stable (IsAnyObject t) = term_stable t
   requirement_stable (Equals t u) = both_stable (term_stable t) (term_stable u)

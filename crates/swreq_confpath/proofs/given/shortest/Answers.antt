@@ -12,12 +12,11 @@ use Rattle.swreq_confpath.proofs.given.shortest.Goals as goal
 pub follow-requires-clause-least : goal.follow-requires-clause-least
 follow-requires-clause-least c = none_less (last_rules c.args.machine.now.rounds)
 
-pub find-requires-clause-known : goal.find-requires-clause-known
-find-requires-clause-known c =
+pub invariant_of-aim : goal.invariant_of-aim
+invariant_of-aim c =
     let s : Sought = record {
       alloc = c.args.alloc;
-      world = c.args.world;
-      table = c.args.table;
+      text = c.args.text.now;
       machine = c.args.machine;
       list = c.deref.result;
       changed = c.deref-2.result;
@@ -28,11 +27,11 @@ find-requires-clause-known c =
     let complete : IsComplete rules = subst IsComplete c.rules.ensures c.in_ok-changed.ensures.complete in
     let others : AllSpareOthers rules c.in_ok-changed.changed.items
     = subst (λ z. AllSpareOthers z c.in_ok-changed.changed.items) c.rules.ensures c.in_ok-changed.ensures.others in
-    known_of s c.args.f c.requires.text c.requires.text.short c.requires.machine (c.deref.ensures.value ∙ c.in_ok-list.ensures) complete
-    (subst (AllSpareOthers rules) (sym c.deref-2.ensures.value) others) c.requires.derivable
-
-pub find-requires-clause-target : goal.find-requires-clause-target
-find-requires-clause-target c = c.in_ok-target.ensures.stands Start tt
+    record {
+      known = known_of s c.args.f c.requires.machine (c.deref.ensures.value ∙ c.in_ok-list.ensures) complete
+          (subst (AllSpareOthers rules) (sym c.deref-2.ensures.value) others) c.requires.derivable;
+      target = c.in_ok-target.ensures.stands Start tt;
+    }
 
 pub returns : goal.returns
 returns c =
@@ -41,9 +40,9 @@ returns c =
     let h = c.deref-2.result in
     let t = a.t in
     let s : Sought
-    = record { alloc = a.alloc; world = a.world; table = a.table; machine = a.machine; list = l; changed = h; subject = t; proto = a.p } in
+    = record { alloc = a.alloc; text = a.text.now; machine = a.machine; list = l; changed = h; subject = t; proto = a.p } in
     record {
       path = IfOk-weaker c.find.result _ _
-          (λ path h. given_of s c.args.f c.requires.text c.requires.text.short c.requires.machine
+          (λ path h. given_of s c.args.f c.requires.machine
           (c.deref.ensures.value ∙ c.in_ok-list.ensures) path h) c.find.ensures;
     }

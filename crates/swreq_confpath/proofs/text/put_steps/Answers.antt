@@ -10,12 +10,13 @@ use Rattle.swreq_machine.specs.swreq_world.FactsAt.{facts_of}
 use Rattle.swreq_confpath.specs.Numbers.{AreNumbersBehind, in_brackets, steps_text}
 use Rattle.swreq_confpath.proofs.Requirements.{protocol_in_list}
 use Rattle.swreq_confpath.proofs.Texting.{is_member, names, names_protocol, next_left, number_is, number_within, requirement_is, step_written}
+use Rattle.swreq_machine.proofs.swreq_symbols.OfTexts.{text_over}
 use Rattle.swreq_confpath.proofs.text.put_steps.Goals as goal
 
 pub bounds-bare_requirements-number : goal.bounds-bare_requirements-number
 bounds-bare_requirements-number c =
-    let terms = c.args.table.now in
-    let w = c.args.world.now in
+    let terms = c.args.text.now.table.now in
+    let w = c.args.text.now.world.now in
     let f = facts_of (world_by terms w) in
     let at = c.loop-k.at in
     let k = c.loop-k.k in
@@ -27,8 +28,8 @@ bounds-bare_requirements-number c =
 
 pub put_step-requires : goal.put_step-requires
 put_step-requires c =
-    let terms = c.args.table.now in
-    let w = c.args.world.now in
+    let terms = c.args.text.now.table.now in
+    let w = c.args.text.now.world.now in
     let f = facts_of (world_by terms w) in
     let at = c.loop-k.at in
     let k = c.loop-k.k in
@@ -38,13 +39,13 @@ put_step-requires c =
     let list = c.bare_requirements.result.now in
     let same =
     own_requirements w terms at ∙ ap (λ (z : List Requirement). map (requirement_of terms) z) (sym c.bare_requirements.ensures) in
-    let all = protocol_in_list terms w c.requires.text at list c.bare_requirements.ensures in
+    let all = protocol_in_list terms w (text_over c.args.text.now) at list c.bare_requirements.ensures in
     (all (get_or list (n - 1) first) (is_member terms (f.of_protocol at) list same n h.0 h.1 h.2 first)).0
 
 pub loop-k-preserved : goal.loop-k-preserved
 loop-k-preserved c =
-    let terms = c.args.table.now in
-    let w = c.args.world.now in
+    let terms = c.args.text.now.table.now in
+    let w = c.args.text.now.world.now in
     let x = w.lexicon in
     let facts = facts_of (world_by terms w) in
     let at = c.loop-k.at in
@@ -57,7 +58,7 @@ loop-k-preserved c =
     let same =
     own_requirements w terms at ∙ ap (λ (z : List Requirement). map (requirement_of terms) z) (sym c.bare_requirements.ensures) in
     let rs = facts.of_protocol at in
-    let all = protocol_in_list terms w c.requires.text at list c.bare_requirements.ensures in
+    let all = protocol_in_list terms w (text_over c.args.text.now) at list c.bare_requirements.ensures in
     let known = all (get_or list (n - 1) first) (is_member terms rs list same n h.0 h.1 h.2 first) in
     let named = names terms rs list same n h.0 h.1 h.2 first c.protocol_named-at.result (c.protocol_named-at.ensures terms) in
     record {

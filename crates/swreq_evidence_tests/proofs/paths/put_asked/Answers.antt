@@ -6,5 +6,6 @@ use Rattle.swreq_evidence_tests.proofs.paths.put_asked.Goals as goal
 
 pub put_given-requires-clause-asked : goal.put_given-requires-clause-asked
 put_given-requires-clause-asked c =
-    subst (λ (a : Asks). IsAskedIn c.args.table.now c.args.world.now.lexicon a) (c.in-Requirement.is ∙ ap Requirement c.in-Conf.is)
-    c.requires.query.1
+    let text = c.checked.inside.text in
+    subst (λ (a : Asks). IsAskedIn text.table.now text.world.now.lexicon a) (c.in-Requirement.is ∙ ap Requirement c.in-Conf.is)
+    ((rw (← c.checked.view_is) at c.requires.query).1)

@@ -1,13 +1,13 @@
 use Rattle.swreq_reqsig.proofs.WellFormed.{list_formed}
 use Rattle.swreq_machine.specs.swreq_symbols.Meaning.{facts_of}
-use Rattle.swreq_machine.specs.swreq_world.ByTable.{world_by}
+use Rattle.swreq_machine.specs.swreq_symbols.Texts.{world_of}
 use Rattle.swreq_machine.specs.swreq_world.FactsAt.{source_of}
 use Rattle.swreq_machine.specs.swreq_world.Worlds.{signature_at}
 use Rattle.swreq_evidence_tests.proofs.worlds.machine_of.Goals as goal
 
 pub returns : goal.returns
 returns c =
-    let w = world_by c.args.table.now c.args.world.now in
+    let w = world_of c.args.checked.now.text in
     let g = signature_at w c.args.f in record {
       signature = c.requires.f;
       protocols = c.requires.formed;

@@ -1,34 +1,25 @@
 use Rattle.std.proofs.Common.{subst, sym}
 use Rattle.std.proofs.lemmas.Result.{on_ok_weaker}
 use Rattle.swreq_machine.specs.swreq_derive.Facts.{requirement_of}
-use Rattle.swreq_homotopy.specs.swreq_word.Least.{IsMinimal}
 use Rattle.swreq_candidates.specs.swreq_canonical.CanonicalOrder.{IsStrictlySorted}
-use Rattle.swreq_machine.specs.swreq_symbols.Vanishing.{IsLeastBy, Links}
 use Rattle.swreq_machine.specs.swreq_valid.Plans.{listed}
 use Rattle.swreq_minimal.proofs.Collecting.{nothing_more, one_more, one_more_sorted}
 use Rattle.swreq_minimal.proofs.Growing.{all_known, listed_stays}
 use Rattle.swreq_minimal.proofs.candidates.add.Goals as goal
 
-pub rule_requirement-requires-clause-minimal : goal.rule_requirement-requires-clause-minimal
-rule_requirement-requires-clause-minimal c =
-    subst (IsMinimal (Links c.args.by.now.rules.now)) (sym c.symbols-left.ensures) c.requires.minimal
-
-pub rule_requirement-requires-clause-least : goal.rule_requirement-requires-clause-least
-rule_requirement-requires-clause-least c = subst (IsLeastBy c.args.by.now.rules.now) (sym c.symbols-right.ensures) c.requires.least
-
-pub put_sorted-requires-clause-found : goal.put_sorted-requires-clause-found
-put_sorted-requires-clause-found c r h =
-    (all_known c.args.table.now c.rule_requirement.new.table c.rule_requirement.ensures.extends c.args.by.now.world.now.lexicon
-    c.args.found.now.items c.requires.known r h).0
-
-pub put_sorted-requires-clause-r : goal.put_sorted-requires-clause-r
-put_sorted-requires-clause-r c = (rw c.in-Some.is at c.in_ok-one.ensures.requirement).0.0
+pub put_sorted-requires : goal.put_sorted-requires
+put_sorted-requires c = (
+  (λ r h.
+      (all_known c.args.table.now c.rule_requirement.new.table c.rule_requirement.ensures.extends c.args.by.now.world.now.lexicon
+      c.args.found.now.items c.requires.known r h).0),
+  (rw c.in-Some.is at c.in_ok-one.ensures.requirement).0.0,
+)
 
 pub returns-in-None : goal.returns-in-None
 returns-in-None c =
     let stays = listed_stays c.args.table.now c.rule_requirement.new.table c.rule_requirement.ensures.extends c.args.found.now.items
     (λ r h. (c.requires.known r h).0) in
-    let says = rw (c.symbols-left.ensures, c.symbols-right.ensures, c.in-None.is) at c.in_ok-one.ensures.requirement in
+    let says = rw c.in-None.is at c.in_ok-one.ensures.requirement in
     record {
       members =
           nothing_more c.args.by.now.world.now.lexicon c.args.by.now.rules.now c.args.by.now.params c.args.rule.now.left
@@ -44,7 +35,7 @@ pub returns-in-Some : goal.returns-in-Some
 returns-in-Some c =
     let stays = listed_stays c.args.table.now c.rule_requirement.new.table c.rule_requirement.ensures.extends c.args.found.now.items
     (λ r h. (c.requires.known r h).0) in
-    let says = rw (c.symbols-left.ensures, c.symbols-right.ensures, c.in-Some.is) at c.in_ok-one.ensures.requirement in
+    let says = rw c.in-Some.is at c.in_ok-one.ensures.requirement in
     let old = listed c.args.table.now c.args.found.now.items in
     let new = listed c.rule_requirement.new.table c.args.found.now.items in
     let now = listed c.rule_requirement.new.table c.put_sorted.new.found.items in

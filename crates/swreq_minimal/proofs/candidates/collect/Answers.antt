@@ -16,17 +16,11 @@ loop-k-init c =
       extends = unchanged c.args.table.now;
     }
 
-pub add-requires-clause-minimal : goal.add-requires-clause-minimal
-add-requires-clause-minimal c =
-    (c.requires c.loop-k.k c.index-system-k.result
+pub add-requires-clause-reduced : goal.add-requires-clause-reduced
+add-requires-clause-reduced c =
+    c.requires c.loop-k.k c.index-system-k.result
     (slice_get_read c.args.system.now (length c.args.system.now) c.loop-k.k c.index-system-k.result refl c.loop-k-test.true
-    c.index-system-k.is)).0
-
-pub add-requires-clause-least : goal.add-requires-clause-least
-add-requires-clause-least c =
-    (c.requires c.loop-k.k c.index-system-k.result
-    (slice_get_read c.args.system.now (length c.args.system.now) c.loop-k.k c.index-system-k.result refl c.loop-k-test.true
-    c.index-system-k.is)).2
+    c.index-system-k.is)
 
 pub returns-in_err-add-clause-extends : goal.returns-in_err-add-clause-extends
 returns-in_err-add-clause-extends c =

@@ -4,13 +4,17 @@ use Rattle.swreq_machine.specs.swreq_valid.Plans.{listed}
 use Rattle.swreq_minimal.proofs.Inserting.{any, belongs_here, belongs_last, in_listed, none_more, nothing_yet}
 use Rattle.swreq_minimal.proofs.candidates.place_of.Goals as goal
 
-pub is_same-requires-clause-r : goal.is_same-requires-clause-r
-is_same-requires-clause-r c =
-    c.requires.found (get_or c.args.found.now c.loop-k.k any) (Contains-get_or c.args.found.now c.loop-k.k any c.loop-k-test.true)
+pub is_same-requires : goal.is_same-requires
+is_same-requires c = (
+  c.requires.0 (get_or c.args.found.now c.loop-k.k any) (Contains-get_or c.args.found.now c.loop-k.k any c.loop-k-test.true),
+  c.requires.1,
+)
 
-pub is_before-requires-clause-q : goal.is_before-requires-clause-q
-is_before-requires-clause-q c =
-    c.requires.found (get_or c.args.found.now c.loop-k.k any) (Contains-get_or c.args.found.now c.loop-k.k any c.loop-k-test.true)
+pub is_before-requires : goal.is_before-requires
+is_before-requires c = (
+  c.requires.1,
+  c.requires.0 (get_or c.args.found.now c.loop-k.k any) (Contains-get_or c.args.found.now c.loop-k.k any c.loop-k-test.true),
+)
 
 pub returns-then-is_same : goal.returns-then-is_same
 returns-then-is_same c =

@@ -3,9 +3,12 @@ use Rattle.swreq_machine.specs.swreq_derive.Facts.{requirement_of}
 use Rattle.swreq_candidates.specs.swreq_canonical.CanonicalOrder.{IsStrictlySorted}
 use Rattle.swreq_machine.specs.swreq_symbols.Known.{IsRequirementIn}
 use Rattle.swreq_machine.specs.swreq_valid.Plans.{AreKnown, listed}
-use Rattle.swreq_minimal.specs.Sorted.{BelongsAt}
+use Rattle.swreq_minimal.specs.Sorted.{AreHere, BelongsAt}
 use Rattle.swreq_minimal.proofs.Inserting.{inserted_each, inserted_members, inserted_sorted, there_members, within}
 use Rattle.swreq_minimal.proofs.candidates.put_sorted.Goals as goal
+
+pub place_of-requires : goal.place_of-requires
+place_of-requires c = (subst (AreHere c.args.table.now) (sym c.deref.ensures.value) c.requires.0, c.requires.1)
 
 pub insert-requires : goal.insert-requires
 insert-requires c =

@@ -22,20 +22,21 @@ drop_halves-drop_at-requires-clause-rules g t c =
     let s = c.args.setting.now in
     let now = c.args.left.now.items in
     let from = c.args.span.from in
-    let one : c.args.span.to ≡ suc from = one_place from c.args.span.to c.requires.span.0 c.if-middle-span.true in
-    let w = c.requires.span.1 in
+    let one : c.args.span.to ≡ suc from = one_place from c.args.span.to c.requires.left.within.0 c.if-middle-span.true in
+    let w = c.requires.left.within.1 in
     where_borrowed (AreOfList s (said_in s (remove now from))) c.as_ref.result c.args.rules c.as_ref.ensures.value
     (subst (λ (z : List Requirement). IfSome c.args.rules (AreOfList s (said_in s z)))
-    (ap (λ n. take from now ++ drop n now) one ∙ sym (without s.table.now now from any (omega (arith, w, one)))) c.requires.rules)
+    (ap (λ n. take from now ++ drop n now) one ∙ sym (without s.checked.text.table.now now from any (omega (arith, w, one))))
+    c.requires.rules)
 
 pub drop_halves-returns-then-middle-span-clause-leaves : goal.drop_halves-returns-then-middle-span-clause-leaves
 drop_halves-returns-then-middle-span-clause-leaves g t c =
     let s = c.args.setting.now in
     let now = c.args.left.now.items in
     let from = c.args.span.from in
-    let one : c.args.span.to ≡ suc from = one_place from c.args.span.to c.requires.span.0 c.if-middle-span.true in
+    let one : c.args.span.to ≡ suc from = one_place from c.args.span.to c.requires.left.within.0 c.if-middle-span.true in
     on_ok_weaker c.drop_at.result (λ leaves all within left.
-    passed_on (facts_in s) (params_in s) s.table.now all now from any (subst (λ n. n ≤ length all) one within)
+    passed_on (facts_in s) (params_in s) s.checked.text.table.now all now from any (subst (λ n. n ≤ length all) one within)
     (subst (λ n. IsLeftFrom (facts_in s) (params_in s) n all (said_in s now)) one left) c.drop_at.new.left.items leaves)
     c.drop_at.ensures.leaves
 
@@ -43,7 +44,7 @@ pub drop_halves-returns-then-middle-span-clause-stays : goal.drop_halves-returns
 drop_halves-returns-then-middle-span-clause-stays g t c =
     let from = c.args.span.from in
     let now = c.args.left.now.items in
-    let one : c.args.span.to ≡ suc from = one_place from c.args.span.to c.requires.span.0 c.if-middle-span.true in
+    let one : c.args.span.to ≡ suc from = one_place from c.args.span.to c.requires.left.within.0 c.if-middle-span.true in
     subst (λ n. OnOk c.drop_at.result ((kept : List Requirement) × (c.drop_at.new.left.items ≡ take from now ++ (kept ++ drop n now))))
     (sym one) c.drop_at.ensures.stays
 
@@ -52,11 +53,11 @@ drop_halves-returns-then-middle-span-clause-tells g t c all within left =
     let s = c.args.setting.now in
     let now = c.args.left.now.items in
     let from = c.args.span.from in
-    let one : c.args.span.to ≡ suc from = one_place from c.args.span.to c.requires.span.0 c.if-middle-span.true in
+    let one : c.args.span.to ≡ suc from = one_place from c.args.span.to c.requires.left.within.0 c.if-middle-span.true in
     let P = IsLeftWithout (facts_in s) (params_in s) all in
     tells_those s (λ l. l ≡ said_in s (remove now from)) P
     (λ l e. subst P (sym e)
-    (is_without (facts_in s) (params_in s) s.table.now all now from any (subst (λ n. n ≤ length all) one within)
+    (is_without (facts_in s) (params_in s) s.checked.text.table.now all now from any (subst (λ n. n ≤ length all) one within)
     (subst (λ n. IsLeftFrom (facts_in s) (params_in s) n all (said_in s now)) one left)))
     c.drop_at.result (g.W.Watch.told c.args.watch.now) (g.W.Watch.told c.drop_at.new.watch) c.drop_at.ensures.tells
 
@@ -77,18 +78,15 @@ drop_in-drop_halves-requires g t c κs sub =
     let to = c.in_ok-to.to in
     let (after, within) = c.in_ok-to.ensures.within in
     let is = c.in_ok-to.ensures.stays in
-    let all = c.requires.span.1 in
+    let all = c.requires.left.within.1 in
     let same = outside_stays old now from to c.args.span.to (omega (arith, after)) within all is in
     let long = shorter old now from to c.args.span.to (omega (arith, after)) within all is in (
       omega (arith, c.decreases, within),
       (
         sub,
         (
-          c.requires.setting,
-          (
-            subst (λ (z : List Requirement). IfSome c.args.rules (AreOfList s (said_in s z))) (sym same) c.requires.rules,
-            (c.in_ok-to.ensures.known, (after, omega (arith, long))),
-          ),
+          subst (λ (z : List Requirement). IfSome c.args.rules (AreOfList s (said_in s z))) (sym same) c.requires.rules,
+          record { known = c.in_ok-to.ensures.known; within = (after, omega (arith, long)) },
         ),
       ),
     )
@@ -98,7 +96,7 @@ drop_in-returns-clause-stays g t c =
     let (after, within) = c.in_ok-to.ensures.within in
     on_ok_weaker c.drop_halves.result (λ h. (
       h.0 ++ [],
-      both_stay c.args.left.now.items c.args.span.from c.in_ok-to.to c.args.span.to (omega (arith, after)) within c.requires.span.1
+      both_stay c.args.left.now.items c.args.span.from c.in_ok-to.to c.args.span.to (omega (arith, after)) within c.requires.left.within.1
           c.drop_end_by.new.left.items [] c.in_ok-to.ensures.stays c.drop_halves.new.left.items h.0 h.1,
     )) c.drop_halves.ensures.stays
 
@@ -134,7 +132,7 @@ drop_half-drop_in-requires g t c κs sub =
     let (list, are, same) = rw e at c.requires.rules in
     grown_to s list (part_of now other) (outside_span now span) old new same are grew) grown in (
       omega (arith, c.decreases),
-      (sub, (c.requires.setting, (rules, (c.requires.left, c.requires.span)))),
+      (sub, (rules, c.requires.half.over)),
     )
 
 pub drop_half-returns-in_err-extended-clause-tells : goal.drop_half-returns-in_err-extended-clause-tells
@@ -156,7 +154,7 @@ drop_halves-drop_half-requires g t c κs sub =
     let s = c.args.setting.now in
     let now = c.args.left.now.items in
     let span = c.args.span in
-    let half = halves span.from span.to c.requires.span.0 c.if-middle-span.false in
+    let half = halves span.from span.to c.requires.left.within.0 c.if-middle-span.false in
     let middle = span.from + (span.to - span.from) / 2 in
     let last_half : Half = record { span = record { from = middle; to = span.to }; other = record { from = span.from; to = middle } } in
     let borrowed = where_borrowed (AreOfList s (said_in s (take span.from now ++ drop span.to now)))
@@ -164,14 +162,17 @@ drop_halves-drop_half-requires g t c κs sub =
     let rules = if_some_weaker _ (AreOutsideBoth s now last_half) c.in_ok-same.same (λ new h. let (old, e, is) = h in (
       said_in s (take span.from now ++ drop span.to now),
       subst (AreOfList s (said_in s (take span.from now ++ drop span.to now))) (sym is) (rw e at borrowed),
-      for_second s now span.from middle span.to (omega (arith, half.0)) (omega (arith, half.1)) c.requires.span.1,
+      for_second s now span.from middle span.to (omega (arith, half.0)) (omega (arith, half.1)) c.requires.left.within.1,
     )) c.in_ok-same.ensures in (
       omega (arith, c.decreases, half.0, half.1),
       (
         sub,
         (
-          c.requires.setting,
-          (rules, (c.requires.left, ((half.1, c.requires.span.1), (omega (arith, half.0), omega (arith, half.1, c.requires.span.1))))),
+          rules,
+          record {
+            over = record { known = c.requires.left.known; within = (half.1, c.requires.left.within.1) };
+            other = (omega (arith, half.0), omega (arith, half.1, c.requires.left.within.1));
+          },
         ),
       ),
     )
@@ -189,11 +190,12 @@ drop_halves-drop_half-requires-2 g t c κs sub =
     let s = c.args.setting.now in
     let now = c.args.left.now.items in
     let span = c.args.span in
-    let half = halves span.from span.to c.requires.span.0 c.if-middle-span.false in
+    let half = halves span.from span.to c.requires.left.within.0 c.if-middle-span.false in
     let middle = span.from + (span.to - span.from) / 2 in
     let new = c.drop_half.new.left.items in
     let (kept, is) = c.in_ok-drop_half.ensures.stays in
-    let long = new_length now span.from middle span.to (omega (arith, half.0)) (omega (arith, half.1)) c.requires.span.1 new kept is in
+    let long = new_length now span.from middle span.to (omega (arith, half.0)) (omega (arith, half.1))
+    c.requires.left.within.1 new kept is in
     let end : length new - (length now - span.to) ≡ c.len-2.result - (c.len.result - span.to) =
     omega (arith, c.len-2.ensures, c.len.ensures) in
     let first_half : Half = record {
@@ -206,27 +208,24 @@ drop_halves-drop_half-requires-2 g t c κs sub =
       subst (λ n. (q : TermRequirement)
           → Contains (said_in s (take span.from now ++ drop span.to now) ++ said_in s (take (n - middle) (drop middle new))) q
           ↔ Contains (said_in s (take span.from new ++ drop middle new)) q) end
-          (for_first s now span.from middle span.to (omega (arith, half.0)) (omega (arith, half.1)) c.requires.span.1 new kept is),
+          (for_first s now span.from middle span.to (omega (arith, half.0)) (omega (arith, half.1)) c.requires.left.within.1 new kept is),
     )) c.requires.rules in (
       omega (arith, c.decreases, half.0, half.1),
       (
         sub,
         (
-          c.requires.setting,
-          (
-            rules,
-            (
-              c.in_ok-drop_half.ensures.known,
-              ((half.0, omega (arith, long)), (omega (arith, long, end), omega (arith, long, end))),
-            ),
-          ),
+          rules,
+          record {
+            over = record { known = c.in_ok-drop_half.ensures.known; within = (half.0, omega (arith, long)) };
+            other = (omega (arith, long, end), omega (arith, long, end));
+          },
         ),
       ),
     )
 
 pub drop_halves-returns-clause-leaves : goal.drop_halves-returns-clause-leaves
 drop_halves-returns-clause-leaves g t c =
-    let half = halves c.args.span.from c.args.span.to c.requires.span.0 c.if-middle-span.false in
+    let half = halves c.args.span.from c.args.span.to c.requires.left.within.0 c.if-middle-span.false in
     on_ok_weaker c.drop_half-2.result (λ h all within left.
     h all (omega (arith, within, half.1)) (c.in_ok-drop_half.ensures.leaves all within left))
     c.drop_half-2.ensures.leaves
@@ -235,18 +234,18 @@ pub drop_halves-returns-clause-stays : goal.drop_halves-returns-clause-stays
 drop_halves-returns-clause-stays g t c =
     let from = c.args.span.from in
     let to = c.args.span.to in
-    let half = halves from to c.requires.span.0 c.if-middle-span.false in
+    let half = halves from to c.requires.left.within.0 c.if-middle-span.false in
     let (kept, is) = c.in_ok-drop_half.ensures.stays in
     on_ok_weaker c.drop_half-2.result (λ h. (
       h.0 ++ kept,
-      both_stay c.args.left.now.items from (from + (to - from) / 2) to (omega (arith, half.0)) (omega (arith, half.1)) c.requires.span.1
-          c.drop_half.new.left.items kept is c.drop_half-2.new.left.items h.0 h.1,
+      both_stay c.args.left.now.items from (from + (to - from) / 2) to (omega (arith, half.0)) (omega (arith, half.1))
+          c.requires.left.within.1 c.drop_half.new.left.items kept is c.drop_half-2.new.left.items h.0 h.1,
     )) c.drop_half-2.ensures.stays
 
 pub drop_halves-returns-clause-tells : goal.drop_halves-returns-clause-tells
 drop_halves-returns-clause-tells g t c all within left =
     let s = c.args.setting.now in
-    let half = halves c.args.span.from c.args.span.to c.requires.span.0 c.if-middle-span.false in
+    let half = halves c.args.span.from c.args.span.to c.requires.left.within.0 c.if-middle-span.false in
     tells_after s (IsLeftWithout (facts_in s) (params_in s) all) c.drop_half-2.result
     (g.W.Watch.told c.args.watch.now) (g.W.Watch.told c.drop_half.new.watch) (g.W.Watch.told c.drop_half-2.new.watch)
     (c.in_ok-drop_half.ensures.tells all within left)

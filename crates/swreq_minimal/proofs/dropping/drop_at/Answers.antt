@@ -6,7 +6,7 @@ use Rattle.swreq_machine.specs.swreq_derive.Derivation.{Derivable}
 use Rattle.swreq_machine.specs.swreq_derive.Derivation.TermStatement.{Requires}
 use Rattle.swreq_machine.specs.swreq_derive.declared.requirements.Requirement.{Requirement}
 use Rattle.swreq_machine.specs.swreq_derive.Facts.{requirement_of}
-use Rattle.swreq_machine.specs.swreq_symbols.Known.{IsRequirementIn}
+use Rattle.swreq_machine.specs.swreq_symbols.Texts.{IsRequirementOfText}
 use Rattle.swreq_list_rules.specs.ListRules.{AreOfList, ListRulesView}
 use Rattle.swreq_list_rules.specs.Settings.{AreKnownIn, facts_in, params_in, said_in, source_in}
 use Rattle.swreq_machine.specs.swreq_complete.declared.limit.Failed.TheVariants.{Memory}
@@ -22,20 +22,17 @@ is_derivable-requires-clause-rules g c =
     subst (λ (z : List Requirement). IfSome c.args.rules (λ (rules : Bor ListRulesView). AreOfList s (said_in s z) rules.now))
     (sym (c.deref.ensures.value ∙ c.remove-one.ensures.items)) c.requires.rules
 
-pub is_derivable-requires-clause-list : goal.is_derivable-requires-clause-list
-is_derivable-requires-clause-list g c =
-    let s = c.args.setting.now in
-    let now = c.args.left.now.items in
-    subst (AreKnownIn s) (sym (c.deref.ensures.value ∙ c.remove-one.ensures.items))
-    (λ r h. c.requires.left r (there_before s.table.now now c.args.place c.remove-one.result c.requires.place r h))
-
-pub is_derivable-requires-clause-r : goal.is_derivable-requires-clause-r
-is_derivable-requires-clause-r g c =
+pub is_derivable-requires-clause-asked : goal.is_derivable-requires-clause-asked
+is_derivable-requires-clause-asked g c =
     let s = c.args.setting.now in
     let now = c.args.left.now.items in
     let one = c.remove-one.result in
-    subst (IsRequirementIn s.table.now s.world.now.lexicon) (sym c.remove-one.ensures.value)
-    (c.requires.left (get_or now c.args.place one) (Contains-get_or now c.args.place one c.requires.place))
+    record {
+      known = subst (AreKnownIn s) (sym (c.deref.ensures.value ∙ c.remove-one.ensures.items))
+          (λ r h. c.requires.left r (there_before s.checked.text.table.now now c.args.place one c.requires.place r h));
+      asked = subst (IsRequirementOfText s.checked.text) (sym c.remove-one.ensures.value)
+          (c.requires.left (get_or now c.args.place one) (Contains-get_or now c.args.place one c.requires.place));
+    }
 
 pub returns-in_err-derivable-clause-tells : goal.returns-in_err-derivable-clause-tells
 returns-in_err-derivable-clause-tells g c =
@@ -49,7 +46,7 @@ returns-in_err-derivable-clause-tells g c =
 pub returns-then-derivable-clause-leaves : goal.returns-then-derivable-clause-leaves
 returns-then-derivable-clause-leaves g c =
     let s = c.args.setting.now in
-    let terms = s.table.now in
+    let terms = s.checked.text.table.now in
     let now = c.args.left.now.items in
     let one = c.remove-one.result in
     subst (LeavesNow (facts_in s) (params_in s) terms now c.args.place one c.requires.place)
@@ -62,15 +59,15 @@ returns-then-derivable-clause-leaves g c =
 
 pub returns-then-derivable-clause-stays : goal.returns-then-derivable-clause-stays
 returns-then-derivable-clause-stays g c =
-    let now = c.args.left.now.items in
-    ([], c.remove-one.ensures.items ∙ without c.args.setting.now.table.now now c.args.place c.remove-one.result c.requires.place)
+    let terms = c.args.setting.now.checked.text.table.now in
+    ([], c.remove-one.ensures.items ∙ without terms c.args.left.now.items c.args.place c.remove-one.result c.requires.place)
 
 pub returns-then-derivable-clause-known : goal.returns-then-derivable-clause-known
 returns-then-derivable-clause-known g c =
     let s = c.args.setting.now in
     let now = c.args.left.now.items in
     subst (AreKnownIn s) (sym c.remove-one.ensures.items)
-    (λ r h. c.requires.left r (there_before s.table.now now c.args.place c.remove-one.result c.requires.place r h))
+    (λ r h. c.requires.left r (there_before s.checked.text.table.now now c.args.place c.remove-one.result c.requires.place r h))
 
 pub returns-then-derivable-clause-tells : goal.returns-then-derivable-clause-tells
 returns-then-derivable-clause-tells g c =
@@ -81,7 +78,7 @@ returns-then-derivable-clause-tells g c =
 pub returns-clause-leaves : goal.returns-clause-leaves
 returns-clause-leaves g c =
     let s = c.args.setting.now in
-    let terms = s.table.now in
+    let terms = s.checked.text.table.now in
     let now = c.args.left.now.items in
     let k = c.args.place in
     let one = c.remove-one.result in
@@ -98,7 +95,7 @@ returns-clause-leaves g c =
 
 pub returns-clause-stays : goal.returns-clause-stays
 returns-clause-stays g c =
-    let terms = c.args.setting.now.table.now in
+    let terms = c.args.setting.now.checked.text.table.now in
     let now = c.args.left.now.items in
     let k = c.args.place in
     let one = c.remove-one.result in
@@ -117,7 +114,7 @@ returns-clause-known g c =
     let back : c.insert.new.self.items ≡ insert c.remove-one.new.self.items k one = search rules in
     subst (AreKnownIn s)
     (sym (back ∙ (ap (λ z. insert z k one) c.remove-one.ensures.items ∙ (ap (λ z. insert (remove now k) k z) c.remove-one.ensures.value
-    ∙ put_back s.table.now now k one c.requires.place))))
+    ∙ put_back s.checked.text.table.now now k one c.requires.place))))
     c.requires.left
 
 pub returns-clause-tells : goal.returns-clause-tells

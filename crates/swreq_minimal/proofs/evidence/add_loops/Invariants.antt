@@ -2,4 +2,4 @@ use Rattle.swreq_homotopy.specs.Evidence.{AreLoops}
 use Rattle.swreq_minimal.proofs.evidence.add_loops.Given as goal
 
 abbrev pub invariant-loop-k : goal.invariant-loop-k
-invariant-loop-k l = AreLoops l.rules l.loops.items
+invariant-loop-k l = AreLoops l.all.rules.now l.loops.items

@@ -9,7 +9,8 @@ use Rattle.swreq_minimal.proofs.evidence.rule_of.Goals as goal
 
 pub returns : goal.returns
 returns c =
-    let right = right_side (symbols_of c.args.world.now.lexicon) (Written [] []) (requirement_of c.args.table.now c.args.r) in
+    let text = c.args.text.now in
+    let right = right_side (symbols_of text.world.now.lexicon) (Written [] []) (requirement_of text.table.now c.args.r) in
     subst (λ (z : Word). MatchOption c.oriented.result ⊤ (HasSides z right)) c.in_ok-sides.ensures.left
     (subst (λ (z : Word). MatchOption c.oriented.result ⊤ (HasSides c.in_ok-sides.sides.0 z)) c.in_ok-sides.ensures.right
     c.oriented.ensures)

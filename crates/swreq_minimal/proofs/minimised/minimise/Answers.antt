@@ -36,19 +36,19 @@ returns-in_err-found-clause-text g c =
 
 -- ---- what the candidates are minimised over
 
-pub minimised_candidates-requires-clause-setting : goal.minimised_candidates-requires-clause-setting
-minimised_candidates-requires-clause-setting g c =
-    let old = c.args.table.now in
-    let new = c.candidates.new.table in
-    let w = c.args.world.now in
-    record {
-      text = text_stays old new c.candidates.ensures.extends w c.requires.text;
-      protocols = subst (λ (z : TextWorld). AreRulesOf z (last_rules c.args.protocols.now.rounds))
-          (sym (world_stays old new c.candidates.ensures.extends w c.requires.text.table)) c.requires.protocols;
-    }
+pub invariant_of-text : goal.invariant_of-text
+invariant_of-text g c = record {
+  belong = ∣ text_stays c.args.table.now c.candidates.new.table c.candidates.ensures.extends c.args.world.now c.requires.text ∣₁;
+}
 
-pub minimised_candidates-requires-clause-candidates : goal.minimised_candidates-requires-clause-candidates
-minimised_candidates-requires-clause-candidates g c =
+pub invariant_of-checked : goal.invariant_of-checked
+invariant_of-checked g c =
+    subst (λ (z : TextWorld). AreRulesOf z (last_rules c.args.protocols.now.rounds))
+    (sym (world_stays c.args.table.now c.candidates.new.table c.candidates.ensures.extends c.args.world.now c.requires.text.table))
+    c.requires.protocols
+
+pub minimised_candidates-requires : goal.minimised_candidates-requires
+minimised_candidates-requires g c =
     subst (AreKnown c.candidates.new.table c.args.world.now.lexicon) (sym c.deref.ensures.value) c.in_ok-found.ensures.known
 
 -- ---- what is left of them is the minimised list

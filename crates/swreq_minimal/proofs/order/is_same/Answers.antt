@@ -10,5 +10,5 @@ pub returns : goal.returns
 returns c =
     let d = Decides-at c.eq.result (eq-value.it c.args.r c.args.q) c.eq.ensures (requirements_decide c.args.r c.args.q) in (
       (λ h. ap (requirement_of c.args.table.now) (d.0 h)),
-      λ e. d.1 (one_requirement c.args.table.now c.len-count.ensures.distinct c.args.r c.args.q c.requires.r c.requires.q e),
+      λ e. d.1 (one_requirement c.args.table.now c.len-count.ensures.distinct c.args.r c.args.q c.requires.0 c.requires.1 e),
     )

@@ -32,7 +32,7 @@ loop-k-init g c =
 pub take_underivable-requires-clause-candidate : goal.take_underivable-requires-clause-candidate
 take_underivable-requires-clause-candidate g c =
     let candidates = c.args.candidates.now in
-    c.requires.candidates (get_or candidates c.loop-k.k any) (Contains-get_or candidates c.loop-k.k any c.loop-k-test.true)
+    c.requires (get_or candidates c.loop-k.k any) (Contains-get_or candidates c.loop-k.k any c.loop-k-test.true)
 
 pub returns-in_err-rules-2-clause-tells : goal.returns-in_err-rules-2-clause-tells
 returns-in_err-rules-2-clause-tells g c =
@@ -45,7 +45,8 @@ returns-in_err-rules-2-clause-tells g c =
     let failed = c.in_err-rules-2.field-0.0 in
     stopped s P c.from_residual-in_err-rules-2.result failed before now c.from_residual-in_err-rules-2.ensures.1
     (fails_next s.limits (plan_in s) P out
-    (taken_before (facts_in s) (params_in s) s.table.now candidates c.loop-k.k any c.loop-k-test.true out c.loop-k.invariant.takes)
+    (taken_before (facts_in s) (params_in s) s.checked.text.table.now candidates c.loop-k.k any c.loop-k-test.true out
+    c.loop-k.invariant.takes)
     before (g.W.Watch.told c.loop-k.watch) now c.loop-k.invariant.told failed c.in_err-rules-2.ensures.tells)
 
 pub loop-k-preserved : goal.loop-k-preserved
@@ -57,12 +58,12 @@ loop-k-preserved g c =
     let k = c.loop-k.k in
     let out = said_in s c.loop-k.taken.items in
     record {
-      takes = next_taken f ps s.table.now candidates k any c.loop-k-test.true (said_in s c.take_underivable.new.taken.items)
+      takes = next_taken f ps s.checked.text.table.now candidates k any c.loop-k-test.true (said_in s c.take_underivable.new.taken.items)
           (c.in_ok-rules-2.ensures.takes (said_in s (take k candidates)) c.loop-k.invariant.takes);
       known = c.in_ok-rules-2.ensures.known;
       rules = c.in_ok-rules-2.ensures.rules;
       told = tells_next s.limits (plan_in s) (IsTakenBefore f ps (said_in s candidates)) out
-          (taken_before f ps s.table.now candidates k any c.loop-k-test.true out c.loop-k.invariant.takes)
+          (taken_before f ps s.checked.text.table.now candidates k any c.loop-k-test.true out c.loop-k.invariant.takes)
           (g.W.Watch.told c.args.watch.now) (g.W.Watch.told c.loop-k.watch) (g.W.Watch.told c.take_underivable.new.watch)
           c.loop-k.invariant.told c.in_ok-rules-2.ensures.tells;
     }

@@ -1,9 +1,8 @@
 use Rattle.std.proofs.Common.{◌∙◌, ◌∷◌, [], ap, sym, subst}
 use Rattle.std.proofs.lemmas.List.{map-append}
 use Rattle.std.proofs.lemmas.Result.{IfOk-weaker}
-use Rattle.swreq_machine.specs.swreq_derive.Facts.{requirement_of}
 use Rattle.swreq_list_rules.specs.ListRules.{AreOfList}
-use Rattle.swreq_list_rules.specs.Settings.{said_in}
+use Rattle.swreq_list_rules.specs.Settings.{said_in, says_in}
 use Rattle.swreq_minimal.proofs.Halving.{if_some_weaker}
 use Rattle.swreq_minimal.proofs.taking.take_candidate.Goals as goal
 
@@ -18,5 +17,5 @@ returns-clause-rules c =
     let old = c.args.taken.now.items in
     IfOk-weaker c.extended_if_any.result _ _ (λ o. if_some_weaker _ _ o (λ new grown. let (had, is, grew) = grown in
     subst (λ z. AreOfList s z new)
-    (sym (ap (said_in s) c.in_ok-push.ensures.items ∙ map-append (requirement_of s.table.now) old (c.args.candidate ∷ [])))
+    (sym (ap (said_in s) c.in_ok-push.ensures.items ∙ map-append (says_in s) old (c.args.candidate ∷ [])))
     (grew (said_in s old) (rw is at c.requires.rules)))) c.extended_if_any.ensures

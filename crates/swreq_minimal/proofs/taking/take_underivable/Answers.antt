@@ -2,10 +2,9 @@ use Rattle.std.proofs.Common.{◌≡◌, ◌∙◌, ◌++◌, ◌∷◌, [], ap,
 use Rattle.std.proofs.lemmas.List.{map-append}
 use Rattle.std.proofs.lemmas.List.Elements.{Contains-push_cases}
 use Rattle.swreq_machine.specs.swreq_derive.declared.requirements.Requirement.{Requirement}
-use Rattle.swreq_machine.specs.swreq_derive.Facts.{requirement_of}
 use Rattle.swreq_candidates.specs.swreq_canonical.Generators.{Takes}
-use Rattle.swreq_machine.specs.swreq_symbols.Known.{IsRequirementIn}
-use Rattle.swreq_list_rules.specs.Settings.{AreKnownIn, facts_in, params_in, said_in}
+use Rattle.swreq_machine.specs.swreq_symbols.Texts.{IsRequirementOfText}
+use Rattle.swreq_list_rules.specs.Settings.{AreKnownIn, facts_in, params_in, said_in, says_in}
 use Rattle.swreq_minimal.proofs.Passing.{skip_last, take_last}
 use Rattle.swreq_minimal.proofs.Telling.{out_of_memory, stopped}
 use Rattle.swreq_minimal.proofs.taking.take_underivable.Goals as goal
@@ -23,7 +22,7 @@ pub returns-then-derivable-clause-takes : goal.returns-then-derivable-clause-tak
 returns-then-derivable-clause-takes g c before t =
     let s = c.args.setting.now in
     let answer = rw c.deref.ensures.value at c.in_ok-derivable.ensures.answer in
-    skip_last (facts_in s) (params_in s) (requirement_of s.table.now c.args.candidate) t (answer.0 c.if-derivable.true)
+    skip_last (facts_in s) (params_in s) (says_in s c.args.candidate) t (answer.0 c.if-derivable.true)
 
 pub returns-then-derivable-clause-tells : goal.returns-then-derivable-clause-tells
 returns-then-derivable-clause-tells g c = rw c.deref.ensures.value at c.in_ok-derivable.ensures.tells
@@ -33,11 +32,11 @@ returns-then-derivable-clause-tells g c = rw c.deref.ensures.value at c.in_ok-de
 pub returns-clause-takes : goal.returns-clause-takes
 returns-clause-takes g c before t =
     let s = c.args.setting.now in
-    let r = requirement_of s.table.now c.args.candidate in
+    let r = says_in s c.args.candidate in
     let answer = rw c.deref.ensures.value at c.in_ok-derivable.ensures.answer in
     subst (λ z. Takes (facts_in s) (params_in s) [] (before ++ r ∷ []) z)
     (sym (ap (said_in s) c.in_ok-take_candidate.ensures.taken
-    ∙ map-append (requirement_of s.table.now) c.args.taken.now.items (c.args.candidate ∷ [])))
+    ∙ map-append (says_in s) c.args.taken.now.items (c.args.candidate ∷ [])))
     (take_last (facts_in s) (params_in s) r t (λ h. let a = answer.1 h in let b = c.if-derivable.false in cc))
 
 pub returns-clause-known : goal.returns-clause-known
@@ -46,7 +45,7 @@ returns-clause-known g c =
     subst (AreKnownIn s) (sym {A = List Requirement} c.in_ok-take_candidate.ensures.taken)
     (λ (r : Requirement) h. elim (Contains-push_cases c.args.taken.now.items c.args.candidate r h) [
       | inl i ↦ c.requires.taken r i
-      | inr i ↦ subst (IsRequirementIn s.table.now s.world.now.lexicon) i c.requires.candidate
+      | inr i ↦ subst (IsRequirementOfText s.checked.text) i c.requires.candidate
     ])
 
 pub returns-clause-tells : goal.returns-clause-tells

@@ -21,15 +21,12 @@ go_on-requires-clause-at c =
     id_there (IsTypeBy c.args.by.now.world.now.lexicon c.args.by.now.rules.now c.args.by.now.params (take c.loop-k.k c.args.word.now))
     c.loop-k.table c.loop-k.at c.loop-k.invariant.typed
 
-pub go_on-requires-clause-least : goal.go_on-requires-clause-least
-go_on-requires-clause-least c = part_least c.args.by.now.rules.now c.args.word.now c.loop-k.k c.requires
-
-pub go_on-requires-clause-fits : goal.go_on-requires-clause-fits
-go_on-requires-clause-fits c =
+pub go_on-requires-clause-tested : goal.go_on-requires-clause-tested
+go_on-requires-clause-tested c =
     let t = c.loop-k-test.true in
     let r = c.loop-k.invariant.room in
     let e = length-take-le c.loop-k.k c.args.word.now (omega (arith, t)) in
-    omega (arith, t, r, e)
+    record { least = part_least c.args.by.now.rules.now c.args.word.now c.loop-k.k c.requires; fits = omega (arith, t, r, e) }
 
 pub returns-in_err-next-clause-extends : goal.returns-in_err-next-clause-extends
 returns-in_err-next-clause-extends c =

@@ -1,14 +1,23 @@
-use Rattle.std.proofs.Common.{Some, subst, sym}
+use Rattle.std.proofs.Common.{Some, refl, subst, sym}
 use Rattle.std.proofs.lemmas.Result.{IfOk-weaker, on_ok_weaker}
 use Rattle.swreq_machine.specs.Asked.{IsDerivable}
-use Rattle.swreq_machine.specs.swreq_symbols.Texts.{world_of}
+use Rattle.swreq_machine.specs.swreq_symbols.Texts.{term_of, world_of}
 use Rattle.swreq_print.specs.swreq_derive.Facts.{requirement_of}
 use Rattle.swreq_print.specs.swreq_lowering.ByTable.{asks_by}
 use Rattle.swreq_print.specs.swreq_lowering.Queries.TermAsks.{AsksRequirement}
-use Rattle.swreq_query.specs.Asked.{AppendsAnswer, IsVerdictOf, answer_of}
+use Rattle.swreq_query.specs.Asked.{AppendsAnswer, HasRoomToAnswer, IsVerdictOf, answer_of}
 use Rattle.swreq_query.proofs.Appending.{line_appended}
 use Rattle.swreq_query.proofs.OneAnswer.{only_verdict}
 use Rattle.swreq_query.proofs.answers.answer.Goals as goal
+
+pub reduced_line-requires : goal.reduced_line-requires
+reduced_line-requires c =
+    let h = subst (HasRoomToAnswer c.args.text.now c.args.scratch.now) c.in-Reduced.is c.requires.asks in
+    record { of_text = h.of_text; room = h.room (term_of c.args.text.now c.in-Reduced.t) refl }
+
+pub judge-verdict-requires-clause-requirement : goal.judge-verdict-requires-clause-requirement
+judge-verdict-requires-clause-requirement c =
+    subst (HasRoomToAnswer c.args.text.now c.args.scratch.now) c.in-Requirement.is c.requires.asks
 
 pub returns-in-Reduced-clause-ok : goal.returns-in-Reduced-clause-ok
 returns-in-Reduced-clause-ok c = on_ok_weaker c.reduced_line.result

@@ -19,8 +19,11 @@ returns-in_err-list-clause-failed g c =
     rw (p.1, p.2)
     (signature_fails c.args.limits w (last_rules c.args.protocols.now.rounds) s (g.W.Watch.told c.args.watch.now)
     (g.W.Watch.told c.minimise.new.watch)
-    c.args.machine.now.params c.requires.params c.in_err-list.field-0.0
-    (c.in_err-list.ensures.failed (written_list s) c.requires.machine))
+    c.args.machine.now.params c.requires.machine.params c.in_err-list.field-0.0
+    (c.in_err-list.ensures.failed (written_list s) c.requires.machine.machine))
+
+pub invariant_of-put_line : goal.invariant_of-put_line
+invariant_of-put_line g c = record { belong = ∣ c.in_ok-list.ensures.text ∣₁ }
 
 pub put_line-requires : goal.put_line-requires
 put_line-requires g c = subst (AreKnown c.minimise.new.table c.args.world.now.lexicon) (sym c.deref.ensures.value)
@@ -33,8 +36,9 @@ returns-clause-line g c =
     (line_read (λ (line : List ℕ). c.put_line.new.out.items ≡ c.args.out.now.items ++ line)
     c.args.table.now c.minimise.new.table c.args.world.now c.args.f
     c.args.machine.now.params c.params.result c.in_ok-list.list.items c.deref.result.now
-    c.requires.params c.params.ensures c.deref.ensures.value (c.in_ok-list.ensures.minimised (written_list s) c.requires.machine)
-    (c.in_ok-list.ensures.same (written_list s) c.requires.machine))
+    c.requires.machine.params c.params.ensures c.deref.ensures.value
+    (c.in_ok-list.ensures.minimised (written_list s) c.requires.machine.machine)
+    (c.in_ok-list.ensures.same (written_list s) c.requires.machine.machine))
     c.put_line.ensures.line
 
 pub returns-clause-part : goal.returns-clause-part
@@ -47,8 +51,9 @@ returns-clause-part g c =
     (λ part. inr (line_read (λ (line : List ℕ). GrewByPart c.args.out.now.items line c.put_line.new.out.items)
     c.args.table.now c.minimise.new.table c.args.world.now c.args.f
     c.args.machine.now.params c.params.result c.in_ok-list.list.items c.deref.result.now
-    c.requires.params c.params.ensures c.deref.ensures.value (c.in_ok-list.ensures.minimised (written_list s) c.requires.machine)
-    (c.in_ok-list.ensures.same (written_list s) c.requires.machine) part))
+    c.requires.machine.params c.params.ensures c.deref.ensures.value
+    (c.in_ok-list.ensures.minimised (written_list s) c.requires.machine.machine)
+    (c.in_ok-list.ensures.same (written_list s) c.requires.machine.machine) part))
     c.put_line.ensures.part
 
 pub returns-clause-unchanged : goal.returns-clause-unchanged
@@ -61,7 +66,7 @@ returns-clause-told g c =
     on_ok_weaker c.put_line.result
     (λ e. signature_tells c.args.limits w (last_rules c.args.protocols.now.rounds) s (g.W.Watch.told c.args.watch.now)
     (g.W.Watch.told c.minimise.new.watch)
-    c.args.machine.now.params c.requires.params (c.in_ok-list.ensures.told (written_list s) c.requires.machine))
+    c.args.machine.now.params c.requires.machine.params (c.in_ok-list.ensures.told (written_list s) c.requires.machine.machine))
     c.put_line.ensures.line
 
 pub returns-clause-failed : goal.returns-clause-failed
@@ -71,5 +76,5 @@ returns-clause-failed g c =
     IfErr-weaker c.put_line.result _ _
     (λ failed is. signature_wants c.args.limits w (last_rules c.args.protocols.now.rounds) s (g.W.Watch.told c.args.watch.now)
     (g.W.Watch.told c.minimise.new.watch)
-    c.args.machine.now.params c.requires.params failed is (c.in_ok-list.ensures.told (written_list s) c.requires.machine))
+    c.args.machine.now.params c.requires.machine.params failed is (c.in_ok-list.ensures.told (written_list s) c.requires.machine.machine))
     c.put_line.ensures.failed

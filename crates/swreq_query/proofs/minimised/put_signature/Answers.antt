@@ -9,8 +9,8 @@ use Rattle.swreq_query.proofs.minimised.put_signature.Goals as goal
 
 pub returns-clause-err : goal.returns-clause-err
 returns-clause-err c =
-    let text = λ (x : LexiconView). signature_text x (generic_params c.args.params) (listed c.args.table.now c.args.list.now) in
+    let text = λ (x : LexiconView). signature_text x (generic_params c.args.params) (listed c.args.text.now.table.now c.args.list.now) in
     on_err_weaker c.append_bytes.result
-    (λ same. piece_grew c.args.out.now.items c.append_bytes.new.out.items (text c.args.world.now.lexicon) (codes "\n")
+    (λ same. piece_grew c.args.out.now.items c.append_bytes.new.out.items (text c.args.text.now.world.now.lexicon) (codes "\n")
     (same ∙ c.in_ok-signature_text.ensures.ok ∙ ap (λ (x : LexiconView). c.args.out.now.items ++ text x) c.lexicon.ensures))
     c.append_bytes.ensures.err

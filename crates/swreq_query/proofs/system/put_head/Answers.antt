@@ -1,14 +1,14 @@
 use Rattle.std.proofs.Common.{◌++◌, codes, decimal}
 use Rattle.std.proofs.lemmas.Result.{on_err_weaker}
 use Rattle.swreq_text.proofs.Grown.{grew_next, none_grew, on_err}
-use Rattle.swreq_machine.specs.swreq_world.ByTable.{world_by}
 use Rattle.swreq_machine.specs.swreq_world.Worlds.{signature_at}
 use Rattle.swreq_query.specs.Signatures.{full_name}
+use Rattle.swreq_machine.specs.swreq_symbols.Texts.{world_of}
 use Rattle.swreq_query.proofs.system.put_head.Goals as goal
 
 pub returns-in_err-append_number-clause-err : goal.returns-in_err-append_number-clause-err
 returns-in_err-append_number-clause-err c =
-    let w = world_by c.args.table.now c.args.world.now in
+    let w = world_of c.args.text.now in
     let name = full_name w (signature_at w c.args.f) in
     let count = decimal c.args.rules ++ codes " rules\n" in
     on_err c.from_residual-in_err-append_number.result
@@ -20,7 +20,7 @@ returns-in_err-append_number-clause-err c =
 
 pub returns-clause-err : goal.returns-clause-err
 returns-clause-err c =
-    let w = world_by c.args.table.now c.args.world.now in
+    let w = world_of c.args.text.now in
     let name = full_name w (signature_at w c.args.f) in
     let count = decimal c.args.rules ++ codes " rules\n" in
     on_err_weaker c.append_bytes-2.result

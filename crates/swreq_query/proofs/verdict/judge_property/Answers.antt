@@ -1,8 +1,7 @@
 use Rattle.std.proofs.Common.{subst, sym}
-use Rattle.swreq_print.specs.swreq_param.Tables.{term_at}
 use Rattle.swreq_machine.specs.Asked.{IsDerivable}
 use Rattle.swreq_machine.specs.Having.{has}
-use Rattle.swreq_machine.specs.swreq_symbols.Texts.{world_of}
+use Rattle.swreq_machine.specs.swreq_symbols.Texts.{term_of, world_of}
 use Rattle.swreq_query.specs.Answers.{IsAnswered}
 use Rattle.swreq_query.specs.Asked.{answer_of}
 use Rattle.swreq_query.proofs.Judging.{property_answer}
@@ -11,8 +10,8 @@ use Rattle.swreq_query.proofs.verdict.judge_property.Goals as goal
 pub returns-clause-answer : goal.returns-clause-answer
 returns-clause-answer c = λ list is. subst
     (λ v. IsAnswered (IsDerivable (world_of c.args.text.now) c.args.machine.now list)
-    (has (term_at c.args.text.now.table.now c.args.t) c.args.property) (answer_of v))
+    (has (term_of c.args.text.now c.args.t) c.args.property) (answer_of v))
     (sym c.verdict_of.ensures)
     (property_answer (IsDerivable (world_of c.args.text.now) c.args.machine.now list)
-    (term_at c.args.text.now.table.now c.args.t) c.args.property
+    (term_of c.args.text.now c.args.t) c.args.property
     c.has.result (c.has.ensures.answer list is))

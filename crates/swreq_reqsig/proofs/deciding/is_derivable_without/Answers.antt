@@ -7,23 +7,24 @@ use Rattle.swreq_reqsig.specs.Settings.{text_in}
 use Rattle.swreq_reqsig.specs.Told.IsSettled.{without_rounds}
 use Rattle.swreq_reqsig.proofs.Asking.{asked_count, asks_answer, asks_settle, follows_not}
 use Rattle.swreq_reqsig.proofs.Placing.{place_is}
+use Rattle.swreq_valid.proofs.swreq_symbols.OfTexts.{text_over}
 use Rattle.swreq_reqsig.proofs.deciding.is_derivable_without.Goals as goal
 
-pub asked-requires-clause-selection : goal.asked-requires-clause-selection
-asked-requires-clause-selection g c = record { setting = c.requires.setting; places = c.requires.places; flags = c.requires.flags }
+pub invariant_of-selection : goal.invariant_of-selection
+invariant_of-selection g c = record { flagged = c.requires.flags }
 
 pub is_derivable_with-requires-clause-flags : goal.is_derivable_with-requires-clause-flags
 is_derivable_with-requires-clause-flags g c =
     let s = c.args.setting.now in
     ap length c.deref.ensures.value
-    ∙ asked_count s.world.now s.table.now c.requires.setting.text c.args.at c.args.flags.now c.in-Some.asked.items
+    ∙ asked_count s.text.world.now s.text.table.now (text_over s.text) c.args.at c.args.flags.now c.in-Some.asked.items
     (MatchOption-at_some _ _ _ c.in-Some.is c.in_ok-asked.ensures)
 
 pub is_derivable_with-requires-clause-place : goal.is_derivable_with-requires-clause-place
 is_derivable_with-requires-clause-place g c =
     let s = c.args.setting.now in
-    place_is s.world.now c.requires.setting.text.closed.ids c.args.at _
-    (ap (λ (z : List Place). slice_get z c.args.at) (sym c.requires.places) ∙ slice_get-get_or c.args.places.now c.args.at _ c.requires.at)
+    place_is s.text.world.now (text_over s.text).closed.ids c.args.at _
+    (ap (λ (z : List Place). slice_get z c.args.at) (sym s.all) ∙ slice_get-get_or s.places.now c.args.at _ c.requires.at)
 
 pub returns-in_err-asked-clause-failed : goal.returns-in_err-asked-clause-failed
 returns-in_err-asked-clause-failed g c =
@@ -33,8 +34,8 @@ returns-in_err-asked-clause-failed g c =
 pub returns-in-None-clause-answer : goal.returns-in-None-clause-answer
 returns-in-None-clause-answer g c x there =
     let s = c.args.setting.now in
-    follows_not s.world.now s.table.now c.requires.setting.text c.args.flags.now c.args.at x
-    (ap (λ (z : List Place). slice_get z c.args.at) (sym c.requires.places) ∙ there)
+    follows_not s.text.world.now s.text.table.now (text_over s.text) c.args.flags.now c.args.at x
+    (ap (λ (z : List Place). slice_get z c.args.at) (sym s.all) ∙ there)
     (MatchOption-at_none _ _ c.in-None.is c.in_ok-asked.ensures)
 
 pub returns-in-None-clause-settled : goal.returns-in-None-clause-settled
@@ -47,8 +48,8 @@ returns-in-None-clause-settled g c = (
 pub returns-in-Some-clause-answer : goal.returns-in-Some-clause-answer
 returns-in-Some-clause-answer g c =
     let s = c.args.setting.now in
-    asks_answer s.world.now s.table.now c.requires.setting.text c.args.places.now c.args.flags.now c.args.at c.requires.places _
-    (slice_get-get_or c.args.places.now c.args.at _ c.requires.at) c.in-Some.asked.items c.deref.result.now c.deref.ensures.value
+    asks_answer s.text.world.now s.text.table.now (text_over s.text) s.places.now c.args.flags.now c.args.at s.all _
+    (slice_get-get_or s.places.now c.args.at _ c.requires.at) c.in-Some.asked.items c.deref.result.now c.deref.ensures.value
     (MatchOption-at_some _ _ _ c.in-Some.is c.in_ok-asked.ensures) c.is_derivable_with.result c.is_derivable_with.ensures.answer
 
 pub returns-in-Some-clause-settled : goal.returns-in-Some-clause-settled

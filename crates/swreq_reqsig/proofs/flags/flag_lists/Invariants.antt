@@ -3,4 +3,6 @@ use Rattle.swreq_reqsig.specs.Families.{flag_lists, in_lists}
 use Rattle.swreq_reqsig.proofs.flags.flag_lists.Given as goal
 
 abbrev pub invariant-loop-k : goal.invariant-loop-k
-invariant-loop-k l = l.lists.items ++ in_lists l.world (drop l.k l.world.lexicon.written_order) l.rest ≡ flag_lists l.world l.flags
+invariant-loop-k l =
+    let w = l.text.world.now in
+    l.lists.items ++ in_lists w (drop l.k w.lexicon.written_order) l.rest ≡ flag_lists w l.flags

@@ -8,7 +8,7 @@ use Rattle.swreq_reqsig.proofs.going.drop_derivable.Given as goal
 
 abbrev pub invariant-loop-left : goal.invariant-loop-left
 invariant-loop-left g l = record {
-  within : l.left ≤ length (all_places l.setting.world.now);
+  within : l.left ≤ length (all_places l.setting.text.world.now);
   gone : (told : List Event) × WasReduced l.setting.limits (text_in l.setting) l.left l.flags.items told
       × GrewBy (g.W.Watch.told l.initial.watch) (g.W.Watch.told l.watch) told;
 }

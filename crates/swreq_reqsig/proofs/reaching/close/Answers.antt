@@ -5,10 +5,11 @@ use Rattle.swreq_reqsig.proofs.reaching.close.Goals as goal
 
 pub loop-grows-init : goal.loop-grows-init
 loop-grows-init c =
-    found_first c.args.places.now c.args.flags.now c.args.marks.now.items c.is_any_marked-grows.result
+    found_first c.args.selection.now.setting.places.now c.args.selection.now.flags.now c.args.marks.now.items c.is_any_marked-grows.result
     (λ e q m. c.is_any_marked-grows.ensures e q (subst (λ (z : List Bool). IsMarked z q) (sym c.deref.ensures.value) m))
 
 pub returns : goal.returns
 returns c =
-    all_found c.args.places.now c.args.flags.now c.args.marks.now.items c.loop-grows.grows c.loop-grows.marks.items c.loop-grows.invariant
+    all_found c.args.selection.now.setting.places.now c.args.selection.now.flags.now c.args.marks.now.items c.loop-grows.grows
+    c.loop-grows.marks.items c.loop-grows.invariant
     c.loop-grows-test.false

@@ -5,7 +5,7 @@ use Rattle.swreq_reqsig.proofs.reaching.pass.Given as goal
 abbrev pub invariant-loop-left : goal.invariant-loop-left
 invariant-loop-left l = record {
   within : l.left ≤ length l.places;
-  passed : HasPassed l.places l.flags l.left l.grew l.initial.marks.items l.marks.items;
+  passed : HasPassed l.places l.selection.flags.now l.left l.grew l.initial.marks.items l.marks.items;
 }
 
 abbrev pub decreases-loop-left : goal.decreases-loop-left

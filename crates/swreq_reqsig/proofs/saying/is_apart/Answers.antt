@@ -5,5 +5,5 @@ use Rattle.swreq_reqsig.proofs.saying.is_apart.Goals as goal
 
 pub returns : goal.returns
 returns c =
-    not_said c.is_said.result _ (says_so c.args.selection.now c.requires c.args.name c.in_ok-marks.marks.items c.deref.result.now
+    not_said c.is_said.result _ (says_so c.args.selection.now c.args.name c.in_ok-marks.marks.items c.deref.result.now
     c.deref.ensures.value c.in_ok-marks.ensures IsEqual c.is_said.result c.is_said.ensures)

@@ -1,5 +1,6 @@
 use Rattle.std.proofs.Common.{◌≡◌, ◌∙◌, false, inl, inr, length, List, refl, subst, sym, true, ℕ}
 use Rattle.swreq_reqsig.specs.Outlines.{IsSaidIn}
+use Rattle.swreq_reqsig.proofs.Selecting.{named_in}
 use Rattle.swreq_reqsig.proofs.Spoken.{said_by_list}
 use Rattle.swreq_reqsig.proofs.saying.is_said.Goals as goal
 
@@ -10,7 +11,8 @@ pub returns-then-not-is_any_marked : goal.returns-then-not-is_any_marked
 returns-then-not-is_any_marked c =
     let f = c.args.selection.now in
     let in_list = λ (z : List ℕ). IsSaidIn f.setting.outlines.now f.flags.now z (length z) c.args.kind c.args.name c.args.marks.now in
-    let found = said_by_list f.setting.outlines.now f.flags.now f.setting.named.now c.requires.setting.named c.args.kind c.args.name
+    let found = said_by_list f.setting.outlines.now f.flags.now f.setting.named.now (named_in f.setting) c.args.kind
+    c.args.name
     c.args.marks.now in (
       (λ t. absurd (let z : false ≡ true = t in cc)),
       λ said. absurd (elim (found said) [
@@ -24,7 +26,8 @@ pub returns : goal.returns
 returns c =
     let f = c.args.selection.now in
     let in_list = λ (z : List ℕ). IsSaidIn f.setting.outlines.now f.flags.now z (length z) c.args.kind c.args.name c.args.marks.now in
-    let found = said_by_list f.setting.outlines.now f.flags.now f.setting.named.now c.requires.setting.named c.args.kind c.args.name
+    let found = said_by_list f.setting.outlines.now f.flags.now f.setting.named.now (named_in f.setting) c.args.kind
+    c.args.name
     c.args.marks.now in (
       (λ t. (c.is_said_in-2.ensures.0 t).says),
       λ said. elim (found said) [

@@ -7,15 +7,10 @@ loop-at-init c =
     let f = c.args.selection.now in
     unsaid_none f.setting.outlines.now f.flags.now c.args.places.now c.args.kind c.args.name c.args.marks.now
 
-pub says_at-requires-clause-outlines : goal.says_at-requires-clause-outlines
-says_at-requires-clause-outlines c =
+pub says_at-requires : goal.says_at-requires
+says_at-requires c =
     let f = c.args.selection.now in
-    (place_within f.setting.outlines.now f.flags.now c.args.places.now c.requires c.loop-at.at _ c.loop-at-test.true).0
-
-pub says_at-requires-clause-flags : goal.says_at-requires-clause-flags
-says_at-requires-clause-flags c =
-    let f = c.args.selection.now in
-    (place_within f.setting.outlines.now f.flags.now c.args.places.now c.requires c.loop-at.at _ c.loop-at-test.true).1
+    place_within f.setting.outlines.now f.flags.now c.args.places.now c.requires c.loop-at.at _ c.loop-at-test.true
 
 pub returns-then-says_at : goal.returns-then-says_at
 returns-then-says_at c =

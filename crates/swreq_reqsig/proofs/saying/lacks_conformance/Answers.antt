@@ -17,7 +17,7 @@ returns-then-is_marked c =
 pub returns : goal.returns
 returns c =
     let proto = c.args.proto in
-    let apart = not_said c.is_said.result _ (says_so c.args.selection.now c.requires c.args.name c.in_ok-marks.marks.items
+    let apart = not_said c.is_said.result _ (says_so c.args.selection.now c.args.name c.in_ok-marks.marks.items
     c.deref-2.result.now c.deref-2.ensures.value c.in_ok-marks.ensures IsEqual c.is_said.result c.is_said.ensures) in (
       (λ t. (
         apart.0 t,

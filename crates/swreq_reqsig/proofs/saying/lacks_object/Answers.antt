@@ -6,7 +6,7 @@ use Rattle.swreq_reqsig.proofs.saying.lacks_object.Goals as goal
 
 pub returns-then-is_said : goal.returns-then-is_said
 returns-then-is_said c =
-    let object = says_so c.args.selection.now c.requires c.args.name c.in_ok-marks.marks.items c.deref.result.now
+    let object = says_so c.args.selection.now c.args.name c.in_ok-marks.marks.items c.deref.result.now
     c.deref.ensures.value c.in_ok-marks.ensures IsObject c.is_said.result c.is_said.ensures in (
       (λ t. absurd (let z : false ≡ true = t in cc)),
       λ h. absurd (h.1 (object.0 c.if-is_said.true)),
@@ -14,9 +14,9 @@ returns-then-is_said c =
 
 pub returns : goal.returns
 returns c =
-    let object = says_so c.args.selection.now c.requires c.args.name c.in_ok-marks.marks.items c.deref.result.now
+    let object = says_so c.args.selection.now c.args.name c.in_ok-marks.marks.items c.deref.result.now
     c.deref.ensures.value c.in_ok-marks.ensures IsObject c.is_said.result c.is_said.ensures in
-    let apart = not_said c.is_said-2.result _ (says_so c.args.selection.now c.requires c.args.name c.in_ok-marks.marks.items
+    let apart = not_said c.is_said-2.result _ (says_so c.args.selection.now c.args.name c.in_ok-marks.marks.items
     c.deref-2.result.now c.deref-2.ensures.value c.in_ok-marks.ensures IsEqual c.is_said-2.result c.is_said-2.ensures) in (
       (λ t. (
         apart.0 t,

@@ -1,6 +1,6 @@
 use Rattle.std.proofs.Common.{◌∙◌, [], ap, slice_index_or, subst, sym, ℕ}
 use Rattle.swreq_reqsig.specs.Outlines.{ArePlaces}
-use Rattle.swreq_reqsig.proofs.Selecting.{outlines_count}
+use Rattle.swreq_reqsig.proofs.Selecting.{named_in, outlines_count}
 use Rattle.swreq_reqsig.proofs.Spoken.{places_are}
 use Rattle.swreq_reqsig.proofs.saying.places_of.Goals as goal
 
@@ -13,5 +13,5 @@ returns-clause-are c =
     let f = c.args.selection.now in
     subst (ArePlaces f.setting.outlines.now f.flags.now)
     (sym (c.at.ensures ∙ ap (λ (n : ℕ). slice_index_or f.setting.named.now n []) c.list_of.ensures))
-    (places_are f.setting.outlines.now f.flags.now f.setting.named.now c.requires.setting.named c.args.name
-    (c.requires.flags ∙ outlines_count f c.requires))
+    (places_are f.setting.outlines.now f.flags.now f.setting.named.now (named_in f.setting) c.args.name
+    (c.args.selection.now.flagged ∙ outlines_count f))

@@ -11,7 +11,7 @@ pub returns-in_ok-second-in-Same-clause-stands : goal.returns-in_ok-second-in-Sa
 returns-in_ok-second-in-Same-clause-stands c =
     let old = c.args.table.now in
     let mid = c.with_arguments-in-Same.new.table in
-    let ids = subst (HasIdsOf old) c.in-Same.is c.requires.ids in
+    let ids = subst (HasIdsOf old) c.in-Same.is c.requires.r.0 in
     let more = c.with_arguments-in-Same.ensures.extends in
     let first = c.with_arguments-in-Same-2.ensures.extends.stands c.in_ok-first-in-Same.first c.in_ok-first-in-Same.ensures.id
     ∙ c.in_ok-first-in-Same.ensures.stands in

@@ -14,7 +14,7 @@ pub bounds-args-place_of : goal.bounds-args-place_of
 bounds-args-place_of c =
     let u = c.in_ok-owned.owned in
     let e : head (term_at c.args.table.now c.args.u) ≡ u.head = ap head (sym c.in_ok-owned.ensures) ∙ heads_same (Generic u.head) u.steps in
-    subst (λ k. k < length c.args.args.now) (ap (place_of c.args.params) e ∙ sym c.place_of.ensures) c.requires.param
+    subst (λ k. k < length c.args.args.now) (ap (place_of c.args.params) e ∙ sym c.place_of.ensures) c.requires.u.1
 
 pub returns-clause-stands : goal.returns-clause-stands
 returns-clause-stands c =
@@ -23,7 +23,7 @@ returns-clause-stands c =
     let of = argument_of c.args.params (map (term_at c.args.table.now) c.args.args.now) in
     let first : TermId = record { place = 0 } in
     let h : head (term_at c.args.table.now c.args.u) ≡ u.head = ap head (sym c.in_ok-owned.ensures) ∙ heads_same (Generic u.head) u.steps in
-    let within : k < length c.args.args.now = subst (λ z. place_of c.args.params z < length c.args.args.now) h c.requires.param in
+    let within : k < length c.args.args.now = subst (λ z. place_of c.args.params z < length c.args.args.now) h c.requires.u.1 in
     let read : term_at c.args.table.now (get_or c.args.args.now c.place_of.result first) ≡ of u.head
     = ap (λ z. term_at c.args.table.now (get_or c.args.args.now z first)) c.place_of.ensures
     ∙ sym (get_or-map (term_at c.args.table.now) c.args.args.now k first self within) in

@@ -1,4 +1,4 @@
-use Rattle.std.proofs.Common.{◌≡◌, ◌<◌, ◌^◌, ◌∙◌, Some, List, map, length, sym, ap, subst}
+use Rattle.std.proofs.Common.{◌≡◌, ◌<◌, ◌^◌, ◌∙◌, Some, List, map, length, get_or, sym, ap, subst}
 use Rattle.std.specs.Prelude.{All}
 use Rattle.std.specs.Option.{option_map}
 use Rattle.std.proofs.lemmas.List.{length-map}
@@ -9,7 +9,6 @@ use Rattle.swreq_machine.specs.swreq_param.Terms.{Term}
 use Rattle.swreq_machine.specs.swreq_derive.declared.known.Params.{Params}
 use Rattle.swreq_machine.specs.swreq_derive.declared.requirements.Requirement.{Requirement}
 use Rattle.swreq_machine.specs.swreq_derive.Facts.{requirement_of}
-use Rattle.swreq_machine.specs.swreq_lowering.Heads.{IsOver}
 use Rattle.swreq_machine.specs.swreq_lowering.Requirements.{PlacedRequirement}
 use Rattle.swreq_machine.specs.swreq_symbols.Known.{IsRequirementIn, IsTypeIn}
 use Rattle.swreq_machine.proofs.swreq_symbols.OfText.{signature_is}
@@ -17,47 +16,46 @@ use Rattle.swreq_machine.specs.swreq_valid.Plans.{listed}
 use Rattle.swreq_machine.specs.swreq_world.ByTable.{world_by}
 use Rattle.swreq_machine.specs.swreq_world.FactsAt.{facts_of, written_list}
 use Rattle.swreq_machine.specs.swreq_world.Worlds.{SignatureOver, signature_at}
-use Rattle.swreq_subst.specs.Arguments.{param_count, place_of}
+use Rattle.swreq_subst.specs.Arguments.{IsOverArguments, param_count}
 use Rattle.swreq_subst.specs.Calls.{IsArgumentIn}
 use Rattle.swreq_subst.proofs.Calling.{all_of_text, is_short, list_is, named, of_callee, same_types}
 use Rattle.swreq_subst.proofs.Numbering.{same_failing}
 use Rattle.swreq_subst.proofs.Replacing.{over_places}
 use Rattle.swreq_subst.proofs.failures.failing.Goals as goal
 
-pub numbers_of-requires-clause-args : goal.numbers_of-requires-clause-args
-numbers_of-requires-clause-args c =
+pub numbers_of-requires-clause-by : goal.numbers_of-requires-clause-by
+numbers_of-requires-clause-by c =
     let old = c.args.table.now in
     let x = c.args.world.now.lexicon in
     let types = c.in_ok-types.types.items in
     let are : named types ≡ c.args.c.now.args = c.in_ok-types.ensures ∙ c.items.ensures in
-    subst (All (IsTypeIn old x)) (sym c.deref.ensures.value)
-    (all_of_text old x types (subst (All (IsArgumentIn old x)) (sym are) c.requires.call.args))
+    record {
+      text = c.requires.text;
+      args = subst (All (IsTypeIn old x)) (sym c.deref.ensures.value)
+          (all_of_text old x types (subst (All (IsArgumentIn old x)) (sym are) c.requires.call.args));
+    }
 
 pub numbers_of-requires-clause-list : goal.numbers_of-requires-clause-list
 numbers_of-requires-clause-list c =
     let old = c.args.table.now in
     let w = c.args.world.now in
-    subst (All (IsRequirementIn old w.lexicon)) (sym c.deref-2.ensures.value)
-    (λ k d l. (of_callee old w c.args.c.now.g c.in_ok-list.list.items c.in_ok-list.ensures c.requires.text c.requires.call.callee k d l).0)
-
-pub numbers_of-requires-clause-over : goal.numbers_of-requires-clause-over
-numbers_of-requires-clause-over c =
-    let old = c.args.table.now in
-    let w = c.args.world.now in
     let g = c.args.c.now.g in
     let p : Params = (signature_at w g).params in
     let types = c.in_ok-types.types.items in
+    let list = c.in_ok-list.list.items in
     let n = length c.deref.result.now in
     let are : named types ≡ c.args.c.now.args = c.in_ok-types.ensures ∙ c.items.ensures in
     let count : n ≡ param_count p
     = ap length c.deref.ensures.value ∙ sym (length-map types (λ (t : TermId). Some t)) ∙ ap length are ∙ c.requires.call.count in
-    let over : All (λ (r : Requirement). IsOver (λ h. place_of p h < n) (requirement_of old r)) c.in_ok-list.list.items
-    = λ k d l. over_places p n count _
-    (of_callee old w g c.in_ok-list.list.items c.in_ok-list.ensures c.requires.text c.requires.call.callee k d l).1 in
-    subst (λ (rs : List Requirement). All (λ (r : Requirement). IsOver (λ h. place_of c.params.result h < n) (requirement_of old r)) rs)
+    let own : All (λ (r : Requirement). IsRequirementIn old w.lexicon r × IsOverArguments old p c.deref.result.now r) list
+    = λ k d l. (
+    let one = of_callee old w g list c.in_ok-list.ensures c.requires.text c.requires.call.callee k d l in
+    (one.0, over_places p n count (requirement_of old (get_or list k d)) one.1)
+    ) in
+    subst (All (λ (r : Requirement). IsRequirementIn old w.lexicon r × IsOverArguments old c.params.result c.deref.result.now r))
     (sym c.deref-2.ensures.value)
-    (subst (λ (q : Params). All (λ (r : Requirement). IsOver (λ h. place_of q h < n) (requirement_of old r)) c.in_ok-list.list.items)
-    (sym c.params.ensures) over)
+    (subst (λ (q : Params). All (λ (r : Requirement). IsRequirementIn old w.lexicon r × IsOverArguments old q c.deref.result.now r) list)
+    (sym c.params.ensures) own)
 
 pub numbers_of-requires-clause-few : goal.numbers_of-requires-clause-few
 numbers_of-requires-clause-few c =

@@ -40,27 +40,27 @@ loop-k-init c =
           (none_yet (facts_of w) (Written (generic_params by.machine.now.params) given) by.params args rs);
     }
 
-pub holds-requires-clause-text : goal.holds-requires-clause-text
-holds-requires-clause-text c = text_stays c.args.table.now c.loop-k.table c.loop-k.invariant.extends c.args.by.now.world.now c.requires.text
-
-pub holds-requires-clause-args : goal.holds-requires-clause-args
-holds-requires-clause-args c =
-    types_in_stay c.args.table.now c.loop-k.table c.loop-k.invariant.extends c.args.by.now.world.now.lexicon
-    c.args.by.now.args.now c.requires.args
+pub holds-requires-clause-by : goal.holds-requires-clause-by
+holds-requires-clause-by c =
+    let old = c.args.table.now in
+    let by = c.args.by.now in
+    let more = c.loop-k.invariant.extends in
+    record {
+      text = text_stays old c.loop-k.table more by.world.now c.requires.by.text;
+      args = types_in_stay old c.loop-k.table more by.world.now.lexicon by.args.now c.requires.by.args;
+    }
 
 pub holds-requires-clause-r : goal.holds-requires-clause-r
 holds-requires-clause-r c =
-    requirement_in_stays c.args.table.now c.loop-k.table c.loop-k.invariant.extends c.args.by.now.world.now.lexicon
-    (get_or c.args.list.now c.loop-k.k no_requirement)
-    (c.requires.list c.loop-k.k no_requirement c.loop-k-test.true)
-
-pub holds-requires-clause-over : goal.holds-requires-clause-over
-holds-requires-clause-over c =
-    let known = c.requires.list c.loop-k.k no_requirement c.loop-k-test.true in
-    subst (IsOver (λ g. place_of c.args.by.now.params g < length c.args.by.now.args.now))
-    (sym (requirement_stays c.args.table.now c.loop-k.table (get_or c.args.list.now c.loop-k.k no_requirement)
-    c.loop-k.invariant.extends known.0))
-    (c.requires.over c.loop-k.k no_requirement c.loop-k-test.true)
+    let old = c.args.table.now in
+    let by = c.args.by.now in
+    let r = get_or c.args.list.now c.loop-k.k no_requirement in
+    let more = c.loop-k.invariant.extends in
+    let known = c.requires.list c.loop-k.k no_requirement c.loop-k-test.true in (
+      requirement_in_stays old c.loop-k.table more by.world.now.lexicon r known.0,
+      subst (IsOver (λ g. place_of by.params g < length by.args.now))
+          (sym (requirement_stays old c.loop-k.table r more known.0.0)) known.1,
+    )
 
 pub loop-k-preserved : goal.loop-k-preserved
 loop-k-preserved c =
@@ -76,10 +76,10 @@ loop-k-preserved c =
     let r = get_or c.args.list.now k no_requirement in
     let rs = listed old c.args.list.now in
     let b = c.in_ok-holds.holds in
-    let known = c.requires.list k no_requirement c.loop-k-test.true in
-    let same = world_stays old mid more by.world.now c.requires.text.table in
+    let known = (c.requires.list k no_requirement c.loop-k-test.true).0 in
+    let same = world_stays old mid more by.world.now c.requires.by.text.table in
     let args =
-    types_stay old mid more types (All-weaker (IsTypeIn old by.world.now.lexicon) (IsOf old) (λ t h. h.0) types c.requires.args) in
+    types_stay old mid more types (All-weaker (IsTypeIn old by.world.now.lexicon) (IsOf old) (λ t h. h.0) types c.requires.by.args) in
     let required = requirement_stays old mid r more known.0 in
     let here = subst (λ (u : TextWorld). (given : List TermRequirement) → IsMachineOf u given m
     → IsTrue b ↔ IsDerivable u m given (Requires (requirement_with p (map (term_at mid) types) (requirement_of mid r))))

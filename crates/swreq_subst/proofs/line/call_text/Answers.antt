@@ -19,6 +19,9 @@ use Rattle.swreq_subst.proofs.Calling.{list_is, list_size, of_callee}
 use Rattle.swreq_subst.proofs.Lining.{all_there, numbers_within, one_invalid, valid_types}
 use Rattle.swreq_subst.proofs.line.call_text.Goals as goal
 
+pub invariant_of-text : goal.invariant_of-text
+invariant_of-text c = record { belong = ∣ c.requires.text ∣₁ }
+
 pub returns-then-not-branch-clause-line : goal.returns-then-not-branch-clause-line
 returns-then-not-branch-clause-line c =
     let old = c.args.table.now in

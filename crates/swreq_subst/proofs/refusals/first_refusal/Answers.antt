@@ -6,8 +6,8 @@ use Rattle.swreq_subst.proofs.refusals.first_refusal.Goals as goal
 
 pub loop-k-preserved : goal.loop-k-preserved
 loop-k-preserved c =
-    let w = c.args.world.now in
-    let text = c.args.text.now in
+    let w = c.args.words.now.world.now in
+    let text = c.args.words.now.text.now in
     let calls = c.args.calls.now in
     more_parts (of_call w text) calls c.loop-k.k c.index-calls-k.result c.loop-k.best c.check_call-best.result
     (least None (refusals w text calls)) c.loop-k-test.true
@@ -16,6 +16,6 @@ loop-k-preserved c =
 pub returns : goal.returns
 returns c =
     let calls = c.args.calls.now in
-    all_parts (of_call c.args.world.now c.args.text.now) calls c.loop-k.k c.loop-k.best
-    (least None (refusals c.args.world.now c.args.text.now calls)) c.loop-k-test.false
+    all_parts (of_call c.args.words.now.world.now c.args.words.now.text.now) calls c.loop-k.k c.loop-k.best
+    (least None (refusals c.args.words.now.world.now c.args.words.now.text.now calls)) c.loop-k-test.false
     c.loop-k.invariant

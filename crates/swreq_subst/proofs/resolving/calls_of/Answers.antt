@@ -10,19 +10,19 @@ use Rattle.swreq_subst.proofs.Staying.{calls_in_stay, calls_stay}
 use Rattle.swreq_subst.proofs.Steps.{nothing_of_each}
 use Rattle.swreq_subst.proofs.resolving.calls_of.Goals as goal
 
-pub call_of-requires-clause-resolves : goal.call_of-requires-clause-resolves
-call_of-requires-clause-resolves c =
-    subst (λ (d : CallDecl). of_call c.args.world.now c.args.text.now d ≡ []) (sym c.index-calls-k.is)
-    (nothing_of_each (of_call c.args.world.now c.args.text.now) c.args.calls.now c.loop-k.k c.index-calls-k.result
-    c.requires.resolve c.loop-k-test.true)
+pub call_of-requires : goal.call_of-requires
+call_of-requires c =
+    subst (λ (d : CallDecl). of_call c.args.words.now.world.now c.args.words.now.text.now d ≡ []) (sym c.index-calls-k.is)
+    (nothing_of_each (of_call c.args.words.now.world.now c.args.words.now.text.now) c.args.calls.now c.loop-k.k c.index-calls-k.result
+    c.requires c.loop-k-test.true)
 
 pub loop-k-preserved : goal.loop-k-preserved
 loop-k-preserved c =
     let first = c.args.table.now in
     let old = c.loop-k.table in
     let new = c.call_of.new.table in
-    let w = c.args.world.now in
-    let text = c.args.text.now in
+    let w = c.args.words.now.world.now in
+    let text = c.args.words.now.text.now in
     let i = c.loop-k.invariant in
     let more = c.call_of.ensures.extends in
     let found = c.loop-k.found.items in
@@ -40,7 +40,8 @@ loop-k-preserved c =
 
 pub returns-clause-say : goal.returns-clause-say
 returns-clause-say c =
-    subst (λ (z : List CallDecl). SayCalls c.args.world.now c.args.text.now (map (call_by c.loop-k.table) c.loop-k.found.items) z)
+    let words = c.args.words.now in
+    subst (λ (z : List CallDecl). SayCalls words.world.now words.text.now (map (call_by c.loop-k.table) c.loop-k.found.items) z)
     (take_all c.loop-k.k c.args.calls.now c.loop-k-test.false) c.loop-k.invariant.say
 
 pub returns-in_err-call-clause-extends : goal.returns-in_err-call-clause-extends

@@ -8,6 +8,6 @@ use Rattle.swreq_subst.proofs.resolving.calls_of.Given as goal
 abbrev pub invariant-loop-k : goal.invariant-loop-k
 invariant-loop-k l = record {
   extends : Extends l.initial.table l.table;
-  say : SayCalls l.world l.text (map (call_by l.table) l.found.items) (take l.k l.calls);
-  known : All (IsCallIn l.table l.world) l.found.items;
+  say : SayCalls l.words.world.now l.words.text.now (map (call_by l.table) l.found.items) (take l.k l.calls);
+  known : All (IsCallIn l.table l.words.world.now) l.found.items;
 }

@@ -7,8 +7,8 @@ use Rattle.swreq_resolve.proofs.Order.{least_is_first, none_refused, one_first}
 use Rattle.swreq_subst.specs.Refusals.{refusals}
 use Rattle.swreq_subst.proofs.resolving.resolve_calls.Goals as goal
 
-pub calls_of-requires-clause-resolve : goal.calls_of-requires-clause-resolve
-calls_of-requires-clause-resolve c = none_refused (refusals c.args.world.now c.args.text.now c.args.calls.now) (sym c.in-None.ensures)
+pub calls_of-requires : goal.calls_of-requires
+calls_of-requires c = none_refused (refusals c.args.world.now c.args.text.now c.args.calls.now) (sym c.in-None.ensures)
 
 pub returns-in-Some-clause-refused : goal.returns-in-Some-clause-refused
 returns-in-Some-clause-refused c =

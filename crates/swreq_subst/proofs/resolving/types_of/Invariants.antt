@@ -9,6 +9,7 @@ use Rattle.swreq_subst.proofs.resolving.types_of.Given as goal
 abbrev pub invariant-loop-k : goal.invariant-loop-k
 invariant-loop-k l = record {
   extends : Extends l.initial.table l.table;
-  say : OneByOne (SaysArgument l.world l.text l.f) (map (option_map (term_at l.table)) l.found.items) (take l.k l.types);
-  known : All (IsArgumentIn l.table l.world.lexicon) l.found.items;
+  say : OneByOne (SaysArgument l.words.world.now l.words.text.now l.f) (map (option_map (term_at l.table)) l.found.items)
+      (take l.k l.types);
+  known : All (IsArgumentIn l.table l.words.world.now.lexicon) l.found.items;
 }

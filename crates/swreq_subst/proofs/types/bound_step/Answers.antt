@@ -9,13 +9,13 @@ use Rattle.swreq_subst.proofs.types.bound_step.Goals as goal
 
 pub returns : goal.returns
 returns c =
-    let w = c.args.world.now in
+    let w = c.args.words.now.world.now in
     let x = w.lexicon in
-    let text = c.args.text.now in
+    let text = c.args.words.now.text.now in
     let p = c.args.proto in
     let a = c.args.name in
-    let (i, at, declares_it) = declared_there text (declared w) p a (protocol_of (declared w) (word text p)) c.requires.resolves in
-    let has = c.requires.ids.associated (word text p) (word text a) i at declares_it in
+    let (i, at, declares_it) = declared_there text (declared w) p a (protocol_of (declared w) (word text p)) c.requires in
+    let has = c.args.words.now.ids.associated (word text p) (word text a) i at declares_it in
     let says : SaysAssociated text x (assoc_by x.associated (proto_by x.protocols (word text p)) (name_by x.names (word text a))) p a
     = record {
       pair = pair (proto_by x.protocols (word text p)) (name_by x.names (word text a));

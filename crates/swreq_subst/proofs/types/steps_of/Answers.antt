@@ -7,15 +7,15 @@ use Rattle.swreq_subst.specs.Refusals.{declared}
 use Rattle.swreq_subst.proofs.Steps.{nothing_of_each, says_next}
 use Rattle.swreq_subst.proofs.types.steps_of.Goals as goal
 
-pub step_of-requires-clause-resolves : goal.step_of-requires-clause-resolves
-step_of-requires-clause-resolves c =
-    nothing_of_each (of_step c.args.text.now (declared c.args.world.now)) c.args.steps.now c.loop-k.k
-    (Plain (record { start = 0; end = 0 })) c.requires.resolve c.loop-k-test.true
+pub step_of-requires : goal.step_of-requires
+step_of-requires c =
+    nothing_of_each (of_step c.args.words.now.text.now (declared c.args.words.now.world.now)) c.args.steps.now c.loop-k.k
+    (Plain (record { start = 0; end = 0 })) c.requires c.loop-k-test.true
 
 pub loop-k-preserved : goal.loop-k-preserved
 loop-k-preserved c =
-    let text = c.args.text.now in
-    let x = c.args.world.now.lexicon in
+    let text = c.args.words.now.text.now in
+    let x = c.args.words.now.world.now.lexicon in
     let d : StepDecl = get_or c.args.steps.now c.loop-k.k (Plain (record { start = 0; end = 0 })) in
     says_next text x c.loop-k.found.items c.push.new.self.items c.args.steps.now c.loop-k.k c.in-Some.step d c.loop-k-test.true
     (get_or_default c.args.steps.now c.loop-k.k (Plain (record { start = 0; end = 0 })) d c.loop-k-test.true)

@@ -9,10 +9,10 @@ use Rattle.swreq_symbols.proofs.words.spelled.Given as goal
 
 abbrev pub invariant-members : goal.invariant-members
 invariant-members l = record {
-  known : IsTypeIn l.table l.world.lexicon l.at;
-  spelled : steps (symbols_of l.world.lexicon) (term_at l.table l.at) (reverse l.symbols.items)
-      ≡ steps (symbols_of l.world.lexicon) (term_at l.table l.t) (ending l.fn.end);
+  known : IsTypeIn l.text.table.now l.text.world.now.lexicon l.at;
+  spelled : steps (symbols_of l.text.world.now.lexicon) (term_at l.text.table.now l.at) (reverse l.symbols.items)
+      ≡ steps (symbols_of l.text.world.now.lexicon) (term_at l.text.table.now l.t) (ending l.fn.end);
 }
 
 abbrev pub decreases-members : goal.decreases-members
-decreases-members l = member_count (term_at l.table l.at)
+decreases-members l = member_count (term_at l.text.table.now l.at)

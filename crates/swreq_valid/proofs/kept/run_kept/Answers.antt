@@ -7,8 +7,8 @@ use Rattle.swreq_symbols.specs.Texts.{world_of}
 use Rattle.swreq_symbols.proofs.OfTexts.{text_over}
 use Rattle.swreq_valid.proofs.kept.run_kept.Goals as goal
 
-pub run_rounds-requires-clause-wanted : goal.run_rounds-requires-clause-wanted
-run_rounds-requires-clause-wanted g c =
+pub run_rounds-requires : goal.run_rounds-requires
+run_rounds-requires g c =
     kept_all_wanted c.args.text.now.world.now c.args.text.now.table.now c.args.keep.now.lists (text_over c.args.text.now) c.requires.keep
     c.in_ok-all.all.items c.in_ok-all.ensures
 

@@ -9,11 +9,8 @@ use Rattle.swreq_symbols.specs.Texts.{world_of}
 use Rattle.swreq_symbols.proofs.OfTexts.{text_over}
 use Rattle.swreq_valid.proofs.kept.usable_of.Goals as goal
 
-pub is_usable-requires-clause-text : goal.is_usable-requires-clause-text
-is_usable-requires-clause-text c = text_over c.args.text.now
-
-pub is_usable-requires-clause-want : goal.is_usable-requires-clause-want
-is_usable-requires-clause-want c =
+pub is_usable-requires : goal.is_usable-requires
+is_usable-requires c =
     written_known c.args.text.now.table.now c.args.text.now.world.now.lexicon
     (requirements_of c.args.text.now.world.now c.args.protocol) c.bare_requirements-list.result.now c.bare_requirements-list.ensures
     (protocol_written c.args.text.now.world.now c.args.text.now.table.now (text_over c.args.text.now) c.args.protocol) _

@@ -15,11 +15,8 @@ basic-requires g c = ids_over c.args.text.now
 pub requirements-requires : goal.requirements-requires
 requirements-requires g c = ids_over c.args.text.now
 
-pub run_rounds-requires-clause-text : goal.run_rounds-requires-clause-text
-run_rounds-requires-clause-text g c = text_over c.args.text.now
-
-pub run_rounds-requires-clause-wanted : goal.run_rounds-requires-clause-wanted
-run_rounds-requires-clause-wanted g c =
+pub run_rounds-requires : goal.run_rounds-requires
+run_rounds-requires g c =
     protocols_wanted_all c.args.text.now.world.now c.args.text.now.table.now
     (text_over c.args.text.now) c.in_ok-all.all.items c.in_ok-all.ensures
 

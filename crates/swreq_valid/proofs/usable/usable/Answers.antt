@@ -1,12 +1,8 @@
 use Rattle.swreq_valid.proofs.Planning.{IsTold, told_shown, told_more, told_all, place_behind, place_within, wanted_at}
-use Rattle.swreq_symbols.proofs.OfTexts.{text_over}
 use Rattle.swreq_valid.proofs.usable.usable.Goals as goal
 
-pub is_usable-requires-clause-text : goal.is_usable-requires-clause-text
-is_usable-requires-clause-text c = text_over c.args.text.now
-
-pub is_usable-requires-clause-want : goal.is_usable-requires-clause-want
-is_usable-requires-clause-want c =
+pub is_usable-requires : goal.is_usable-requires
+is_usable-requires c =
     wanted_at c.args.text.now.table.now c.args.text.now.world.now.lexicon c.args.start.now c.loop-k.k c.index-want.result.now
     c.requires.wanted
     (place_within c.args.start.now c.loop-k.k _ c.loop-k-test.true c.len-k-end.ensures) c.index-want.ensures

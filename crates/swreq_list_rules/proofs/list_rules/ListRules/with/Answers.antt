@@ -7,8 +7,8 @@ use Rattle.swreq_list_rules.specs.Settings.{said_in}
 use Rattle.swreq_list_rules.proofs.Growing.{begun, usable_members}
 use Rattle.swreq_list_rules.proofs.list_rules.ListRules.with.Goals as goal
 
-pub settle-requires-clause-waiting : goal.settle-requires-clause-waiting
-settle-requires-clause-waiting c = λ r h.
+pub settle-requires : goal.settle-requires
+settle-requires c = λ r h.
     elim (Contains-append_cases c.self.inside.waiting.items c.args.more.now r
     (subst (λ z. Contains z r) c.in_ok-extend_from_slice.ensures.items h)) [
       | inl i ↦ c.requires.waiting r (subst (λ (z : ListRulesView). Contains z.waiting r) c.self.view_is i)
@@ -25,4 +25,4 @@ returns c = λ list are.
     c.settle.ensures longer some
     (subst₂ (λ (rules : List Rule) (waiting : List Requirement). AreUnderway s longer some rules waiting)
     (sym (ap (λ (z : ListRulesView). z.rules) c.self.view_is)) (sym all)
-    (begun s list c.args.self are c.requires.setting c.args.more.now c.requires.more))
+    (begun s list c.args.self are c.args.more.now c.requires.more))

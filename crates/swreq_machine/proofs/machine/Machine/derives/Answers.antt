@@ -4,17 +4,7 @@ use Rattle.swreq_valid.specs.swreq_derive.Derivation.TermStatement.{Requires}
 use Rattle.swreq_valid.specs.swreq_derive.Facts.{requirement_of}
 use Rattle.swreq_machine.specs.Asked.{IsDerivable}
 use Rattle.swreq_valid.specs.swreq_symbols.Texts.{world_of}
-use Rattle.swreq_valid.proofs.swreq_symbols.OfTexts.{text_over}
 use Rattle.swreq_machine.proofs.machine.Machine.derives.Goals as goal
-
-pub conforms-requires-clause-text : goal.conforms-requires-clause-text
-conforms-requires-clause-text c = text_over c.args.text.now
-
-pub any_object-requires-clause-text : goal.any_object-requires-clause-text
-any_object-requires-clause-text c = text_over c.args.text.now
-
-pub equal-requires-clause-text : goal.equal-requires-clause-text
-equal-requires-clause-text c = text_over c.args.text.now
 
 pub returns-in_ok-s-in-Conf : goal.returns-in_ok-s-in-Conf
 returns-in_ok-s-in-Conf c list h =
