@@ -60,6 +60,16 @@ const LAYOUT_AGAIN: &[u8] = b"protocol Q: AnyObject { }\nprotocol P: Q, AnyObjec
 /// Two protocols that require a layout of their own.
 const LAYOUTS: &[u8] = b"protocol Q: AnyObject { }\nprotocol P: AnyObject { }\n";
 
+/// A struct, and a function that adds nothing to it.
+const NESTED: &[u8] = b"protocol P { }\nstruct S<T: P> { func m() }\n";
+
+/// A conformance that names leave open, since a member of another protocol has its name, and whose protocol is out of reach without it.
+const BEYOND: &[u8] = b"\
+protocol Q { }
+protocol P { associatedtype A: Q }
+protocol R { associatedtype A: Q }
+";
+
 /// By name, for the words of a run its text, the status, how many completions a watcher is told to start, and how many rules to be born.
 ///
 /// - The protocol N has a round without its requirement, with 3 rules, and one with it, with 5. Where the requirement is written twice, the
@@ -68,6 +78,10 @@ const LAYOUTS: &[u8] = b"protocol Q: AnyObject { }\nprotocol P: AnyObject { }\n"
 ///   other two requirements, with 2 and 5 rules. It follows and is left out, and each of the others is then unsaid.
 /// - The protocols of `LAYOUTS` have rounds with 2 and 4 rules. Neither layout is unsaid, since the other is of `Self` too. The protocol of
 ///   the other is out of reach, so each is asked by one round without requirements, with 2 rules, and stays.
+/// - The protocols of `BEYOND` have rounds with 7 and 9 rules. Neither conformance is unsaid, since the other is of a member A too. Without
+///   it its protocol requires nothing, so Q is out of reach, and no round is asked.
+/// - The protocol P of `NESTED` has a round, with 1 rule. The struct has one without its requirement, with none, and one with it, with 1.
+///   The same two are told of its function.
 /// - The protocol P of `CALLED` has a round, with 1 rule. Each function has one without its requirement, with none, and one with it,
 ///   with 1.
 /// - The protocols of `EITHER` have rounds with 11, 17 and 18 rules, and the function with none, 7 and 8. Minimising grows the rules of
@@ -92,6 +106,18 @@ const TOLD: &[(&str, &str, &[u8], (u8, u32, u32))] = &[
         "requirements",
         LAYOUTS,
         (0, 4, 10),
+    ),
+    (
+        "requirements, with a conformance out of reach",
+        "requirements",
+        BEYOND,
+        (0, 2, 16),
+    ),
+    (
+        "answer, of a function that adds nothing to its struct",
+        "answer",
+        NESTED,
+        (0, 5, 3),
     ),
     ("calls", "calls", CALLED, (0, 5, 3)),
     ("calls that are refused", "calls", MISCALLED, (1, 5, 3)),
