@@ -53,9 +53,9 @@ fn judge_machine<'b>(
 impl<'b> Machine<'b> {
     /// The machine of a written list, over the rules of the protocols.
     ///
-    /// It is `Refused::Limit` if and only if the rounds of the list stop at a limit, with the limit that was passed first and the trace of
-    /// that round, and `Refused::NotATypeParameter` if and only if they do not and a side is no type parameter, at the first such side. The
-    /// watcher is told the events of the rounds.
+    /// It is `Refused::Limit` if and only if the rounds of the list stop at a limit, with the limit that was passed first since the last
+    /// round that ended, and the trace of the round that passed it; and `Refused::NotATypeParameter` if and only if they do not and a side
+    /// is no type parameter, at the first such side. The watcher is told the events of the rounds.
     pub fn build<W: Watch>(
         alloc: Global,
         checked: &CheckedText<'_, 'b>,

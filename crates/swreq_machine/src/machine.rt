@@ -78,8 +78,8 @@ fn in_signature(
 
 /// The machine of the usable part of a list, over the rules of the protocols.
 ///
-/// `Failed::Limit` comes if and only if the rounds of the list stop at a limit, with the limit that was passed first and the trace of that
-/// round.
+/// `Failed::Limit` comes if and only if the rounds of the list stop at a limit, with the limit that was passed first since the last round
+/// that ended, and the trace of the round that passed it.
 pub fn core<'b, W: Watch>(
     alloc: Global,
     checked: &CheckedText<'_, 'b>,

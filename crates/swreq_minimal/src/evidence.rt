@@ -125,7 +125,7 @@ fn add_loop(
 }
 
 /// Whether a loop of the pair may show the last rule: one of its two sides begins with the left side of that rule, or that rule is one of
-/// the two and leads to the whole of a side. Only time rests on it.
+/// the two and leads to the whole of a side. A loop that is left out may leave evidence unfound, and a limit told in place of an answer.
 fn may_show(rules: &[Rule], pair: &Pair) -> bool {
     let (left, right) = (pair.left.symbols(), pair.right.symbols());
     match rules.last() {

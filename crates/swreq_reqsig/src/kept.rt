@@ -29,8 +29,8 @@ use swreq_valid::watch::Watch;
 /// No other requirement bears on what is derivable from `[τ_0_0 : P]`. A conformance to a protocol that P does not reach does not follow.
 /// For this and for what is unsaid nothing is completed; for each other requirement the rounds of the reached part are run.
 ///
-/// It is `Failed::Limit` exactly where the rounds of such a part pass a limit, with the limit and the trace of the first. The watcher is
-/// told the events of these rounds, one after the other.
+/// It is `Failed::Limit` exactly where the rounds of such a part stop at a limit, with that limit and its trace. The watcher is told the
+/// events of these rounds, one after the other.
 pub fn kept_family<W: Watch>(
     alloc: Global,
     text: &Text<'_>,

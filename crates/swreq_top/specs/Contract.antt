@@ -24,7 +24,7 @@ pub record IsRun (r : Run) : Type 0 where
   pub failing : Prints r SayFailing
   -- The printed requirement lists of the protocols are requirement signatures.
   pub family : Prints r SayFamily
-  -- A text that is refused has the status of its refusal, unless memory ran out.
+  -- Where no stream fails, a text that is refused has the status of its refusal, unless memory ran out.
   pub refused : (o : Outcome) → IsRefusedRun r o → NothingFailed r → (r.status ≡ o.status) ⊎ (r.status ≡ 6)
-  -- A text that nothing refuses is answered, unless memory ran out.
+  -- Where no stream fails and minimising stops at no limit, a text that nothing refuses is answered, unless memory ran out.
   pub answered : IsAnswerable r → NothingFailed r → (r.status ≡ 0) ⊎ (r.status ≡ 6)

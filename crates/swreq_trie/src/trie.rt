@@ -153,7 +153,7 @@ impl Trie {
     }
 
     /// The number of the shortest stored side that begins at the place, and of several that are the same, of the first. Where none begins
-    /// there, how many symbols of the word tell so.
+    /// there, a number of first symbols of the word that tell so, which may be more than needed, or than the word has.
     pub fn find_at(&self, w: &[Symbol], at: usize) -> Result<u32, usize>
         requires { at ≤ length w.now }
         ensures { MatchResult result (λ number. Shortest self.now (drop at w.now) number)

@@ -58,9 +58,9 @@ fn judge_protocols(
 impl Protocols {
     /// The rules of the protocols of a text.
     ///
-    /// It is `Refused::Limit` if and only if the rounds stop at a limit, with the limit that was passed first and the trace of that round,
-    /// and `Refused::NotATypeParameter` if and only if they do not and a side of a requirement is no type parameter, at the first such
-    /// side, protocols in written order. The watcher is told the events of the rounds.
+    /// It is `Refused::Limit` if and only if the rounds stop at a limit, with the limit that was passed first since the last round that
+    /// ended, and the trace of the round that passed it; and `Refused::NotATypeParameter` if and only if they do not and a side of a
+    /// requirement is no type parameter, at the first such side, protocols in written order. The watcher is told the events of the rounds.
     pub fn build<W: Watch>(
         alloc: Global,
         text: &Text<'_>,
@@ -90,8 +90,8 @@ impl Protocols {
 impl Protocols {
     /// The rules of the protocols by the kept requirements alone, over the symbols and the basic equations of the whole text.
     ///
-    /// It is `Failed::Limit` if and only if the rounds stop at a limit, with the limit that was passed first and the trace of that round.
-    /// The watcher is told the events of the rounds.
+    /// It is `Failed::Limit` if and only if the rounds stop at a limit, with the limit that was passed first since the last round that
+    /// ended, and the trace of the round that passed it. The watcher is told the events of the rounds.
     pub fn build_kept<W: Watch>(
         alloc: Global,
         text: &Text<'_>,

@@ -79,8 +79,8 @@ fn turn<'b, W: Watch>(
 
 /// Runs the rounds over the rules that are borrowed, or over none, up to the last one or to the limit at which they stop.
 ///
-/// `Failed::Limit` comes if and only if they stop at a limit, with the limit that was passed first and the trace of that round. The
-/// watcher is told the events of the rounds.
+/// `Failed::Limit` comes if and only if they stop at a limit, with the limit that was passed first since the last round that ended, and
+/// the trace of the round that passed it. The watcher is told the events of the rounds.
 pub fn run_rounds<'b, W: Watch>(
     alloc: Global,
     text: &Text<'_>,
