@@ -87,7 +87,7 @@ fn line_if_wanted<W: Watch>(
 
 /// The lines of the minimised lists that are wanted, of each signature in written order.
 ///
-/// `Failed::Limit` comes only where the rounds of a list that minimising meets pass a limit, with the trace of the round that passes it.
+/// `Failed::Limit` comes only where the rounds of a list that minimising meets stop at a limit, with its trace.
 /// The watcher is told the events of the rounds of such lists.
 pub fn minimised_lines<W: Watch>(
     l: &Minimising<'_>,

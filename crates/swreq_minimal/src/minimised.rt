@@ -47,9 +47,9 @@ fn minimised_candidates<W: Watch>(
 /// The minimised list of the machine's list.
 ///
 /// It derives what the list derives and is derived from it, and none of its members is derivable from the others. Its members are
-/// canonical and strictly sorted. `Failed::Limit` comes only where the rounds of a list that is met on the way pass a limit, with the
-/// trace of the round that passes it. These lists are for each candidate those that were taken before it, and for each of the taken,
-/// from the last to the first, what is then left without it. The watcher is told the events of the rounds of such lists. The table
+/// canonical and strictly sorted. `Failed::Limit` comes only where the rounds of a list that is met on the way stop at a limit, with
+/// its trace. These lists are for each candidate those that were taken before it, and for each of the taken, from the last to the
+/// first, what is then left without it. The watcher is told the events of the rounds of such lists. The table
 /// grows, its ids stay, and so does the world over it.
 pub fn minimise<W: Watch>(
     alloc: Global,

@@ -73,7 +73,7 @@ fn put_line(
 /// Writes the minimised list of a signature at the end, by its machine, as a line. If memory runs out the first bytes of it may
 /// stand there; on a limit the list is unchanged.
 ///
-/// `Failed::Limit` comes only where the rounds of a list that minimising meets pass a limit, with the trace of the round that passes it.
+/// `Failed::Limit` comes only where the rounds of a list that minimising meets stop at a limit, with its trace.
 /// The watcher is told the events of the rounds of such lists. The table grows, its ids stay, and so does the world over it.
 pub fn minimised_line<W: Watch>(
     alloc: Global,

@@ -146,15 +146,15 @@ module _ (line : CommandLine) (input : Text) where
     -- The source text has no world.
     without_world : (p : Parts) → AreParts line.command input p → (refusal : RefusalKind) → HasNoWorld p.source refusal
         → o ≡ refused_with refusal → told ≡ [] → IsRefused o told
-    -- The check of its machines refuses it: a side of a requirement is no type parameter, or a round of the protocols or of a signature
-    -- passes a limit.
+    -- The check of its machines refuses it: a side of a requirement is no type parameter, or the rounds of the protocols or of a
+    -- signature stop at a limit.
     unchecked : (w : TextWorld) (cause : Refused) → ChecksMachines line → HasWorld w
         → machines.IsChecked (limits_of line) w (Some cause) told → o ≡ machine_outcome line w.lexicon cause → IsRefused o told
     -- A line of the second part does not fit the queries.
     misfit : (w : TextWorld) (n : ℕ) → AreJudgements (content_of line) → (has : HasWorld w)
         → IsFirstMisfit w.lexicon (length w.queries) (lines has.parts.second) n → o ≡ refused_with (refusals.DerivationSyntax n) → told ≡ []
         → IsRefused o told
-    -- The rounds that are run for a requirement of a protocol pass a limit, going through the requirements of the protocols.
+    -- The rounds that are run for a requirement of a protocol stop at a limit, going through the requirements of the protocols.
     past_a_limit_of_families : (which : Which) (trace : List Rule) (c : PassesCheck told) → AreFamilies (content_of line)
         → IsFamilyOutcome (limits_of line) c.world (Err (failed.Limit which trace)) c.more
         → o ≡ stopped_with line c.world.lexicon which trace
@@ -181,7 +181,7 @@ module _ (line : CommandLine) (input : Text) where
     pub output : IsOutput world false (content_of line) has_world.parts o.output
     pub told_nothing : told ≡ []
 
-  -- The text passes the check, and in minimising for the command a round passes a limit.
+  -- The text passes the check, and in minimising for the command rounds stop at a limit.
   pub record IsCutShort (o : Outcome) (told : List Event) : Type 0 where
     pub check : PassesCheck told
     pub which : Which

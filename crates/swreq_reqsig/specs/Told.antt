@@ -67,7 +67,7 @@ module _ (limits : Limits) (w : TextWorld) where
     pub stops : StopsAt place (without flags place) which trace part
     pub told_is : told ≡ before ++ part
 
-  -- All requirements are decided, and this family is left, with its numbers; or the rounds for a requirement pass a limit, with that trace.
+  -- All requirements are decided, and this family is left, with its numbers; or the rounds for one stop at a limit, with its trace.
   abbrev pub IsFamilyOutcome : Result Family Failed → List Event → Type 0
   IsFamilyOutcome (Ok family) told = (flags : List Bool) × WasReduced 0 flags told × (family.kept ≡ numbers w flags)
   IsFamilyOutcome (Err (Limit which trace)) told = IsStopped which trace told

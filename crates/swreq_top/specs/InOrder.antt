@@ -26,7 +26,7 @@ use Rattle.swreq_reply.specs.swreq_check.Told.{IsMinimisedFor}
 use Rattle.swreq_reply.specs.Verdict.{ChecksMachines, limits_of}
 
 module _ (line : CommandLine) (w : TextWorld) where
-  -- Rounds that are run for the command pass a limit, with a trace.
+  -- Rounds that are run for the command stop at a limit, with a trace.
   pub data PassesALimit (which : Which) (trace : List Rule) (told : List Event) : Type 0 where
     -- those of the protocols
     of_protocols : IsOutcome (limits_of line) (protocols_of w) (Err (Limit which trace)) told → PassesALimit which trace told
@@ -49,7 +49,7 @@ pub record IsSecondFor (c : Content) (w : TextWorld) (p : Parts) : Type 0 where
   pub calls : AreCalls c → HasCalls w p
 
 -- The world of a source text is in order for the command: where the command checks machines, each side of each requirement is a type
--- parameter, and no rounds that are run for it pass a limit; and the second part is one for the command.
+-- parameter, and no rounds that are run for it stop at a limit; and the second part is one for the command.
 pub record IsInOrder (line : CommandLine) (p : Parts) (w : TextWorld) : Type 0 where
   pub formed : ChecksMachines line → IsWellFormed (facts_of w) (map source_of w.signatures)
   pub within : ChecksMachines line → (which : Which) (trace : List Rule) (told : List Event)

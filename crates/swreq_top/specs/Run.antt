@@ -145,7 +145,7 @@ module _ (r : Run) where
   IsRefusedRun o = (line : CommandLine) × Says r.words line × ((text : Text) × (known_text line r.before.left ≡ Some text)
       × ((told : List Event) × IsRefused line text o told))
 
-  -- The words say a command whose text nothing refuses, and in minimising no completion passes a limit.
+  -- The words say a command whose text nothing refuses, and minimising stops at no limit.
   abbrev pub IsAnswerable : Type 0
   IsAnswerable = (line : CommandLine) × Says r.words line × ((text : Text) × (known_text line r.before.left ≡ Some text)
       × ((o : Outcome) (told : List Event) → IsRefused line text o told ⊎ IsCutShort line text o told → ⊥))

@@ -26,7 +26,7 @@ pub fn empty_text_is_answerable()
 {}
 
 /// A text that is in the grammar, whose names resolve, in which no protocol inherits itself, and whose world is in order for the command, is
-/// answerable. In order is one whose sides are type parameters, for which no rounds pass a limit, and which has the second part that is read.
+/// answerable. In order is one whose sides are type parameters, for which no rounds stop at a limit, and with the second part that is read.
 pub fn texts_in_order_are_answerable()
     ensures { (r : Run) (line : CommandLine) (text : Text) (p : Parts) (s : Skeleton)
         → Says r.words line → known_text line r.before.left ≡ Some text
