@@ -1,6 +1,6 @@
 import unittest
 
-from ..query import Labelled, Labels, Query, QueryError, declarations_of, read_query
+from ..ask.query import Labelled, Labels, Query, QueryError, declarations_of, read_query
 from .samples import reading
 
 SOURCE = """protocol P {

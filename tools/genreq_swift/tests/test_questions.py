@@ -1,8 +1,8 @@
 import pathlib
 import unittest
 
-from genreq_swift.program import LEVELS, Answer, Command, Ended, Part, Program, ProgramFailed, Status, answers_of, default_program
-from genreq_swift.questions import Closure, LeftOut, Questions, requirement_signatures
+from genreq_swift.ask.program import LEVELS, Answer, Command, Ended, Part, Program, ProgramFailed, Status, answers_of, default_program
+from genreq_swift.ask.asking import Closure, LeftOut, Questions, requirement_signatures
 
 P = Part("P", "protocol P { associatedtype A }")
 Q = Part("Q", "protocol Q: P { }", frozenset(["P"]))

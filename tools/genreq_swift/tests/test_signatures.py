@@ -1,11 +1,11 @@
 """How declarations become signatures and protocols."""
 import unittest
 
-from ..conditions import Configuration
-from ..declarations import read_declarations
-from ..model import Cause, Origin, Place, Status, label_of
-from ..reader import reading_of
-from ..tokens import Source
+from ..read.conditions import Configuration
+from ..read.declarations import read_declarations
+from ..read.model import Cause, Origin, Place, Status, label_of
+from ..mean.reader import reading_of
+from ..read.tokens import Source
 from .samples import omissions, reading, shown, signatures
 
 PROTOCOLS = """

@@ -1,0 +1,55 @@
+"""The command line of `genreq-swift`."""
+import argparse
+import importlib
+import os
+import sys
+from typing import List, Optional
+
+from .output import OutputError
+from ..ask.printed import Unreadable
+from ..ask.program import ProgramFailed
+from ..ask.query import QueryError
+
+WRONG_WORDS = 2
+FAILED = 70
+_SUBCOMMANDS = ("text", "signatures", "requirements", "redundant", "ask", "outline")
+
+DESCRIPTION = """Reads Swift sources, and answers by genreq what their protocols and generic declarations imply."""
+
+EPILOG = """Of what is written genreq's language lacks concrete types, superclasses, parameter packs and ~Copyable. That is left out and told: each
+signature is `whole`, `without ~Copyable`, or `incomplete` with the first cause and its place. That speaks of what the declaration and those
+around it write; a protocol that it needs may be incomplete by itself, and then less may follow than in Swift.
+
+Statuses: 0 done; 1 something redundant was found, or a query is not answered with yes; 2 wrong words; 3 something could not be read or answered: it
+is told on the standard error, and the rest is printed; 70 genreq could not be run, or a file could not be written.
+The variable GENREQ names another program to run in place of ./genreq."""
+
+
+def parser_of_words() -> argparse.ArgumentParser:
+    """The parser of the words, with all subcommands."""
+    parser = argparse.ArgumentParser(
+        prog="genreq-swift", description=DESCRIPTION, epilog=EPILOG, formatter_class=argparse.RawDescriptionHelpFormatter
+    )
+    subparsers = parser.add_subparsers(dest="subcommand", metavar="COMMAND", required=True)
+    for name in _SUBCOMMANDS:
+        importlib.import_module("%s.command_%s" % (__package__, name)).add(subparsers)
+    return parser
+
+
+def main(words: Optional[List[str]] = None) -> int:
+    """Runs the command line, and answers its status."""
+    arguments = parser_of_words().parse_args(words)
+    try:
+        status: int = arguments.run(arguments)
+        return status
+    except QueryError as error:
+        print("genreq-swift: %s" % error, file=sys.stderr)
+        return WRONG_WORDS
+    except (OutputError, ProgramFailed, Unreadable) as error:
+        print("genreq-swift: %s" % error, file=sys.stderr)
+        return FAILED
+    except BrokenPipeError:
+        os.dup2(os.open(os.devnull, os.O_WRONLY), sys.stdout.fileno())
+        return FAILED
+    except KeyboardInterrupt:
+        return 130

@@ -1,0 +1,93 @@
+"""`genreq-swift signatures`: the minimised signatures of declarations."""
+import argparse
+from dataclasses import replace
+import json
+import re
+from typing import List, Sequence
+
+from ..read.model import GenericParameter, Signature, Status
+from .output import print_text
+from ..ask.own_names import OwnNames, own_names
+from ..ask.parts import function_part, protocol_part
+from ..ask.printed import read_signature
+from ..ask.program import Command, Program, default_program
+from ..ask.protocol_order import ProtocolOrder
+from ..ask.asking import LeftOut, Questions
+from .reading_options import add_reading_options, kept, reading_of
+from ..ask.swift_form import compiler_form
+from .telling import left_out_lines, status_of, tell, told
+
+_PARAMETER = re.compile(r"τ_0_(\d+)")
+
+
+def add(subparsers: "argparse._SubParsersAction[argparse.ArgumentParser]") -> None:
+    """Adds the subcommand."""
+    parser = subparsers.add_parser(
+        "signatures",
+        help="the minimised signature of each declaration",
+        description="Prints FILE:LINE:COLUMN: NAME: SIGNATURE of each declaration that has generic parameters or a where clause of its own.",
+    )
+    add_reading_options(parser)
+    parser.add_argument("--strict", action="store_true", help="leaves out each signature that is not whole")
+    parser.add_argument("--as", dest="form", choices=("genreq", "swift"), default="genreq", help="whose form is printed (genreq)")
+    parser.add_argument("--json", action="store_true", help="prints an object for each declaration, one a line")
+    parser.set_defaults(run=run)
+
+
+def run(arguments: argparse.Namespace) -> int:
+    """Runs it, and answers its status."""
+    reading = reading_of(arguments)
+    signatures = kept(reading.signatures, arguments.strict)
+    questions = Questions(Program(default_program()), [protocol_part(protocol) for protocol in reading.protocols])
+    answered = questions.ask(Command.SIGNATURES, [function_part(signature) for signature in signatures])
+    names, key = own_names(reading), ProtocolOrder(reading)
+    lines: List[str] = []
+    for signature in signatures:
+        if signature.label in answered.answers:
+            printed = answered.answers[signature.label][0].line
+            if arguments.form == "swift":
+                printed = str(compiler_form(read_signature(printed), key))
+            lines.append(_object(signature, printed, names) if arguments.json else _line(signature, printed, names))
+    print_text("".join(line + "\n" for line in lines))
+    left_out: Sequence[LeftOut] = (*questions.protocols_left_out, *answered.left_out)
+    tell(told(reading) + left_out_lines(reading, left_out))
+    return status_of(reading, left_out)
+
+
+def _line(signature: Signature, printed: str, names: OwnNames) -> str:
+    status = "" if signature.status is Status.WHOLE else "  // " + signature.status_line
+    return "%s: %s: %s%s" % (signature.place, signature.name, names.of(printed, _distinct(signature.parameters)), status)
+
+
+def _distinct(parameters: Sequence[GenericParameter]) -> List[GenericParameter]:
+    """The generic parameters, with its label as the name of one that hides another."""
+    found: List[GenericParameter] = []
+    for parameter in parameters:
+        hides = any(parameter.name == before.name for before in found)
+        found.append(replace(parameter, name=parameter.label) if hides else parameter)
+    return found
+
+
+def _object(signature: Signature, printed: str, names: OwnNames) -> str:
+    found = {
+        "file": signature.place.file,
+        "line": signature.place.line,
+        "column": signature.place.column,
+        "kind": signature.kind.value,
+        "name": signature.name,
+        "status": signature.status.value,
+        "causes": sorted({omission.cause.value for omission in signature.omissions}),
+        "signature": names.of(printed, _distinct(signature.parameters)),
+        "canonical": canonical(printed, signature.parameters),
+    }
+    return json.dumps(found, ensure_ascii=False)
+
+
+def canonical(printed: str, parameters: Sequence[GenericParameter]) -> str:
+    """A printed signature with the depths and indices that the compiler gives the generic parameters."""
+
+    def named(found: "re.Match[str]") -> str:
+        parameter = parameters[int(found[1])]
+        return "τ_%d_%d" % (parameter.depth, parameter.index)
+
+    return _PARAMETER.sub(named, printed)
