@@ -91,7 +91,8 @@ class Attempt:
     def next(self, answers: Sequence[Answer]) -> Optional["Attempt"]:
         """The attempt with those that can join, or None where none can."""
         sides = iter(answers[len(self.unit.numbers) :])
-        joining, waiting = [], []
+        joining: List[int] = []
+        waiting: List[int] = []
         for number in self.waiting:
             are_types = [next(sides).line != "invalid" for _ in sides_of(self.unit.declaration.requirements[number])]
             (joining if all(are_types) else waiting).append(number)

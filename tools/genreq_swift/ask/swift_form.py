@@ -9,11 +9,11 @@ Both have the same conformances and layouts, and the same classes of equal types
 | of one subject | conformances, the layout | the layout, conformances, the equation |
 """
 from dataclasses import replace
-from typing import Callable, Dict, List, Tuple
+from typing import Any, Callable, Dict, List, Tuple
 
 from .printed import Conformance, Layout, PrintedRequirement, PrintedSignature, PrintedType, SameType, read_signature
 
-Key = Tuple
+Key = Tuple[Any, ...]
 ProtocolKey = Callable[[str], Key]
 
 

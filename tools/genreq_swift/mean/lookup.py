@@ -119,8 +119,8 @@ class Names:
         known = self._seen.get(source.file)
         if known is None:
             modules = (source.module, *source.imports, *_IMPLICIT)
-            known = [self._by_file.get(source.file), *(self._by_module.get(module) for module in modules), self._everywhere]
-            known = self._seen[source.file] = [names for names in known if names]
+            nearest = [self._by_file.get(source.file), *(self._by_module.get(module) for module in modules), self._everywhere]
+            known = self._seen[source.file] = [names for names in nearest if names]
         return known
 
     def is_module(self, name: str) -> bool:

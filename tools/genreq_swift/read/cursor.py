@@ -12,6 +12,8 @@ _BRANCHES = frozenset(("#if", "#elseif", "#else", "#endif"))
 class Cursor:
     """Stands at a token of a source. `last_end` is where the token before it ends."""
 
+    token: Token
+
     def __init__(self, source: Source, configuration: Configuration):
         self.source = source
         self._configuration = configuration

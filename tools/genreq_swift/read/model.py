@@ -190,7 +190,7 @@ def status_line(omissions: Tuple[Omission, ...], parameters: Tuple[GenericParame
     """The value of a status, with `: CAUSE at PLACE` after it for the first cause that makes a declaration incomplete."""
     status = status_of(omissions, parameters)
     if status is not Status.INCOMPLETE:
-        return status.value
+        return str(status.value)
     first = next(omission for omission in omissions if omission.cause is not Cause.SUPPRESSED)
     return "%s: %s at %s" % (status.value, first.cause.value, first.place)
 

@@ -2,9 +2,12 @@
 import bisect
 from enum import Enum
 import re
-from typing import List, NamedTuple, Optional
+from typing import Callable, Dict, List, NamedTuple, Optional, cast
 
 from .model import Place
+
+# Where a pattern that fits everywhere fits.
+Always = Callable[[str, int], "re.Match[str]"]
 
 # What may begin and what may go on in an identifier, by the grammar of Swift.
 _HEAD = (
@@ -18,12 +21,12 @@ _NUMBER = r"0[xX][0-9a-fA-F_]+(?:\.[0-9a-fA-F_]+)?(?:[pP][+-]?[0-9_]+)?|0[bo][0-
 _TOKEN = re.compile(
     r"([%s][%s]*|\$[%s]+)|(`[^`\n]+`)|(%s)|(#[A-Za-z_]\w*)|(->|==|\.\.[.<]|.)" % (_HEAD, _TAIL, _TAIL, _NUMBER), re.DOTALL
 )
-_SPACE = re.compile(r"(?:[\s\x00\ufeff]+|//[^\n\r]*)*")
+_SPACE = cast(Always, re.compile(r"(?:[\s\x00\ufeff]+|//[^\n\r]*)*").match)
 _OPERATOR = re.compile(r"[^\s\w(){}\[\],;:@#\"'`\\$]+")
 _COMMENT_MARK = re.compile(r"/\*|\*/")
-_QUOTE = re.compile(r'#*"""|#*"')
+_QUOTE = cast(Always, re.compile(r'#*"""|#*"').match)  # where a string begins
 _PLAIN_STRING = re.compile(r'"(?:[^"\\\n\r]|\\[^(\n\r])*"')
-_LINE_REST = re.compile(r"[^\n\r]*")
+_LINE_REST = cast(Always, re.compile(r"[^\n\r]*").match)
 _REGEX = re.compile(r"/(?![ \t*/)])(?:\\.|[^\\\n\r/])*(?<![ \t])/")
 _BRACE = re.compile(r"[{}\"#/`]")
 _BRACKET = re.compile(r"[{}()\[\]\"#/`]")
@@ -43,7 +46,8 @@ class TokenKind(Enum):
     END = 7
 
 
-_KINDS = (None, TokenKind.NAME, TokenKind.QUOTED, TokenKind.NUMBER, TokenKind.DIRECTIVE, TokenKind.MARK)
+_IN_GROUPS = (TokenKind.NAME, TokenKind.QUOTED, TokenKind.NUMBER, TokenKind.DIRECTIVE, TokenKind.MARK)
+_KINDS: Dict[Optional[int], TokenKind] = dict(enumerate(_IN_GROUPS, 1))
 _MARK, _LITERAL, _QUOTED = TokenKind.MARK, TokenKind.LITERAL, TokenKind.QUOTED
 
 
@@ -103,9 +107,9 @@ class Source:
     def token(self, offset: int) -> Token:
         """The token at or after a place."""
         text = self.text
-        start = _SPACE.match(text, offset).end()
+        start = _SPACE(text, offset).end()
         while text.startswith("/*", start):
-            start = _SPACE.match(text, self._after_comment(start)).end()
+            start = _SPACE(text, self._after_comment(start)).end()
         spaced = start > offset
         broken = spaced and ("\n" in (before := text[offset:start]) or "\r" in before)
         found = _TOKEN.match(text, start)
@@ -178,7 +182,7 @@ class Source:
         """The end of the comment, literal or quoted name that begins at a place, or of the one character there."""
         text = self.text
         if text.startswith("//", at):
-            return _LINE_REST.match(text, at).end()
+            return _LINE_REST(text, at).end()
         if text.startswith("/*", at):
             return self._after_comment(at)
         if text[at] == "`":
@@ -231,7 +235,7 @@ class Source:
         return found.end()
 
     def _after_string(self, offset: int) -> int:
-        quote = _QUOTE.match(self.text, offset)[0]
+        quote = _QUOTE(self.text, offset)[0]
         marks = "#" * quote.count("#")
         at = offset + len(quote)
         if marks and quote.endswith('"""') and self.text[at : at + 1] not in ("\n", "\r", " ", "\t"):

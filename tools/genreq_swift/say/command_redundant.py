@@ -95,7 +95,7 @@ def derivations_of(finding: Finding, names: OwnNames) -> List[List[str]]:
 
 
 def as_object(finding: Finding, names: OwnNames) -> str:
-    found = {
+    found: Dict[str, object] = {
         **placed(finding.unit.requirements[0]),
         "declaration": finding.unit.declaration.name,
         "requirements": [str(requirement) for requirement in finding.unit.requirements],
