@@ -33,8 +33,8 @@ class OwnNames:
 
 def own_names(reading: Reading) -> OwnNames:
     """The own names of a reading."""
-    members = {member.name for protocol in reading.protocols for member in protocol.associated_types}
+    members = {member.name for protocol in reading.all_protocols for member in protocol.associated_types}
     return OwnNames(
-        {protocol.label: protocol.name for protocol in reading.protocols if protocol.label != protocol.name},
+        {protocol.label: protocol.name for protocol in reading.all_protocols if protocol.label != protocol.name},
         {label_of(name): name for name in members if label_of(name) != name},
     )

@@ -1,9 +1,9 @@
 """Queries of declarations in own names: `map(T.Element : Equatable)`, `Sequence.map(T == Self)`, `120(T.Element)`, `List.swift:120()`."""
-from dataclasses import dataclass
+from dataclasses import dataclass, replace
 import re
-from typing import Dict, FrozenSet, List, Optional, Sequence, Tuple
+from typing import Callable, Dict, FrozenSet, List, Optional, Sequence, Tuple
 
-from ..read.model import Declaration, GenericParameter, Protocol, Reading, label_of
+from ..read.model import Declaration, DeclarationKind, GenericParameter, NotSeen, Protocol, Reading, Signature, label_of
 
 _QUERY = re.compile(r"\s*(?P<context>[^()]+?)\s*\((?P<asked>[^()]*)\)\s*")
 _LINE = re.compile(r"(?:(?P<file>.+):)?(?P<line>\d+)")
@@ -34,6 +34,14 @@ def read_query(text: str) -> Query:
     return Query(found["context"], found["asked"].strip())
 
 
+@dataclass(frozen=True)
+class Labelled:
+    """What is asked, in the labels of a text, and the labels of the protocols that it names."""
+
+    text: str
+    protocols: FrozenSet[str] = frozenset()
+
+
 def declarations_of(query: Query, reading: Reading) -> List[Declaration]:
     """The declarations in which a query is asked, by place. QueryError where there is none."""
     declarations: List[Declaration] = sorted([*reading.signatures, *reading.own_protocols], key=lambda one: one.place)
@@ -48,6 +56,46 @@ def declarations_of(query: Query, reading: Reading) -> List[Declaration]:
     return found
 
 
+def behind_aliases(found: Sequence[Declaration], reading: Reading) -> List[Declaration]:
+    """The types to which aliases among some declarations refer."""
+    names = {one.refers_to for one in found if isinstance(one, Signature) and one.refers_to}
+    return [one for one in reading.signatures if one.name in names and one.kind is not DeclarationKind.EXTENSION and one not in found]
+
+
+@dataclass(frozen=True)
+class Asked:
+    """A query in one declaration, in the labels of a text."""
+
+    declaration: Declaration
+    labelled: Labelled
+
+
+def asked_of(query: Query, reading: Reading, me: Optional[str] = None) -> List[Asked]:
+    """The query in each declaration that it means and in which its names mean something; where they do in none, in the types to which aliases of
+    that name refer. `me` is the label of the `Self` of protocols. QueryError where there is none."""
+    named = declarations_of(query, reading)
+    first: Optional[QueryError] = None
+    for declarations in (named, behind_aliases(named, reading)):
+        found: List[Asked] = []
+        for one in declarations:
+            try:
+                found.append(Asked(one, labelled(query.asked, one, reading, me)))
+            except QueryError as error:
+                first = first or error
+        if found:
+            return found
+    assert first is not None
+    raise first
+
+
+def labelled(asked: str, declaration: Declaration, reading: Reading, me: Optional[str] = None) -> Labelled:
+    """What is asked of a declaration, in labels. QueryError where it has another form, or a name is not there."""
+    parameters = declaration.parameters
+    if isinstance(declaration, Protocol) and me is not None:
+        parameters = (replace(declaration.self_parameter, label=me),)
+    return Labels(lambda name: reading.seen(name, declaration).label).of_query(asked, parameters)
+
+
 def around(declarations: Sequence[Declaration], line: int, file: Optional[str]) -> List[Declaration]:
     """Of each file the innermost declaration around a line, which is the last that begins, of declarations by place."""
     innermost: Dict[str, Declaration] = {}
@@ -58,19 +106,11 @@ def around(declarations: Sequence[Declaration], line: int, file: Optional[str]) 
     return list(innermost.values())
 
 
-@dataclass(frozen=True)
-class Labelled:
-    """What is asked, in the labels of a text, and the labels of the protocols that it names."""
-
-    text: str
-    protocols: FrozenSet[str] = frozenset()
-
-
 class Labels:
-    """The labels of the protocols that own names mean."""
+    """Queries in labels. `label_of_protocol` answers the label of the protocol that a name means, and raises NotSeen where it means none."""
 
-    def __init__(self, protocols: Sequence[Protocol]):
-        self._labels = {protocol.name: protocol.label for protocol in protocols}
+    def __init__(self, label_of_protocol: Callable[[str], str]):
+        self._label_of_protocol = label_of_protocol
 
     def of_query(self, asked: str, parameters: Sequence[GenericParameter]) -> Labelled:
         """What is asked of a declaration with these parameters. QueryError where it has another form, or a name is not there."""
@@ -90,9 +130,10 @@ class Labels:
         return Labelled("%s : %s" % (subject.text, protocol), subject.protocols | {protocol})
 
     def _protocol(self, name: str) -> str:
-        if name not in self._labels:
-            raise QueryError("no protocol is named %s" % name)
-        return self._labels[name]
+        try:
+            return self._label_of_protocol(name.replace("`", ""))
+        except NotSeen as error:
+            raise QueryError(str(error)) from error
 
     def _type(self, text: str, parameters: Sequence[GenericParameter]) -> Labelled:
         first = _FIRST.match(text)

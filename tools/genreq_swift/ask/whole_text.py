@@ -3,7 +3,8 @@ from dataclasses import dataclass
 import json
 from typing import Dict, List, Sequence
 
-from ..read.model import Declaration, Omission, Protocol, Requirement, Signature
+from ..mean.standing import Standing
+from ..read.model import Declaration, Omission, Protocol, Requirement, Signature, Status
 from .parts import function_part, protocol_part
 from .program import TEXT_LIMIT
 
@@ -34,13 +35,13 @@ def too_long(text: Text) -> List[str]:
     return ["the text has %d bytes, and genreq reads %d: give less files, or --strict" % (length, TEXT_LIMIT)] if length > TEXT_LIMIT else []
 
 
-def map_of(text: Text) -> str:
+def map_of(text: Text, standing: Standing) -> str:
     """The map of a text, as JSON: an object for each declaration, in the order of the text."""
-    found = [_mapped(declaration, offset) for declaration, offset in zip(text.declarations, text.offsets)]
+    found = [_mapped(declaration, offset, standing.status(declaration)) for declaration, offset in zip(text.declarations, text.offsets)]
     return json.dumps(found, ensure_ascii=False, indent=1) + "\n"
 
 
-def _mapped(declaration: Declaration, offset: int) -> Dict[str, object]:
+def _mapped(declaration: Declaration, offset: int, status: Status) -> Dict[str, object]:
     return {
         "label": declaration.label,
         "offset": offset,
@@ -50,7 +51,7 @@ def _mapped(declaration: Declaration, offset: int) -> Dict[str, object]:
         "line": declaration.place.line,
         "column": declaration.place.column,
         "last_line": declaration.last_line,
-        "status": declaration.status.value,
+        "status": status.value,
         "parameters": [
             {"name": parameter.name, "label": parameter.label, "depth": parameter.depth, "index": parameter.index}
             for parameter in declaration.parameters

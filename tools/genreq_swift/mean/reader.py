@@ -5,6 +5,7 @@ from typing import List, Sequence, Tuple
 from ..read.conditions import Configuration
 from ..read.declarations import DeclarationSyntax, read_declarations
 from ..read.model import Problem, Reading
+from .seen import Seen
 from .signatures import SignatureMaker, needed_protocols
 from ..read.sources import read_files
 from ..read.tokens import Source, SourceError
@@ -65,4 +66,6 @@ def reading_of(
     own_files = {source.file for source, _ in named}
     own = frozenset(protocol.label for protocol in all_protocols if protocol.place.file in own_files)
     protocols = needed_protocols(all_protocols, own, signatures)
-    return Reading(protocols, own, signatures, tuple(problems) + tuple(maker.problems), maker.counts(len(named)))
+    told = tuple(problems) + tuple(maker.problems)
+    seen = Seen(maker.names, maker.contexts, maker.made)
+    return Reading(protocols, own, signatures, told, maker.counts(len(named)), all_protocols, seen.protocol)

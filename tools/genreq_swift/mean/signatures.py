@@ -17,6 +17,7 @@ from ..read.model import (
     GenericParameter,
     Omission,
     Origin,
+    Place,
     Problem,
     Protocol,
     Requirement,
@@ -81,6 +82,8 @@ class SignatureMaker:
         self.scopes = Scopes(self.hierarchy)
         self.profile = Profile(_labels(self.names.protocols))
         self.problems: List[Problem] = []
+        self.contexts: Dict[Place, Context] = {}  # by the places of the protocols and signatures that were made
+        self.made: Dict[Entity, Protocol] = {}
         self._around: Dict[Context, Tuple[List[Requirement], List[Omission]]] = {}
         self._tally = _Tally()
         self._number = 0
@@ -96,7 +99,9 @@ class SignatureMaker:
         """All protocols."""
         for entity in self.names.protocols:
             try:
-                yield self._protocol(entity)
+                made = self.made[entity] = self._protocol(entity)
+                self.contexts[made.place] = entity.context
+                yield made
             except RecursionError:
                 place = entity.context.source.place(entity.context.declaration.start)
                 self.problems.append(Problem("protocol %s is nested too deeply" % entity.name, place))
@@ -174,6 +179,7 @@ class SignatureMaker:
                     self.problems.append(Problem("the declaration is nested too deeply", place))
                     signature = None
                 if signature is not None:
+                    self.contexts[signature.place] = context
                     yield signature
             if context.members:
                 yield from self.signatures(context.members)
@@ -204,7 +210,16 @@ class SignatureMaker:
             parameters,
             tuple(requirements),
             tuple(omissions),
+            self._referred(context),
         )
+
+    def _referred(self, context: Context) -> str:
+        """The own name of the type to which an alias refers."""
+        declaration = context.declaration
+        if context.kind is not DeclarationKind.TYPEALIAS or declaration.target is None:
+            return ""
+        meant = self.names.referred(declaration.target, context)
+        return meant.name if isinstance(meant, Entity) else ""
 
     def _with_stand_ins(self, scope: Scope) -> Tuple[Tuple[GenericParameter, ...], List[Requirement], List[Omission]]:
         """The parameters of a scope and those for concrete types, with what is required of all of them."""

@@ -8,12 +8,13 @@ All values are frozen. What a user of this module may rely on:
 - `str(..)` of a type parameter or a requirement has own names, `labelled` has labels.
 - The requirements of a signature are those of the declarations around it first, outermost first, then its own in written order, then the
   inferred ones, then those of concrete types. One that is written twice stands twice.
-- Whatever was written and is no requirement here is an omission. Without omissions a signature or a protocol is whole.
+- Whatever was written and is no requirement here is an omission. Without omissions in it and in the protocols that it reaches a signature or a
+  protocol is whole.
 """
 from dataclasses import dataclass, field
 from enum import Enum
 import re
-from typing import FrozenSet, Optional, Tuple, Union
+from typing import Callable, FrozenSet, Optional, Tuple, Union
 
 RESERVED = frozenset(
     """protocol associatedtype func where Self AnyObject public internal fileprivate private class struct enum actor extension typealias import
@@ -174,25 +175,17 @@ class Status(Enum):
     WHOLE = "whole"
     WITHOUT_SUPPRESSED = "without ~Copyable"
     WITH_CONCRETE = "with parameters for concrete types"
+    OVER_INCOMPLETE = "over incomplete protocols"  # it is none of that by itself, and reaches a protocol that is
     INCOMPLETE = "incomplete"
 
 
 def status_of(omissions: Tuple[Omission, ...], parameters: Tuple[GenericParameter, ...]) -> Status:
-    """The last status that has a cause among these, or WHOLE."""
+    """The last status that has a cause among these, or WHOLE. Whether it is OVER_INCOMPLETE depends on the protocols."""
     if any(omission.cause is not Cause.SUPPRESSED for omission in omissions):
         return Status.INCOMPLETE
     if any(parameter.is_concrete for parameter in parameters):
         return Status.WITH_CONCRETE
     return Status.WITHOUT_SUPPRESSED if omissions else Status.WHOLE
-
-
-def status_line(omissions: Tuple[Omission, ...], parameters: Tuple[GenericParameter, ...]) -> str:
-    """The value of a status, with `: CAUSE at PLACE` after it for the first cause that makes a declaration incomplete."""
-    status = status_of(omissions, parameters)
-    if status is not Status.INCOMPLETE:
-        return str(status.value)
-    first = next(omission for omission in omissions if omission.cause is not Cause.SUPPRESSED)
-    return "%s: %s at %s" % (status.value, first.cause.value, first.place)
 
 
 class DeclarationKind(Enum):
@@ -217,7 +210,7 @@ class Signature:
 
     `name` is its own name after those around it, as `Sequence.map`; that of an extension is what it extends. `place` is that of its own
     name, or of the word `init` or `subscript`, or of the extended type. `last_line` is the line on which the declaration ends.
-    `parameters` has those of the declarations around it first.
+    `parameters` has those of the declarations around it first. `refers_to` is the own name of the type to which an alias refers.
     """
 
     name: str
@@ -228,16 +221,12 @@ class Signature:
     parameters: Tuple[GenericParameter, ...]
     requirements: Tuple[Requirement, ...]
     omissions: Tuple[Omission, ...]
+    refers_to: str = ""
 
     @property
-    def status(self) -> Status:
-        """How much of it is there."""
+    def own_status(self) -> Status:
+        """How much of it is there, whatever is there of the protocols that it reaches."""
         return status_of(self.omissions, self.parameters)
-
-    @property
-    def status_line(self) -> str:
-        """How much of it is there, in a line, with the first cause."""
-        return status_line(self.omissions, self.parameters)
 
 
 @dataclass(frozen=True)
@@ -281,17 +270,20 @@ class Protocol:
         return (self.self_parameter,)
 
     @property
-    def status(self) -> Status:
-        """How much of it is there."""
+    def own_status(self) -> Status:
+        """How much of it is there, whatever is there of the protocols that it reaches."""
         return status_of(self.omissions, self.parameters)
-
-    @property
-    def status_line(self) -> str:
-        """How much of it is there, in a line, with the first cause."""
-        return status_line(self.omissions, self.parameters)
 
 
 Declaration = Union[Protocol, Signature]
+
+
+class NotSeen(Exception):
+    """A name means no protocol where it is asked."""
+
+
+def _nothing_seen(name: str, _: Declaration) -> Protocol:
+    raise NotSeen("no protocol is named %s" % name)
 
 
 @dataclass(frozen=True)
@@ -321,8 +313,9 @@ class Counts:
 class Reading:
     """All that was read.
 
-    `protocols` are those of the named sources, and of those beside (`--with`) what these need. `own_labels` are the labels of the first.
-    `signatures` are those of the named sources alone, by file in the order of reading and in written order.
+    `protocols` are those of the named sources, and of those beside (`--with`) what these need, `all_protocols` all that were read. `own_labels`
+    are the labels of those of the named sources. `signatures` are those of the named sources alone, by file in the order of reading and in written
+    order. `seen` answers which protocol a name means in a declaration, and raises NotSeen where it means none.
     """
 
     protocols: Tuple[Protocol, ...]
@@ -330,6 +323,8 @@ class Reading:
     signatures: Tuple[Signature, ...]
     problems: Tuple[Problem, ...]
     counts: Counts
+    all_protocols: Tuple[Protocol, ...] = ()
+    seen: Callable[[str, Declaration], Protocol] = _nothing_seen
 
     @property
     def own_protocols(self) -> Tuple[Protocol, ...]:

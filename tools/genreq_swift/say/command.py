@@ -17,8 +17,8 @@ _SUBCOMMANDS = ("text", "signatures", "requirements", "redundant", "ask", "outli
 DESCRIPTION = """Reads Swift sources, and answers by genreq what their protocols and generic declarations imply."""
 
 EPILOG = """Of what is written genreq's language lacks concrete types, superclasses, parameter packs and ~Copyable. That is left out and told: each
-signature is `whole`, `without ~Copyable`, or `incomplete` with the first cause and its place. That speaks of what the declaration and those
-around it write; a protocol that it needs may be incomplete by itself, and then less may follow than in Swift.
+signature is `whole`, `without ~Copyable`, `incomplete` with the first cause and its place, or `over incomplete protocols`, where a protocol that
+it reaches is incomplete, with the nearest and what it says. Less may follow of these two than in Swift.
 
 Statuses: 0 done; 1 something redundant was found, or a query is not answered with yes; 2 wrong words; 3 something could not be read or answered: it
 is told on the standard error, and the rest is printed; 70 genreq could not be run, or a file could not be written.

@@ -1,9 +1,10 @@
 """`genreq-swift requirements`: what each protocol has to require itself."""
 import argparse
 import json
-from typing import List
+from typing import Dict, List
 
-from ..read.model import Protocol, Status
+from ..mean.standing import Standing
+from ..read.model import Protocol
 from .output import print_text
 from ..ask.own_names import own_names
 from ..ask.parts import protocol_part
@@ -13,7 +14,7 @@ from ..ask.asking import requirement_signatures
 from .reading_options import add_reading_options, reading_of
 from ..ask.reduced_requirements import reduced_signatures
 from ..ask.swift_form import compiler_form
-from .telling import left_out_lines, status_of, tell, told
+from .telling import left_out_lines, standing_object, status_of, tell, told
 
 
 def add(subparsers: "argparse._SubParsersAction[argparse.ArgumentParser]") -> None:
@@ -36,33 +37,33 @@ def run(arguments: argparse.Namespace) -> int:
     program, names, key = Program(default_program()), own_names(reading), ProtocolOrder(reading)
     found = requirement_signatures(program, [protocol_part(protocol) for protocol in reading.protocols])
     reduced = reduced_signatures(program, reading.protocols, found.signatures) if arguments.form == "swift" else {}
+    standing = Standing(reading.protocols)
     lines: List[str] = []
     for protocol in reading.own_protocols:
-        if protocol.label in found.signatures and (protocol.status is Status.WHOLE or not arguments.strict):
+        if protocol.label in found.signatures and (standing.is_whole(protocol) or not arguments.strict):
             printed = found.signatures[protocol.label].line
             if arguments.form == "swift":
                 printed = str(compiler_form(reduced[protocol.label], key))
             printed = names.of(printed, protocol.parameters)
-            lines.append(_object(protocol, printed) if arguments.json else _line(protocol, printed))
+            lines.append(_object(protocol, printed, standing) if arguments.json else _line(protocol, printed, standing))
     print_text("".join(line + "\n" for line in lines))
     tell(told(reading) + left_out_lines(reading, found.left_out))
     return status_of(reading, found.left_out)
 
 
-def _line(protocol: Protocol, printed: str) -> str:
-    status = "" if protocol.status is Status.WHOLE else "  // " + protocol.status_line
+def _line(protocol: Protocol, printed: str, standing: Standing) -> str:
+    status = "" if standing.is_whole(protocol) else "  // " + standing.line(protocol)
     return "%s: %s: %s%s" % (protocol.place, protocol.name, printed, status)
 
 
-def _object(protocol: Protocol, printed: str) -> str:
-    found = {
+def _object(protocol: Protocol, printed: str, standing: Standing) -> str:
+    found: Dict[str, object] = {
         "file": protocol.place.file,
         "line": protocol.place.line,
         "column": protocol.place.column,
         "kind": "protocol",
         "name": protocol.name,
-        "status": protocol.status.value,
-        "causes": sorted({omission.cause.value for omission in protocol.omissions}),
+        **standing_object(protocol, standing),
         "signature": printed,
         "canonical": printed,
     }

@@ -3,9 +3,10 @@ import argparse
 from dataclasses import replace
 import json
 import re
-from typing import List, Sequence
+from typing import Dict, List, Sequence
 
-from ..read.model import GenericParameter, Signature, Status
+from ..mean.standing import Standing
+from ..read.model import GenericParameter, Signature
 from .output import print_text
 from ..ask.own_names import OwnNames, own_names
 from ..ask.parts import function_part, protocol_part
@@ -15,7 +16,7 @@ from ..ask.protocol_order import ProtocolOrder
 from ..ask.asking import LeftOut, Questions
 from .reading_options import add_reading_options, kept, reading_of
 from ..ask.swift_form import compiler_form
-from .telling import left_out_lines, status_of, tell, told
+from .telling import left_out_lines, standing_object, status_of, tell, told
 
 _PARAMETER = re.compile(r"τ_0_(\d+)")
 
@@ -37,7 +38,8 @@ def add(subparsers: "argparse._SubParsersAction[argparse.ArgumentParser]") -> No
 def run(arguments: argparse.Namespace) -> int:
     """Runs it, and answers its status."""
     reading = reading_of(arguments)
-    signatures = kept(reading.signatures, arguments.strict)
+    standing = Standing(reading.protocols)
+    signatures = kept(reading.signatures, arguments.strict, standing)
     questions = Questions(Program(default_program()), [protocol_part(protocol) for protocol in reading.protocols])
     answered = questions.ask(Command.SIGNATURES, [function_part(signature) for signature in signatures])
     names, key = own_names(reading), ProtocolOrder(reading)
@@ -47,15 +49,16 @@ def run(arguments: argparse.Namespace) -> int:
             printed = answered.answers[signature.label][0].line
             if arguments.form == "swift":
                 printed = str(compiler_form(read_signature(printed), key))
-            lines.append(_object(signature, printed, names) if arguments.json else _line(signature, printed, names))
+            made = _object if arguments.json else _line
+            lines.append(made(signature, printed, names, standing))
     print_text("".join(line + "\n" for line in lines))
     left_out: Sequence[LeftOut] = (*questions.protocols_left_out, *answered.left_out)
     tell(told(reading) + left_out_lines(reading, left_out))
     return status_of(reading, left_out)
 
 
-def _line(signature: Signature, printed: str, names: OwnNames) -> str:
-    status = "" if signature.status is Status.WHOLE else "  // " + signature.status_line
+def _line(signature: Signature, printed: str, names: OwnNames, standing: Standing) -> str:
+    status = "" if standing.is_whole(signature) else "  // " + standing.line(signature)
     return "%s: %s: %s%s" % (signature.place, signature.name, names.of(printed, _distinct(signature.parameters)), status)
 
 
@@ -68,15 +71,14 @@ def _distinct(parameters: Sequence[GenericParameter]) -> List[GenericParameter]:
     return found
 
 
-def _object(signature: Signature, printed: str, names: OwnNames) -> str:
-    found = {
+def _object(signature: Signature, printed: str, names: OwnNames, standing: Standing) -> str:
+    found: Dict[str, object] = {
         "file": signature.place.file,
         "line": signature.place.line,
         "column": signature.place.column,
         "kind": signature.kind.value,
         "name": signature.name,
-        "status": signature.status.value,
-        "causes": sorted({omission.cause.value for omission in signature.omissions}),
+        **standing_object(signature, standing),
         "signature": names.of(printed, _distinct(signature.parameters)),
         "canonical": canonical(printed, signature.parameters),
     }

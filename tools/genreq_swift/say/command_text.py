@@ -1,6 +1,7 @@
 """`genreq-swift text`: the text for genreq."""
 import argparse
 
+from ..mean.standing import Standing
 from .output import print_text, write_file
 from .reading_options import add_reading_options, kept, reading_of
 from .telling import status_of, tell, told
@@ -23,9 +24,10 @@ def add(subparsers: "argparse._SubParsersAction[argparse.ArgumentParser]") -> No
 def run(arguments: argparse.Namespace) -> int:
     """Runs it, and answers its status."""
     reading = reading_of(arguments)
-    text = text_of(reading.protocols, kept(reading.signatures, arguments.strict))
+    standing = Standing(reading.protocols)
+    text = text_of(reading.protocols, kept(reading.signatures, arguments.strict, standing))
     if arguments.map:
-        write_file(arguments.map, map_of(text))
+        write_file(arguments.map, map_of(text, standing))
     print_text(text.content)
     tell(told(reading) + too_long(text))
     return status_of(reading)

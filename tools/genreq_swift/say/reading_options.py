@@ -4,8 +4,9 @@ from pathlib import Path
 from typing import Iterable, List, Tuple
 
 from ..read.conditions import DARWIN, DARWIN_MODULES, LINUX_MODULES, Configuration
-from ..read.model import Reading, Signature, Status
+from ..read.model import Reading, Signature
 from ..mean.reader import read
+from ..mean.standing import Standing
 
 STANDARD = Path(__file__).resolve().parent.parent / "standard"
 
@@ -60,6 +61,6 @@ def _version(text: str) -> Tuple[int, ...]:
     return tuple(int(part) for part in text.split(".") if part.isdigit())
 
 
-def kept(declarations: Iterable[Signature], strict: bool) -> List[Signature]:
+def kept(declarations: Iterable[Signature], strict: bool, standing: Standing) -> List[Signature]:
     """All signatures, or the whole ones alone."""
-    return [declaration for declaration in declarations if not strict or declaration.status is Status.WHOLE]
+    return [declaration for declaration in declarations if not strict or standing.is_whole(declaration)]

@@ -1,11 +1,11 @@
 """What is told on the standard error: what was not read or not answered, and how much of the rest is whole."""
 from collections import Counter
 import sys
-from typing import Iterable, List, Sequence
+from typing import Dict, Iterable, List, Sequence
 
 from ..read.model import Declaration, Problem, Reading, Status
 from ..ask.asking import LeftOut
-from ..mean.signatures import needs_of
+from ..mean.standing import Standing
 
 SOMETHING_LEFT_OUT = 3
 
@@ -18,44 +18,40 @@ def tell(lines: Iterable[str]) -> None:
 def told(reading: Reading) -> List[str]:
     """What is told of a reading: what could not be read, and how much of the rest is whole."""
     lines = [str(problem) for problem in reading.problems]
-    lines += _count_lines("signatures", reading.signatures)
-    lines += _count_lines("protocols", reading.protocols)
-    lines += _over_incomplete(reading)
+    standing = Standing(reading.protocols)
+    lines += _count_lines("signatures", reading.signatures, standing)
+    lines += _count_lines("protocols", reading.protocols, standing)
     if reading.counts.of_unknown_types:
         lines.append("%d extensions of types that are not declared here are left out" % reading.counts.of_unknown_types)
     return lines
 
 
-def _count_lines(what: str, declarations: Sequence[Declaration]) -> List[str]:
-    statuses = Counter(declaration.status for declaration in declarations)
+def _count_lines(what: str, declarations: Sequence[Declaration], standing: Standing) -> List[str]:
+    statuses = Counter(map(standing.status, declarations))
     by_status = ["%d %s" % (statuses[status], status.value) for status in Status if statuses[status] or status is not Status.WITH_CONCRETE]
     lines = ["%d %s: %s" % (len(declarations), what, ", ".join(by_status))]
     causes = Counter(cause for declaration in declarations for cause in {omission.cause for omission in declaration.omissions})
     lines += ["  %d with %s" % (count, cause.value) for cause, count in causes.most_common()]
+    if statuses[Status.OVER_INCOMPLETE]:
+        lines.append("  %d over %s" % (statuses[Status.OVER_INCOMPLETE], ", ".join(standing.needed(declarations))))
     return lines
 
 
-def _over_incomplete(reading: Reading) -> List[str]:
-    """How many signatures are whole by themselves, and need protocols that are not."""
-    incomplete = {protocol.label: protocol.name for protocol in reading.protocols if protocol.status is Status.INCOMPLETE}
-    needed: "Counter[str]" = Counter()
-    count = 0
-    needs = needs_of(reading.protocols)
-    for signature in reading.signatures:
-        if signature.status is not Status.INCOMPLETE:
-            direct = {requirement.protocol.label for requirement in signature.requirements if requirement.protocol is not None}
-            missing = {incomplete[label] for label in direct.union(*(needs[label] for label in direct)) if label in incomplete}
-            count += bool(missing)
-            needed.update(missing)
-    if not count:
-        return []
-    names = ", ".join(name for name, _ in needed.most_common())
-    return ["%d of the signatures that are not incomplete need protocols that are, where less may follow: %s" % (count, names)]
+def standing_object(declaration: Declaration, standing: Standing) -> Dict[str, object]:
+    """How much of a declaration is there, with the causes of what was left out of it, and the incomplete protocol that is nearest to it."""
+    lack = standing.lack(declaration)
+    found: Dict[str, object] = {
+        "status": standing.status(declaration).value,
+        "causes": sorted({omission.cause.value for omission in declaration.omissions}),
+    }
+    if lack is not None and lack.protocol is not None:
+        found["over"] = {"protocol": lack.protocol.name, "says": lack.omission.text, "cause": lack.omission.cause.value}
+    return found
 
 
 def left_out_lines(reading: Reading, left_out: Sequence[LeftOut]) -> List[str]:
     """A line for each declaration that genreq was not asked of, or did not answer."""
-    by_label: "dict[tuple[bool, str], Declaration]" = {(True, protocol.label): protocol for protocol in reading.protocols}
+    by_label: "dict[tuple[bool, str], Declaration]" = {(True, protocol.label): protocol for protocol in reading.all_protocols}
     by_label.update({(False, signature.label): signature for signature in reading.signatures})
     lines = []
     for one in left_out:

@@ -57,7 +57,7 @@ class Commands(unittest.TestCase):
     def test_text_prints_what_genreq_reads_and_tells_what_is_left_out(self):
         status, printed, told = self.run_tool("text", self.file)
         self.assertEqual((status, printed), (0, TEXT))
-        self.assertIn("4 signatures: 2 whole, 1 without ~Copyable, 1 incomplete", told)
+        self.assertIn("4 signatures: 2 whole, 1 without ~Copyable, 0 over incomplete protocols, 1 incomplete", told)
 
     def test_strict_text_has_whole_signatures_alone(self):
         self.assertEqual(self.run_tool("text", "--strict", self.file)[1], "".join(TEXT.splitlines(True)[:5]))
