@@ -1,185 +1,35 @@
 """Asks genreq of many functions over the same protocols, and goes on where a text is refused.
 
-genreq refuses a whole text for one protocol or function. Here that one is left out and told, with what needs it, and the rest is answered. What
-passes a limit is asked again with greater ones. Functions that have no room in one text stand in several, each after the same protocols.
+genreq refuses a whole text for one protocol or function. Here that one is left out and told, with what needs it, and the rest is answered. Where
+many pass a limit, or take too long, fewer are asked, and what does so alone is asked once more with greater limits while there is time for that.
+Functions that have no room in one text stand in several, each after the same protocols.
 """
+from concurrent.futures import ThreadPoolExecutor
 from dataclasses import dataclass
-from typing import Dict, Iterable, List, Optional, Sequence, Set, Tuple
+import os
+import time
+from typing import Dict, Iterator, List, Optional, Sequence, Set, Tuple, Union
 
+from .closure import SMALL_COVER, LeftOut, fitting, lacking, part_at
 from .program import LEVELS, TEXT_LIMIT, Answer, Command, Ended, Limits, Part, Program, ProgramFailed, Status, answers_of, written
+from .settled import Settled
 
 Answers = Dict[str, Tuple[Answer, ...]]
 
-# So many protocols are asked in one run even where they do not need each other.
-SMALL_COVER = 16
+# So many functions are asked together at least after one of them was refused.
+FEW = 16
+# So many lists of functions are asked side by side.
+SIDE_BY_SIDE = min(4, os.cpu_count() or 1)
+# After a run that takes fewer seconds more is asked in the next one.
+SOON = 0.5
 
 
 @dataclass(frozen=True)
-class LeftOut:
-    """A protocol or a function that was left out, and why. `offset` is the place of the reason in its text, in bytes, where there is one."""
+class Given:
+    """The answers to one function: one for each query, or the one signature."""
 
     label: str
-    is_protocol: bool
-    reason: str
-    offset: Optional[int] = None
-
-
-@dataclass(frozen=True)
-class Front:
-    """Protocols that need no others, and the one of them that no shorter front has."""
-
-    label: str
-    protocols: List[Part]
-
-
-class Closure:
-    """Which protocols each protocol needs, itself among them."""
-
-    def __init__(self, protocols: Sequence[Part]):
-        self.protocols = protocols
-        self._direct = {protocol.label: protocol.needs for protocol in protocols}
-        self._needed = {protocol.label: self._reached(protocol.label) for protocol in protocols}
-
-    def _reached(self, label: str) -> Set[str]:
-        seen, ahead = {label}, [label]
-        while ahead:
-            more = self._direct.get(ahead.pop(), frozenset()) - seen
-            seen |= more
-            ahead += more
-        return seen
-
-    def needed(self, labels: Iterable[str]) -> Set[str]:
-        """The labels of what these protocols need."""
-        return set().union(*(self._needed[label] for label in labels))
-
-    def restricted(self, labels: Set[str]) -> List[Part]:
-        """The protocols with these labels, in written order."""
-        return [protocol for protocol in self.protocols if protocol.label in labels]
-
-    def fronts(self) -> List["Front"]:
-        """Fronts of the protocols, from a short one to the whole, each with one more protocol and what that one needs."""
-        labels = sorted(self._needed, key=lambda label: len(self._needed[label]))
-        reached: Set[str] = set()
-        found = []
-        for label in labels:
-            if label not in reached:
-                reached |= self._needed[label]
-                found.append(Front(label, self.restricted(reached)))
-        return found
-
-    def covers(self, wanted: Set[str]) -> List[Set[str]]:
-        """Sets of labels that need no others, which together have those that are wanted. Small ones are put together."""
-        covered: Set[str] = set()
-        found: List[Set[str]] = []
-        for label in sorted(wanted, key=lambda label: (-len(self._needed[label]), label)):
-            if label not in covered:
-                covered |= self._needed[label]
-                if found and len(found[-1] | self._needed[label]) <= SMALL_COVER:
-                    found[-1] |= self._needed[label]
-                else:
-                    found.append(set(self._needed[label]))
-        return found
-
-    def without(self, label: str) -> Tuple[List[Part], List[LeftOut]]:
-        """The protocols that do not need this one, and the others, told."""
-        needing = [protocol for protocol in self.protocols if label in self._needed[protocol.label] and protocol.label != label]
-        gone = {label} | {protocol.label for protocol in needing}
-        return [protocol for protocol in self.protocols if protocol.label not in gone], [lacking(protocol, label, True) for protocol in needing]
-
-
-def lacking(part: Part, label: str, is_protocol: bool) -> LeftOut:
-    """A part that is left out since it needs a protocol that is."""
-    return LeftOut(part.label, is_protocol, "it needs %s, which is left out" % label)
-
-
-def fitting(parts: Sequence[Part], room: int) -> Tuple[List[Part], List[Part]]:
-    """As many parts from the front as have room in this many bytes, and the rest."""
-    for count, part in enumerate(parts):
-        room -= len(part.written)
-        if room < 0:
-            return list(parts[:count]), list(parts[count:])
-    return list(parts), []
-
-
-class Settled:
-    """Protocols over which genreq answers a command, and the level of limits at which it does.
-
-    `left_out` tells the others, and `causes` those of them that do not only need another one.
-    """
-
-    def __init__(self, program: Program, protocols: Sequence[Part], levels: Sequence[Limits], level: int = 0):
-        self.program = program
-        self.levels = levels
-        self.protocols = list(protocols)
-        self.level = level
-        self.left_out: List[LeftOut] = []
-        self.causes: List[LeftOut] = []
-
-    def leave_out(self, label: str, reason: str, offset: Optional[int] = None) -> None:
-        """Leaves out a protocol, and those that need it."""
-        self.causes.append(LeftOut(label, True, reason, offset))
-        self.left_out.append(self.causes[-1])
-        self.protocols, needing = Closure(self.protocols).without(label)
-        self.left_out += needing
-
-    def settle(self, command: Command) -> Ended:
-        """Leaves out protocols, and raises the level, until a command is answered over the protocols alone."""
-        while True:
-            ended = self._run(command, self.protocols, self.level)
-            if ended.status is Status.ANSWERED:
-                return ended
-            if ended.status is Status.REFUSED:
-                self.leave_out_at(ended, self.protocols)
-            else:
-                self._judge(command, self._first_that_passes(command), ended)
-
-    def leave_out_at(self, ended: Ended, protocols: Sequence[Part]) -> None:
-        """Leaves out the one of the asked protocols that is refused."""
-        if ended.offset is None:
-            raise ProgramFailed(ended.reason)
-        number, offset = part_at(protocols, ended.offset)
-        self.leave_out(protocols[number].label, ended.reason, offset)
-
-    def _run(self, command: Command, protocols: Sequence[Part], level: int) -> Ended:
-        return self.program.run(command, written(protocols), self.levels[level])
-
-    def _first_that_passes(self, command: Command) -> Front:
-        """The shortest front of the protocols that passes a limit at this level. The whole does."""
-        fronts = Closure(self.protocols).fronts()
-        low, high = 0, len(fronts) - 1
-        while low < high:
-            middle = (low + high) // 2
-            if self._run(command, fronts[middle].protocols, self.level).status is Status.LIMIT:
-                high = middle
-            else:
-                low = middle + 1
-        return fronts[low]
-
-    def _judge(self, command: Command, front: Front, passed: Ended) -> None:
-        """Raises the level to one at which a front is answered, or leaves out its own protocol where there is none."""
-        for level in range(self.level + 1, len(self.levels)):
-            passed = self._run(command, front.protocols, level)
-            if passed.status is not Status.LIMIT:
-                self.level = level
-                return
-        self.leave_out(front.label, passed.reason)
-
-
-def part_at(parts: Sequence[Part], offset: int) -> Tuple[int, int]:
-    """The number of the part in whose text a place is, and the place in that part."""
-    for number, part in enumerate(parts):
-        if offset < len(part.written):
-            return number, offset
-        offset -= len(part.written)
-    return len(parts) - 1, offset + len(parts[-1].written)
-
-
-@dataclass(frozen=True)
-class Span:
-    """Functions that are to be asked, and the level at which."""
-
-    functions: List[Part]
-    level: int
+    answers: Tuple[Answer, ...]
 
 
 @dataclass
@@ -190,17 +40,34 @@ class Answered:
     left_out: List[LeftOut]
 
 
+@dataclass(frozen=True)
+class Run:
+    """A run: the protocols over which it was asked, at which level, of what text, how it ended, and after how many seconds."""
+
+    protocols: List[Part]
+    level: int
+    text: bytes
+    ended: Ended
+    seconds: float
+
+
+@dataclass(frozen=True)
+class Step:
+    """What one run leads to: answers, functions that are left out, and how many are to be asked then."""
+
+    done: Sequence[Union[Given, LeftOut]]
+    most: int
+
+
 class Questions:
     """Asks of functions over the same protocols."""
 
     def __init__(self, program: Program, protocols: Sequence[Part], levels: Sequence[Limits] = LEVELS):
         self.program = program
         self._settled = Settled(program, protocols, levels)
-        self._is_settled = False
-        self._closure = Closure(self._settled.protocols)
 
     @property
-    def protocols(self) -> List[Part]:
+    def protocols(self) -> Sequence[Part]:
         """The protocols that are not left out."""
         return self._settled.protocols
 
@@ -211,29 +78,127 @@ class Questions:
 
     def settle(self) -> None:
         """Leaves out the protocols over which nothing can be answered. `ask` does so where it has to."""
-        if not self._is_settled:
-            self._settled.settle(Command.SIGNATURES)
-            self._is_settled = True
+        self._settled.settle(self._settled.labels)
 
     def ask(self, command: Command, functions: Sequence[Part]) -> Answered:
-        """The answers to each function: one for each query, or the one signature."""
+        """The answers to each function."""
         found = Answered({}, [])
-        spans = [Span(list(functions), 0)]
-        while spans:
-            span = spans.pop()
-            front, rest = self._fitting(self._admitted(span.functions, found), found)
-            if rest:
-                spans.append(Span(rest, span.level))
-            if front:
-                spans += self._ask_span(command, Span(front, max(span.level, self._settled.level)), found)
+        for one in self.each(command, functions):
+            if isinstance(one, Given):
+                found.answers[one.label] = one.answers
+            else:
+                found.left_out.append(one)
         return found
+
+    def each(self, command: Command, functions: Sequence[Part]) -> Iterator[Union[Given, LeftOut]]:
+        """The answers to each function as soon as they are there, in order. All are asked at once; after one that has no answer fewer, some such
+        lists side by side."""
+        found: Dict[str, Union[Given, LeftOut]] = {}
+        waiting, told = list(functions), 0
+        most = len(waiting)
+        while waiting:
+            most = self._go_on(command, waiting, most, found)
+            waiting = [function for function in waiting if function.label not in found]
+            while told < len(functions) and functions[told].label in found:
+                yield found[functions[told].label]
+                told += 1
+
+    def _go_on(self, command: Command, waiting: Sequence[Part], most: int, found: Dict[str, Union[Given, LeftOut]]) -> int:
+        """Takes up what is known of some functions, or asks of some of them. Answers of how many to ask then."""
+        there = self._settled.labels
+        lacked = [lacking(function, min(function.needs - there), False) for function in waiting if not function.needs <= there]
+        found.update((one.label, one) for one in lacked)
+        lists = self._lists([function for function in waiting if function.needs <= there], most)
+        if lists and not lists[0]:
+            first = next(function for function in waiting if function.needs <= there)
+            found[first.label] = LeftOut(first.label, False, "text longer than %d bytes" % TEXT_LIMIT)
+        elif lists:
+            for some, run in zip(lists, self._runs(command, lists)):
+                step = self._step(command, some, run)
+                found.update((one.label, one) for one in step.done)
+                most = max(1, step.most)
+        return most
+
+    def _lists(self, functions: Sequence[Part], most: int) -> List[List[Part]]:
+        """Functions in lists that have room in a text each: one with all of them, or some from the front with no more than this many."""
+        room = TEXT_LIMIT - len(written(self.protocols))
+        lists: List[List[Part]] = []
+        while functions and len(lists) < (SIDE_BY_SIDE if most < len(functions) or lists else 1) and (not lists or lists[-1]):
+            front, _ = fitting(functions[:most], room)
+            lists.append(front)
+            functions = functions[len(front) :]
+        return lists if len(lists) < 2 or lists[-1] else lists[:-1]
+
+    def _runs(self, command: Command, lists: Sequence[List[Part]]) -> List[Run]:
+        """Runs of lists of functions, side by side."""
+        if len(lists) == 1:
+            return [self._run(command, lists[0])]
+        with ThreadPoolExecutor(len(lists)) as pool:
+            return list(pool.map(lambda some: self._run(command, some), lists))
+
+    def _run(self, command: Command, functions: Sequence[Part]) -> Run:
+        protocols = self._needed(functions)
+        level = self._settled.level(protocols)
+        text, began = written([*protocols, *functions]), time.monotonic()
+        ended = self.program.run(command, text, self._settled.levels[level].for_parts(len(functions)))
+        return Run(protocols, level, text, ended, time.monotonic() - began)
+
+    def _step(self, command: Command, functions: List[Part], run: Run) -> Step:
+        """What a run leads to. Where it passed a limit it is seen first whether its protocols do so alone."""
+        count, ended = len(functions), run.ended
+        if ended.status is Status.ANSWERED:
+            self._settled.note(run.protocols, run.level)
+            return Step(list(given(command, functions, ended.output)), 2 * count if run.seconds < SOON else count)
+        if ended.status is Status.REFUSED:
+            return self._after_refusal(functions, run.protocols, ended)
+        if not self._settled.are_settled(labels_needed(functions)):
+            self._settled.settle(labels_needed(functions))
+            return Step([], count if count == 1 else count // 2)
+        if count > 1:
+            return Step([], count // 4)
+        if run.level + 1 < len(self._settled.levels):
+            ended = self.program.run_hard(command, run.text, self._settled.levels[run.level + 1], ended)
+        if ended.status is Status.ANSWERED:
+            return Step(list(given(command, functions, ended.output)), 1)
+        return Step([LeftOut(functions[0].label, False, ended.reason)], 1)
+
+    def _after_refusal(self, functions: List[Part], protocols: Sequence[Part], ended: Ended) -> Step:
+        """Leaves out what is refused. Where one is refused others may be too, so fewer are asked then."""
+        if ended.offset is None:
+            raise ProgramFailed(ended.reason)
+        before, most = len(written(protocols)), max(FEW, len(functions) // 2)
+        if ended.offset < before:
+            self._settled.leave_out_at(ended, protocols)
+            return Step([], most)
+        number, offset = part_at(functions, ended.offset - before)
+        return Step([LeftOut(functions[number].label, False, ended.reason, offset)], most)
+
+    def _needed(self, functions: Sequence[Part]) -> List[Part]:
+        """The protocols that functions need, to which their answers are the same as to all."""
+        return self._settled.needed(labels_needed(functions))
+
+    def together(self, functions: Sequence[Part]) -> Iterator[List[Part]]:
+        """The functions in lists of those that need few protocols more together than alone: `explain` takes longer where there are many."""
+        some: List[Part] = []
+        needed: Set[str] = set()
+        most = 0
+        for function in functions:
+            alone = self._settled.closure.needed(function.needs)
+            most = max(most, len(alone), SMALL_COVER)
+            if some and len(needed | alone) > most:
+                yield some
+                some, needed, most = [], set(), max(len(alone), SMALL_COVER)
+            some.append(function)
+            needed |= alone
+        if some:
+            yield some
 
     def verify(self, functions: Sequence[Part], answers: Answers) -> Dict[str, Tuple[str, ...]]:
         """What `verify` says of the answers of `explain`, by functions."""
         found: Dict[str, Tuple[str, ...]] = {}
         for together in self._verifiable(functions, answers):
-            given = [answer for function in together for answer in answers[function.label]]
-            verdicts = iter(self.program.verify(written([*self._needed(together), *together]), given))
+            explained = [answer for function in together for answer in answers[function.label]]
+            verdicts = iter(self.program.verify(written([*self._needed(together), *together]), explained))
             found.update((function.label, tuple(next(verdicts) for _ in function.queries)) for function in together)
         return found
 
@@ -251,79 +216,20 @@ class Questions:
             left -= size
         return lists
 
-    def _admitted(self, functions: Sequence[Part], found: Answered) -> List[Part]:
-        """The functions whose protocols are there. The others are told."""
-        there = {protocol.label for protocol in self.protocols}
-        admitted = []
-        for function in functions:
-            missing = sorted(function.needs - there)
-            if missing:
-                found.left_out.append(lacking(function, missing[0], False))
-            else:
-                admitted.append(function)
-        return admitted
 
-    def _fitting(self, functions: Sequence[Part], found: Answered) -> Tuple[List[Part], List[Part]]:
-        """The functions that have room after the protocols, and the rest. One that alone has no room is told."""
-        front, rest = fitting(functions, TEXT_LIMIT - len(written(self.protocols)))
-        if rest and not front:
-            found.left_out.append(LeftOut(rest[0].label, False, "text longer than %d bytes" % TEXT_LIMIT))
-            rest = rest[1:]
-        return front, rest
-
-    def _needed(self, functions: Sequence[Part]) -> List[Part]:
-        """The protocols that functions need, to which their answers are the same as to all."""
-        if self._closure.protocols is not self.protocols:
-            self._closure = Closure(self.protocols)
-        return self._closure.restricted(self._closure.needed({label for function in functions for label in function.needs}))
-
-    def _ask_span(self, command: Command, span: Span, found: Answered) -> List[Span]:
-        """Asks of functions that have room in one text. What is to be asked again comes back, the first last."""
-        limits = self._settled.levels[span.level].for_functions(len(span.functions))
-        ended = self.program.run(command, written([*self._needed(span.functions), *span.functions]), limits)
-        if ended.status is Status.ANSWERED:
-            found.answers.update(by_function(command, span.functions, ended.output))
-            return []
-        if ended.status is Status.REFUSED:
-            return self._after_refusal(span, ended, found)
-        if not self._is_settled:
-            self.settle()
-            return [span]
-        return self._after_limit(span, ended, found)
-
-    def _after_limit(self, span: Span, ended: Ended, found: Answered) -> List[Span]:
-        functions = span.functions
-        if len(functions) > 1:
-            half = len(functions) // 2
-            return [Span(functions[half:], span.level), Span(functions[:half], span.level)]
-        if span.level + 1 < len(self._settled.levels):
-            return [Span(functions, span.level + 1)]
-        found.left_out.append(LeftOut(functions[0].label, False, ended.reason))
-        return []
-
-    def _after_refusal(self, span: Span, ended: Ended, found: Answered) -> List[Span]:
-        if ended.offset is None:
-            raise ProgramFailed(ended.reason)
-        functions, protocols = span.functions, self._needed(span.functions)
-        before = len(written(protocols))
-        if ended.offset < before:
-            self._settled.leave_out_at(ended, protocols)
-            return [span]
-        number, offset = part_at(functions, ended.offset - before)
-        found.left_out.append(LeftOut(functions[number].label, False, ended.reason, offset))
-        return [Span(functions[number + 1 :], span.level), Span(functions[:number], span.level)]
+def labels_needed(functions: Sequence[Part]) -> Set[str]:
+    """The labels of the protocols that functions name."""
+    return {label for function in functions for label in function.needs}
 
 
-def by_function(command: Command, functions: Sequence[Part], output: str) -> Answers:
+def given(command: Command, functions: Sequence[Part], output: str) -> Iterator[Given]:
     """The answers of each function, without its name before its signature."""
     answers = iter(answers_of(output))
-    found: Answers = {}
     for function in functions:
         if command is Command.SIGNATURES:
-            found[function.label] = (without_name(next(answers)),)
+            yield Given(function.label, (without_name(next(answers)),))
         else:
-            found[function.label] = tuple(next(answers) for _ in function.queries)
-    return found
+            yield Given(function.label, tuple(next(answers) for _ in function.queries))
 
 
 def without_name(answer: Answer) -> Answer:
@@ -348,13 +254,15 @@ def requirement_signatures(
     alone: the time of `requirements` grows with the square of the text. What passes a limit without it is left out first, which is found sooner.
     """
     settled = Settled(program, protocols, levels)
-    settled.settle(Command.SIGNATURES)
-    labels = {protocol.label for protocol in settled.protocols}
     signatures: Dict[str, Answer] = {}
-    for cover in Closure(settled.protocols).covers(labels if wanted is None else wanted & labels):
-        together = Settled(program, [protocol for protocol in settled.protocols if protocol.label in cover], levels, settled.level)
-        answers = answers_of(together.settle(Command.REQUIREMENTS).output)
-        signatures.update((protocol.label, without_name(answer)) for protocol, answer in zip(together.protocols, answers))
-        for one in together.causes:
-            settled.leave_out(one.label, one.reason, one.offset)
+    for found in each_requirement_signature(settled, settled.labels if wanted is None else wanted):
+        signatures.update(found)
     return RequirementSignatures(signatures, settled.left_out)
+
+
+def each_requirement_signature(settled: Settled, wanted: Set[str]) -> Iterator[Dict[str, Answer]]:
+    """The same, some at a time as soon as they are there."""
+    settled.settle(wanted)
+    for cover in settled.closure.covers(settled.labels & wanted):
+        answers = settled.ask(Command.REQUIREMENTS, cover)
+        yield {label: without_name(answer) for label, answer in answers.items()}

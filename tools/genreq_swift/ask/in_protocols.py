@@ -14,7 +14,8 @@ from ..read.model import Declaration, Protocol, Requirement
 from .parts import conforming_part, in_function, protocol_part, protocols_of
 from .program import LEVELS, Command, Part, Program
 from .asking import Questions, requirement_signatures
-from .in_signatures import Finding, Unit, asked_label, check, units_of
+from .closure import LeftOut
+from .findings import Finding, Unit, asked_label, derived, units_of
 from .reduced_requirements import kept_numbers
 
 Without = Mapping[str, FrozenSet[int]]
@@ -26,6 +27,7 @@ class ProtocolRedundancy:
     def __init__(self, program: Program, protocols: Sequence[Protocol]):
         self.program = program
         self.protocols = protocols
+        self.left_out: List[LeftOut] = []  # the protocols some of whose requirements could not be asked
 
     def findings(self, own: Sequence[Protocol]) -> List[Finding]:
         """The redundant units of some of the protocols, which can all be taken out together."""
@@ -39,10 +41,18 @@ class ProtocolRedundancy:
         for unit in found:
             add(without, unit)
         for unit in reversed([unit for unit in units if unit.declaration.label not in kept]):
-            if self._follows(unit, without):
+            if self._has_time(unit) and self._follows(unit, without):
                 add(without, unit)
                 found.append(unit)
         return self._explained(found, without)
+
+    def _has_time(self, unit: Unit) -> bool:
+        """Whether there is time for a unit that is hard. Of each protocol of which there is not, that is told once."""
+        if self.program.clock.has_time_for_hard:
+            return True
+        if all(one.label != unit.declaration.label for one in self.left_out):
+            self.left_out.append(LeftOut(unit.declaration.label, True, "its requirements together take more than a second"))
+        return False
 
     def _need_not_be_named(self, unit: Unit) -> bool:
         """Whether each requirement of a unit is one of a member, or is written also in what the protocol inherits, or again in itself."""
@@ -77,12 +87,11 @@ class ProtocolRedundancy:
         """The findings with their derivations, over the protocols without these requirements."""
         questions = Questions(self.program, self._parts(without))
         lists = Lists((), {protocol.label: kept_of(protocol, without.get(protocol.label, frozenset())) for protocol in self.protocols})
+        answers, _ = derived(questions, [asking_part(number, unit) for number, unit in enumerate(units)])
         found = []
         for number, unit in enumerate(units):
-            part = asking_part(number, unit)
-            given = questions.ask(Command.EXPLAIN, [part]).answers.get(part.label)
-            if given and all(answer.line == "yes" for answer in given):
-                check(questions, [part], [given])
+            given = answers.get(asked_label(number))
+            if given:
                 derivations = tuple(answer.under for answer in given)
                 found.append(Finding(unit, lists.used_of(derivations, unit.declaration.label), derivations, lists))
         return found

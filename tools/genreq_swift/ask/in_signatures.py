@@ -11,50 +11,13 @@ Inferred requirements are there to make sides types, and for nothing else: it is
 from dataclasses import dataclass, replace
 from typing import Dict, FrozenSet, List, Mapping, Optional, Sequence, Tuple
 
-from .derivations import Lists
-from ..read.model import Declaration, Origin, Place, Protocol, Requirement, Signature
+from ..read.model import Origin, Protocol, Requirement, Signature
 from .parts import function_part, protocols_of, sides_of
-from .program import Answer, Command, Part, ProgramFailed
-from .asking import LeftOut, Questions
-
-
-@dataclass(frozen=True)
-class Unit:
-    """What can be taken out of a declaration as one: a requirement, or a constraint with arguments.
-
-    `numbers` are those of its requirements among all of the declaration, from 0.
-    """
-
-    declaration: Declaration
-    numbers: Tuple[int, ...]
-
-    @property
-    def requirements(self) -> Tuple[Requirement, ...]:
-        return tuple(self.declaration.requirements[number] for number in self.numbers)
-
-    @property
-    def place(self) -> Place:
-        return self.requirements[0].place
-
-
-@dataclass(frozen=True)
-class Finding:
-    """A redundant unit, what it follows from, and a derivation of each of its requirements, as genreq prints it of `lists`."""
-
-    unit: Unit
-    follows_from: Tuple[Requirement, ...]
-    derivations: Tuple[Tuple[str, ...], ...]
-    lists: Lists
-
-
-def units_of(declaration: Declaration) -> List[Unit]:
-    """The units that a declaration itself writes, in written order. What is omitted in part is none."""
-    omitted = {omission.clause for omission in declaration.omissions}
-    by_clause: Dict[object, List[int]] = {}
-    for number, requirement in enumerate(declaration.requirements):
-        if requirement.origin is Origin.OWN and requirement.clause not in omitted:
-            by_clause.setdefault(requirement.clause, []).append(number)
-    return [Unit(declaration, tuple(numbers)) for numbers in by_clause.values()]
+from .program import Answer, Command, Part
+from .asking import Questions
+from .closure import LeftOut
+from .derivations import Lists
+from .findings import Finding, Unit, asked_label, derived, units_of
 
 
 @dataclass(frozen=True)
@@ -156,12 +119,16 @@ class Redundancy:
     def _answers(self, command: Command, attempts: Mapping[int, Attempt], parts: Sequence[Part]) -> Dict[int, Tuple[Answer, ...]]:
         """The answers by numbers of attempts. What is not answered is told of its signature."""
         answered = self.questions.ask(command, parts)
-        reasons = {one.label: one.reason for one in answered.left_out}
+        self._tell(attempts, answered.left_out)
+        return {number: answered.answers[asked_label(number)] for number in attempts if asked_label(number) in answered.answers}
+
+    def _tell(self, attempts: Mapping[int, Attempt], left_out: Sequence[LeftOut]) -> None:
+        """Tells of its signature what is left out."""
+        reasons = {one.label: one.reason for one in left_out}
         for number, attempt in attempts.items():
             if asked_label(number) in reasons:
                 reason = "'%s' is not asked: %s" % (attempt.unit.requirements[0], reasons[asked_label(number)])
                 self.left_out.append(LeftOut(attempt.unit.declaration.label, False, reason))
-        return {number: answered.answers[asked_label(number)] for number in attempts if asked_label(number) in answered.answers}
 
     def _together(self, attempts: Sequence[Attempt]) -> List[Attempt]:
         """Those that can be taken out together, by place, each as it succeeds without all of them."""
@@ -190,28 +157,15 @@ class Redundancy:
 
     def _explained(self, attempts: Sequence[Attempt]) -> List[Finding]:
         """The findings with their derivations, each asked over the protocols that it needs. What follows from an inferred requirement is none."""
+        parts = [attempt.part(asked_label(number), with_sides=False) for number, attempt in enumerate(attempts)]
+        answers, left_out = derived(self.questions, parts)
+        self._tell(dict(enumerate(attempts)), left_out)
         found = []
         for number, attempt in enumerate(attempts):
-            part = attempt.part(asked_label(number), with_sides=False)
-            for given in self._answers(Command.EXPLAIN, {number: attempt}, [part]).values():
-                check(self.questions, [part], [given])
-                derivations = tuple(answer.under for answer in given)
+            if asked_label(number) in answers:
+                derivations = tuple(answer.under for answer in answers[asked_label(number)])
                 lists = Lists(attempt.chosen, self.required)
                 follows_from = lists.used_of(derivations)
                 if all(requirement.origin is not Origin.INFERRED for requirement in follows_from):
                     found.append(Finding(attempt.unit, follows_from, derivations, lists))
         return found
-
-
-def asked_label(number: int) -> str:
-    """The label of the function of an attempt."""
-    return "asked_%d" % number
-
-
-def check(questions: Questions, parts: Sequence[Part], answers: Sequence[Tuple[Answer, ...]]) -> None:
-    """ProgramFailed unless `verify` accepts a derivation of each query."""
-    verdicts = questions.verify(parts, {part.label: given for part, given in zip(parts, answers)})
-    for part in parts:
-        for query, verdict in zip(part.queries, verdicts[part.label]):
-            if verdict != "ok":
-                raise ProgramFailed("`verify` says of the derivation of %s: %s" % (query, verdict))

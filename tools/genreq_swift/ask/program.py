@@ -1,11 +1,17 @@
 """Runs genreq on parts of a text. `asking.py` goes on from here where a text is refused."""
 import os
 import re
+import resource
+import signal
 import subprocess
-from dataclasses import dataclass, replace
+import time
+from dataclasses import dataclass, field, replace
 from enum import Enum
+from functools import cached_property
 from pathlib import Path
 from typing import FrozenSet, List, Optional, Sequence, Tuple
+
+from .clock import Clock, TimeUp
 
 TEXT_LIMIT = 1048576
 
@@ -24,7 +30,7 @@ class Command(Enum):
 
 
 class Status(Enum):
-    """How a run ends. Where its time is up, a limit counts as passed, and so where memory runs out."""
+    """How a run ends. Where it takes too long, a limit counts as passed, and so where memory runs out."""
 
     ANSWERED = 0
     REFUSED = 1
@@ -32,28 +38,36 @@ class Status(Enum):
 
 
 MEMORY_RAN_OUT = 6
-SECONDS_EACH = 0.2
+# How many seconds of the processor a run may take that asks of one declaration, and of several. What takes longer counts as past a limit.
+SECONDS_ALONE = 1
+SECONDS_TOGETHER = 2
+# A shell that limits the seconds of the processor for what it then becomes.
+_LIMITED = ("/bin/sh", "-c", 'ulimit -S -t "$0" && exec "$@"')
 
 
 @dataclass(frozen=True)
 class Limits:
-    """How many rules a completion may have, how long a rule may be, and how many seconds a run may take."""
+    """How many rules a completion may have, how long a rule may be, and how many seconds of the processor a run may take."""
 
     rules: int
     length: int
-    seconds: Optional[float] = None
+    seconds: Optional[int] = None
 
     @property
     def words(self) -> Tuple[str, ...]:
         return ("--max-rules", str(self.rules), "--max-length", str(self.length))
 
-    def for_functions(self, count: int) -> "Limits":
-        """The limits with time for this many functions."""
-        return replace(self, seconds=self.seconds + SECONDS_EACH * count) if self.seconds else self
+    def for_parts(self, count: int) -> "Limits":
+        """The limits with the time that this many declarations may take."""
+        return replace(self, seconds=SECONDS_ALONE if count == 1 else SECONDS_TOGETHER)
 
 
-# The limits by level: those of genreq, greater ones, and the greatest.
-LEVELS = (Limits(4000, 64), Limits(20000, 128, 30), Limits(100000, 255, 60))
+# The limits by level: those of genreq, and the greatest.
+LEVELS = (Limits(4000, 64), Limits(100000, 255))
+
+
+# What stands in place of the output of a run that took too long.
+TOO_LONG = "error: it takes more than a second\n"
 
 
 @dataclass(frozen=True)
@@ -68,6 +82,11 @@ class Ended:
         """The place that a refusal names, in bytes."""
         found = re.match(r"error: .* at (\d+)\n", self.output)
         return int(found[1]) if found else None
+
+    @property
+    def took_too_long(self) -> bool:
+        """Whether it was ended for its time."""
+        return self.output == TOO_LONG
 
     @property
     def reason(self) -> str:
@@ -100,7 +119,7 @@ class Part:
     needs: FrozenSet[str] = frozenset()
     queries: Tuple[str, ...] = ()
 
-    @property
+    @cached_property
     def written(self) -> bytes:
         """Its text and its queries, each with a line feed."""
         lines = [self.text] + ["query %s(%s)" % (self.label, query) for query in self.queries]
@@ -133,18 +152,29 @@ def default_program() -> Path:
 SAID = "GENREQ_SAID"
 
 
-@dataclass(frozen=True)
+@dataclass
 class Program:
-    """A program that answers as genreq does."""
+    """A program that answers as genreq does, and the time that all runs of it may take."""
 
     path: Path
+    clock: Clock = field(default_factory=Clock)
+    _is_ready: bool = False
 
     def run(self, command: Command, text: bytes, limits: Limits = LEVELS[0]) -> Ended:
-        """Asks a command of a text. ProgramFailed where the program is not there, or ends in another way."""
-        try:
-            return self._run((command.value,) + limits.words, text, limits.seconds)
-        except subprocess.TimeoutExpired:
-            return Ended(Status.LIMIT, "error: more than %g seconds\n" % (limits.seconds or 0))
+        """Asks a command of a text. ProgramFailed where the program is not there, or ends in another way; TimeUp where the time of all is over."""
+        ended = self._run((command.value,) + limits.words, text, limits.seconds)
+        if ended.took_too_long and limits.seconds == SECONDS_ALONE:
+            self.clock.spent_on_hard += SECONDS_ALONE
+        return ended
+
+    def run_hard(self, command: Command, text: bytes, limits: Limits, before: Ended) -> Ended:
+        """Asks once more what passed a limit, with greater ones, while there is time for what is hard. What took too long would do so again."""
+        if before.took_too_long or not self.clock.has_time_for_hard:
+            return before
+        started = _spent()
+        ended = self._run((command.value,) + limits.words, text, SECONDS_ALONE)
+        self.clock.spent_on_hard += _spent() - started
+        return ended
 
     def verify(self, text: bytes, answers: Sequence[Answer]) -> List[str]:
         """What `verify` prints of the answers of `explain` to a text. ProgramFailed where they do not fit it."""
@@ -154,15 +184,39 @@ class Program:
             raise ProgramFailed("%s: %s" % (self.path, ended.reason))
         return ended.output.splitlines()
 
-    def _run(self, words: Sequence[str], text: bytes, seconds: Optional[float]) -> Ended:
+    def _get_ready(self) -> None:
+        """Runs the program once on nothing: it may be a script that builds it first, which is not of the time of all."""
+        started = time.monotonic()
+        self._is_ready = True
+        self._ended((str(self.path), Command.SIGNATURES.value), b"", None)
+        os.environ[SAID] = "yes"
+        self.clock.began += time.monotonic() - started
+
+    def _run(self, words: Sequence[str], text: bytes, seconds: Optional[int]) -> Ended:
+        if not self._is_ready:
+            self._get_ready()
+        limited = (*_LIMITED, str(seconds)) if seconds is not None else ()
         try:
-            done = subprocess.run([str(self.path), *words], input=text, stdout=subprocess.PIPE, timeout=seconds, check=False)
-            os.environ[SAID] = "yes"
+            return self._ended((*limited, str(self.path), *words), text, self.clock.left())
+        except subprocess.TimeoutExpired:
+            raise TimeUp() from None
+
+    def _ended(self, words: Sequence[str], text: bytes, seconds: Optional[float]) -> Ended:
+        try:
+            done = subprocess.run(words, input=text, stdout=subprocess.PIPE, timeout=seconds, check=False)
         except OSError as error:
             raise ProgramFailed("%s: %s" % (self.path, error.strerror)) from error
+        if done.returncode == -signal.SIGXCPU:
+            return Ended(Status.LIMIT, TOO_LONG)
         output = done.stdout.decode("utf-8", "replace")
         if done.returncode == MEMORY_RAN_OUT:
             return Ended(Status.LIMIT, output)
         if done.returncode not in [status.value for status in Status] or done.returncode != 0 and not output.startswith("error: "):
             raise ProgramFailed("%s ended with status %d: %s" % (self.path, done.returncode, output.split("\n", 1)[0]))
         return Ended(Status(done.returncode), output)
+
+
+def _spent() -> float:
+    """The seconds of the processor that all runs took."""
+    usage = resource.getrusage(resource.RUSAGE_CHILDREN)
+    return usage.ru_utime + usage.ru_stime

@@ -1,19 +1,24 @@
 """`genreq-swift redundant`: the written requirements that follow from others."""
 import argparse
 import json
-from typing import Dict, List, Sequence, Tuple
+from dataclasses import replace
+from typing import Dict, Iterator, List, Sequence, Set, Tuple
 
 from ..ask.derivations import shown
-from ..read.model import Reading, Requirement
-from .output import print_text
+from ..read.model import Place, Reading, Requirement
+from .output import print_line
+from .progress import Progress
 from ..ask.own_names import OwnNames, own_names
 from ..ask.parts import protocol_part
-from ..ask.program import Program, default_program
+from ..ask.program import Program
 from ..ask.in_protocols import ProtocolRedundancy
-from ..ask.asking import LeftOut, Questions
-from .reading_options import add_reading_options, reading_of
-from ..ask.in_signatures import Finding, Redundancy
-from .telling import left_out_lines, status_of, tell, told
+from ..ask.asking import Questions
+from ..ask.clock import Clock, TimeUp
+from ..ask.closure import LeftOut
+from .reading_options import add_asking_options, add_reading_options, program_of, reading_of
+from ..ask.findings import Finding
+from ..ask.in_signatures import Redundancy
+from .telling import left_out_lines, status_of, tell, time_up_lines, told
 
 FOUND = 1
 
@@ -33,33 +38,83 @@ def add(subparsers: "argparse._SubParsersAction[argparse.ArgumentParser]") -> No
         formatter_class=argparse.RawDescriptionHelpFormatter,
     )
     add_reading_options(parser)
+    add_asking_options(parser)
     parser.add_argument("--why", action="store_true", help="prints under each warning a derivation by the rules of docs/DERIVATION.md")
     parser.add_argument("--json", action="store_true", help="prints an object for each warning, one a line")
     parser.set_defaults(run=run)
 
 
 def run(arguments: argparse.Namespace) -> int:
-    reading = reading_of(arguments)
-    findings, left_out = findings_of(reading, Program(default_program()))
-    names = own_names(reading)
-    lines: List[str] = []
-    for finding in findings:
-        lines += [as_object(finding, names)] if arguments.json else as_lines(finding, names, arguments.why)
-    print_text("".join(line + "\n" for line in lines))
-    tell(told(reading) + left_out_lines(reading, left_out))
-    return FOUND if findings else status_of(reading, left_out)
+    program, reading = program_of(arguments), reading_of(arguments)
+    names, count = own_names(reading), 0
+    lint = Lint(reading, program)
+    with Progress(len(reading.signatures)) as progress:
+        for finding in lint.findings(progress):
+            count += 1
+            for line in [as_object(finding, names)] if arguments.json else as_lines(finding, names, arguments.why):
+                print_line(line)
+    tell(told(reading) + left_out_lines(reading, lint.left_out) + lint.late)
+    return FOUND if count else status_of(reading, [*lint.left_out, *lint.late])
+
+
+# So many signatures are asked together.
+_MANY = 512
+
+
+class Lint:
+    """What is redundant in the named sources. `left_out` are the declarations that could not be asked, `late` tells what was not asked in time."""
+
+    def __init__(self, reading: Reading, program: Program):
+        self.reading = reading
+        self.program = program
+        self.left_out: List[LeftOut] = []
+        self.late: List[str] = []
+        self._of_protocols: List[Finding] = []
+
+    def findings(self, progress: Progress) -> Iterator[Finding]:
+        """The findings by place, as soon as they are there."""
+        reading, done = self.reading, 0
+        questions = Questions(self.program, [protocol_part(protocol) for protocol in reading.protocols])
+        signatures = Redundancy(questions, reading.protocols)
+        try:
+            questions.settle()
+            self._ask_protocols({part.label for part in questions.protocols})
+            while done < len(reading.signatures):
+                some = reading.signatures[done : done + _MANY]
+                found = signatures.findings(some)
+                done += len(some)
+                progress.count = done
+                progress.hide()
+                yield from self._in_order(found, some[-1].place)
+        except TimeUp:
+            seconds = self.program.clock.seconds or 0
+            self.late += time_up_lines(seconds, "signatures", len(reading.signatures), reading.signatures[done:])
+        yield from self._of_protocols
+        self.left_out += [*questions.protocols_left_out, *signatures.left_out]
+
+    def _ask_protocols(self, there: Set[str]) -> None:
+        """Asks of the protocols, which may take half of the time."""
+        clock = self.program.clock
+        program = replace(self.program, clock=Clock(clock.seconds / 2) if clock.seconds is not None else clock)
+        protocols = ProtocolRedundancy(program, [protocol for protocol in self.reading.protocols if protocol.label in there])
+        own = [protocol for protocol in self.reading.own_protocols if protocol.label in there]
+        try:
+            self._of_protocols = sorted(protocols.findings(own), key=lambda finding: finding.unit.place)
+        except TimeUp:
+            self.late += time_up_lines((clock.seconds or 0) / 2, "protocols", len(own), own)
+        self.left_out += protocols.left_out
+
+    def _in_order(self, found: Sequence[Finding], last: Place) -> List[Finding]:
+        """Findings of signatures, and those of protocols that stand before the last of these."""
+        before = [finding for finding in self._of_protocols if finding.unit.place <= last]
+        self._of_protocols = self._of_protocols[len(before) :]
+        return sorted([*found, *before], key=lambda finding: finding.unit.place)
 
 
 def findings_of(reading: Reading, program: Program) -> Tuple[List[Finding], Sequence[LeftOut]]:
     """What is redundant in the named sources, by place, and what could not be asked."""
-    questions = Questions(program, [protocol_part(protocol) for protocol in reading.protocols])
-    questions.settle()
-    signatures = Redundancy(questions, reading.protocols)
-    found = signatures.findings(reading.signatures)
-    there = {part.label for part in questions.protocols}
-    protocols = ProtocolRedundancy(program, [protocol for protocol in reading.protocols if protocol.label in there])
-    found += protocols.findings([protocol for protocol in reading.own_protocols if protocol.label in there])
-    return sorted(found, key=lambda finding: finding.unit.place), [*questions.protocols_left_out, *signatures.left_out]
+    lint = Lint(reading, program)
+    return list(lint.findings(Progress(0))), lint.left_out
 
 
 def message(finding: Finding) -> str:

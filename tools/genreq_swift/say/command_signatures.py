@@ -7,16 +7,19 @@ from typing import Dict, List, Sequence
 
 from ..mean.standing import Standing
 from ..read.model import GenericParameter, Signature
-from .output import print_text
+from .output import print_line
+from .progress import Progress
 from ..ask.own_names import OwnNames, own_names
 from ..ask.parts import function_part, protocol_part
 from ..ask.printed import read_signature
-from ..ask.program import Command, Program, default_program
+from ..ask.program import Command
 from ..ask.protocol_order import ProtocolOrder
-from ..ask.asking import LeftOut, Questions
-from .reading_options import add_reading_options, kept, reading_of
+from ..ask.asking import Given, Questions
+from ..ask.clock import TimeUp
+from ..ask.closure import LeftOut
+from .reading_options import add_asking_options, add_reading_options, kept, program_of, reading_of
 from ..ask.swift_form import compiler_form
-from .telling import left_out_lines, standing_object, status_of, tell, told
+from .telling import left_out_lines, standing_object, status_of, tell, time_up_lines, told
 
 _PARAMETER = re.compile(r"τ_0_(\d+)")
 
@@ -29,6 +32,7 @@ def add(subparsers: "argparse._SubParsersAction[argparse.ArgumentParser]") -> No
         description="Prints FILE:LINE:COLUMN: NAME: SIGNATURE of each declaration that has generic parameters or a where clause of its own.",
     )
     add_reading_options(parser)
+    add_asking_options(parser)
     parser.add_argument("--strict", action="store_true", help="leaves out each signature that is not whole")
     parser.add_argument("--as", dest="form", choices=("genreq", "swift"), default="genreq", help="whose form is printed (genreq)")
     parser.add_argument("--json", action="store_true", help="prints an object for each declaration, one a line")
@@ -37,24 +41,29 @@ def add(subparsers: "argparse._SubParsersAction[argparse.ArgumentParser]") -> No
 
 def run(arguments: argparse.Namespace) -> int:
     """Runs it, and answers its status."""
-    reading = reading_of(arguments)
-    standing = Standing(reading.protocols)
+    program, reading = program_of(arguments), reading_of(arguments)
+    standing, names, key = Standing(reading.protocols), own_names(reading), ProtocolOrder(reading)
     signatures = kept(reading.signatures, arguments.strict, standing)
-    questions = Questions(Program(default_program()), [protocol_part(protocol) for protocol in reading.protocols])
-    answered = questions.ask(Command.SIGNATURES, [function_part(signature) for signature in signatures])
-    names, key = own_names(reading), ProtocolOrder(reading)
-    lines: List[str] = []
-    for signature in signatures:
-        if signature.label in answered.answers:
-            printed = answered.answers[signature.label][0].line
-            if arguments.form == "swift":
-                printed = str(compiler_form(read_signature(printed), key))
-            made = _object if arguments.json else _line
-            lines.append(made(signature, printed, names, standing))
-    print_text("".join(line + "\n" for line in lines))
-    left_out: Sequence[LeftOut] = (*questions.protocols_left_out, *answered.left_out)
-    tell(told(reading) + left_out_lines(reading, left_out))
-    return status_of(reading, left_out)
+    questions = Questions(program, [protocol_part(protocol) for protocol in reading.protocols])
+    asked = questions.each(Command.SIGNATURES, [function_part(signature) for signature in signatures])
+    left_out: List[LeftOut] = []
+    late: List[str] = []
+    made = _object if arguments.json else _line
+    with Progress(len(signatures)) as progress:
+        try:
+            for signature, one in zip(signatures, progress.over(asked)):
+                if isinstance(one, Given):
+                    printed = one.answers[0].line
+                    if arguments.form == "swift":
+                        printed = str(compiler_form(read_signature(printed), key))
+                    print_line(made(signature, printed, names, standing))
+                else:
+                    left_out.append(one)
+        except TimeUp:
+            late = time_up_lines(arguments.seconds, "signatures", len(signatures), signatures[progress.count :])
+    left_out[:0] = questions.protocols_left_out
+    tell(told(reading) + left_out_lines(reading, left_out) + late)
+    return status_of(reading, [*left_out, *late])
 
 
 def _line(signature: Signature, printed: str, names: OwnNames, standing: Standing) -> str:

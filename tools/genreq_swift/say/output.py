@@ -16,6 +16,11 @@ def print_text(text: str) -> None:
     sys.stdout.buffer.flush()
 
 
+def print_line(line: str) -> None:
+    """Writes a line to the standard output, at once."""
+    print_text(line + "\n")
+
+
 def write_file(path: str, text: str) -> None:
     """Writes a file at once: beside it first, then in its place. Raises OutputError."""
     target = Path(path)

@@ -5,6 +5,8 @@ from typing import Iterable, List, Tuple
 
 from ..read.conditions import DARWIN, DARWIN_MODULES, LINUX_MODULES, Configuration
 from ..read.model import Reading, Signature
+from ..ask.clock import Clock
+from ..ask.program import Program, default_program
 from ..mean.reader import read
 from ..mean.standing import Standing
 
@@ -36,6 +38,25 @@ def add_reading_options(parser: argparse.ArgumentParser) -> None:
         "sources declare for them: what follows then follows in Swift too, but not all that does",
     )
     parser.add_argument("-D", dest="defined", action="append", default=[], metavar="NAME", help="a name that is set for #if")
+
+
+def add_asking_options(parser: argparse.ArgumentParser) -> None:
+    """Adds how long to ask."""
+    parser.add_argument(
+        "--seconds", type=_seconds, default=60.0, metavar="N", help="ends after so many seconds, and tells what is not answered by then (60)"
+    )
+
+
+def _seconds(text: str) -> float:
+    seconds = float(text)
+    if not 0 < seconds < 1e9:
+        raise ValueError(text)
+    return seconds
+
+
+def program_of(arguments: argparse.Namespace) -> Program:
+    """The program, which has the time that the command line gives to the whole run from now on."""
+    return Program(default_program(), Clock(arguments.seconds))
 
 
 def reading_of(arguments: argparse.Namespace) -> Reading:

@@ -4,7 +4,7 @@ import sys
 from typing import Dict, Iterable, List, Sequence
 
 from ..read.model import Declaration, Problem, Reading, Status
-from ..ask.asking import LeftOut
+from ..ask.closure import LeftOut
 from ..mean.standing import Standing
 
 SOMETHING_LEFT_OUT = 3
@@ -49,6 +49,13 @@ def standing_object(declaration: Declaration, standing: Standing) -> Dict[str, o
     return found
 
 
+def time_up_lines(seconds: float, what: str, total: int, rest: Sequence[Declaration]) -> List[str]:
+    """A line for what was not answered when the time was over."""
+    if not rest:
+        return []
+    return ["%g seconds are over: %d of %d %s are not answered, from %s at %s on" % (seconds, len(rest), total, what, rest[0].name, rest[0].place)]
+
+
 def left_out_lines(reading: Reading, left_out: Sequence[LeftOut]) -> List[str]:
     """A line for each declaration that genreq was not asked of, or did not answer."""
     by_label: "dict[tuple[bool, str], Declaration]" = {(True, protocol.label): protocol for protocol in reading.all_protocols}
@@ -60,6 +67,6 @@ def left_out_lines(reading: Reading, left_out: Sequence[LeftOut]) -> List[str]:
     return lines
 
 
-def status_of(reading: Reading, left_out: Sequence[LeftOut] = ()) -> int:
+def status_of(reading: Reading, left_out: Sequence[object] = ()) -> int:
     """The status of a run in which nothing else was found."""
     return SOMETHING_LEFT_OUT if reading.problems or left_out else 0
