@@ -6,20 +6,15 @@ Functions that have no room in one text stand in several, each after the same pr
 """
 from concurrent.futures import ThreadPoolExecutor
 from dataclasses import dataclass
-import os
 import time
 from typing import Dict, Iterator, List, Optional, Sequence, Set, Tuple, Union
 
-from .closure import SMALL_COVER, LeftOut, fitting, lacking, part_at
+from .closure import FEW, SIDE_BY_SIDE, SMALL_COVER, LeftOut, fitting, lacking, part_at
 from .program import LEVELS, TEXT_LIMIT, Answer, Command, Ended, Limits, Part, Program, ProgramFailed, Status, answers_of, written
 from .settled import Settled
 
 Answers = Dict[str, Tuple[Answer, ...]]
 
-# So many functions are asked together at least after one of them was refused.
-FEW = 16
-# So many lists of functions are asked side by side.
-SIDE_BY_SIDE = min(4, os.cpu_count() or 1)
 # After a run that takes fewer seconds more is asked in the next one.
 SOON = 0.5
 
@@ -70,6 +65,11 @@ class Questions:
     def protocols(self) -> Sequence[Part]:
         """The protocols that are not left out."""
         return self._settled.protocols
+
+    @property
+    def settled(self) -> Settled:
+        """The protocols, and what is known of them up to now."""
+        return self._settled.copy()
 
     @property
     def protocols_left_out(self) -> List[LeftOut]:
@@ -263,6 +263,5 @@ def requirement_signatures(
 def each_requirement_signature(settled: Settled, wanted: Set[str]) -> Iterator[Dict[str, Answer]]:
     """The same, some at a time as soon as they are there."""
     settled.settle(wanted)
-    for cover in settled.closure.covers(settled.labels & wanted):
-        answers = settled.ask(Command.REQUIREMENTS, cover)
+    for answers in settled.each(Command.REQUIREMENTS, settled.closure.covers(settled.labels & wanted)):
         yield {label: without_name(answer) for label, answer in answers.items()}

@@ -1,11 +1,16 @@
 """Parts that are left out, and which protocols need which."""
 from dataclasses import dataclass
+import os
 from typing import Dict, Iterable, List, Optional, Sequence, Set, Tuple
 
 from .program import Part
 
 # So many protocols are asked in one run even where they do not need each other.
 SMALL_COVER = 16
+# So many declarations are asked together at least after one of them was refused.
+FEW = 16
+# So many lists of declarations are asked side by side.
+SIDE_BY_SIDE = min(4, os.cpu_count() or 1)
 
 
 @dataclass(frozen=True)

@@ -12,11 +12,12 @@ from typing import Dict, FrozenSet, List, Mapping, Sequence, Set, Tuple
 from .derivations import Lists
 from ..read.model import Declaration, Protocol, Requirement
 from .parts import conforming_part, in_function, protocol_part, protocols_of
-from .program import LEVELS, Command, Part, Program
-from .asking import Questions, requirement_signatures
+from .program import LEVELS, Answer, Command, Part
+from .asking import Questions, each_requirement_signature
 from .closure import LeftOut
 from .findings import Finding, Unit, asked_label, derived, units_of
 from .reduced_requirements import kept_numbers
+from .settled import Settled
 
 Without = Mapping[str, FrozenSet[int]]
 
@@ -24,16 +25,19 @@ Without = Mapping[str, FrozenSet[int]]
 class ProtocolRedundancy:
     """Looks for redundant requirements of protocols over which genreq answers."""
 
-    def __init__(self, program: Program, protocols: Sequence[Protocol]):
-        self.program = program
-        self.protocols = protocols
+    def __init__(self, settled: Settled, protocols: Sequence[Protocol]):
+        self.program = settled.program
+        self.settled = settled
+        self.protocols = [protocol for protocol in protocols if protocol.label in settled.labels]
+        self._required = {protocol.label: protocol.requirements for protocol in self.protocols}
         self.left_out: List[LeftOut] = []  # the protocols some of whose requirements could not be asked
 
     def findings(self, own: Sequence[Protocol]) -> List[Finding]:
         """The redundant units of some of the protocols, which can all be taken out together."""
         asked = [protocol for protocol in own if can_lack_one(protocol)]
-        parts = [protocol_part(protocol) for protocol in self.protocols]
-        kept = requirement_signatures(self.program, parts, {protocol.label for protocol in asked}).signatures
+        kept: Dict[str, Answer] = {}
+        for signatures in each_requirement_signature(self.settled, {protocol.label for protocol in asked}):
+            kept.update(signatures)
         units = [unit for protocol in asked for unit in units_of(protocol) if self._need_not_be_named(unit)]
         staying = {protocol.label: kept_numbers(protocol, kept[protocol.label]) for protocol in asked if protocol.label in kept}
         found = [unit for unit in units if unit.declaration.label in kept and staying[unit.declaration.label].isdisjoint(unit.numbers)]
@@ -62,14 +66,13 @@ class ProtocolRedundancy:
 
     def _inherited(self, unit: Unit) -> Set[str]:
         """What is written of `Self` in the protocol of a unit, but for the unit, and in the protocols that are inherited by that."""
-        by_label = {protocol.label: protocol.requirements for protocol in self.protocols}
         ahead = [kept_of(unit.declaration, frozenset(unit.numbers))]
         found: Set[str] = set()
         while ahead:
             for requirement in ahead.pop():
                 if not (requirement.other or requirement.subject.members or requirement.labelled in found):
                     found.add(requirement.labelled)
-                    ahead.append(by_label[requirement.protocol.label] if requirement.protocol else ())
+                    ahead.append(self._required[requirement.protocol.label] if requirement.protocol else ())
         return found
 
     def _parts(self, without: Without) -> List[Part]:

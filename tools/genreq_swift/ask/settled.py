@@ -1,7 +1,8 @@
 """Protocols over which genreq answers. One over which it does not is left out and told, with what needs it."""
-from typing import Dict, List, Optional, Sequence, Set
+from concurrent.futures import ThreadPoolExecutor
+from typing import Dict, Iterator, List, Optional, Sequence, Set, Tuple
 
-from .closure import Closure, LeftOut, part_at
+from .closure import FEW, SIDE_BY_SIDE, Closure, LeftOut, part_at
 from .program import Answer, Command, Ended, Limits, Part, Program, ProgramFailed, Status, answers_of, written
 
 
@@ -40,6 +41,12 @@ class Settled:
         """Whether it is known that genreq answers over these protocols."""
         return all(label in self._level_of for label in self.closure.needed(labels))
 
+    def copy(self) -> "Settled":
+        """The same protocols, and what is known of them."""
+        made = Settled(self.program, self.protocols, self.levels)
+        made._level_of.update(self._level_of)
+        return made
+
     def note(self, protocols: Sequence[Part], level: int) -> None:
         """Takes up that genreq answered over some protocols."""
         for protocol in protocols:
@@ -63,45 +70,66 @@ class Settled:
 
     def settle(self, labels: Set[str]) -> None:
         """Leaves out those of some protocols over which nothing can be answered."""
-        self.ask(Command.SIGNATURES, labels)
+        for _ in self.each(Command.SIGNATURES, [labels]):
+            pass
 
-    def ask(self, command: Command, labels: Set[str]) -> Dict[str, Answer]:
-        """The answers of a command to some protocols, and to what they need, by labels. What passes all limits is left out.
-
-        Halves are asked of what passes a limit, those first that need less. So of one that passes it alone all that it needs is answered, unless
-        it is needed itself there.
-        """
-        answers: Dict[str, Answer] = {}
-        waiting = [self.closure.in_order(self.closure.needed(labels) & self.labels)]
+    def each(self, command: Command, lists: Sequence[Set[str]]) -> Iterator[Dict[str, Answer]]:
+        """The answers of a command to some protocols, and to what they need, by labels, as soon as they are there. What passes all limits is left
+        out. Of what passes one, halves are asked, those first that need less; some such lists side by side."""
+        done: Set[str] = set(self._level_of) if command is Command.SIGNATURES else set()
+        waiting = [self.closure.in_order(self.closure.needed(labels) & self.labels) for labels in reversed(lists)]
         while waiting:
+            some = self._next(waiting, done)
+            for labels, (protocols, level, ended) in zip(some, self._runs(command, some)):
+                if ended.status is Status.ANSWERED:
+                    self.note(protocols, level)
+                    done.update(protocol.label for protocol in protocols)
+                    if command is Command.REQUIREMENTS:
+                        yield {protocol.label: answer for protocol, answer in zip(protocols, answers_of(ended.output))}
+                else:
+                    waiting += self._after(labels, protocols, ended, done)
+
+    def _next(self, waiting: List[List[str]], done: Set[str]) -> List[List[str]]:
+        """Takes the lists that are asked next, without what is done or left out."""
+        found: List[List[str]] = []
+        while waiting and len(found) < SIDE_BY_SIDE:
             there = self.labels
-            some = [label for label in waiting.pop() if label in there and not self._is_done(command, label, answers)]
+            some = [label for label in waiting.pop() if label in there and label not in done]
             if some:
-                waiting += self._ask(command, some, answers)
-        return answers
+                found.append(some)
+        return found
 
-    def _is_done(self, command: Command, label: str, answers: Dict[str, Answer]) -> bool:
-        return label in self._level_of if command is Command.SIGNATURES else label in answers
+    def _runs(self, command: Command, lists: Sequence[List[str]]) -> List[Tuple[List[Part], int, Ended]]:
+        """Runs over lists of protocols and what they need, side by side."""
+        if len(lists) < 2:
+            return [self._run(command, some) for some in lists]
+        with ThreadPoolExecutor(len(lists)) as pool:
+            return list(pool.map(lambda some: self._run(command, some), lists))
 
-    def _ask(self, command: Command, some: List[str], answers: Dict[str, Answer]) -> List[List[str]]:
-        """Asks once. What is to be asked again comes back, the first last."""
+    def _run(self, command: Command, some: Sequence[str]) -> Tuple[List[Part], int, Ended]:
+        """A run over protocols and what they need, with greater limits where one alone passes the first ones."""
         protocols = self.needed(set(some))
         level = self.level(protocols)
         ended = self.program.run(command, written(protocols), self.levels[level].for_parts(len(some)))
-        if ended.status is Status.LIMIT and len(some) > 1:
-            half = len(some) // 2
-            return [some[half:], some[:half]]
-        if ended.status is Status.LIMIT and level + 1 < len(self.levels):
+        if ended.status is Status.LIMIT and len(some) == 1 and level + 1 < len(self.levels):
             level += 1
             ended = self.program.run_hard(command, written(protocols), self.levels[level], ended)
-        if ended.status is Status.ANSWERED:
-            self.note(protocols, level)
-            if command is Command.REQUIREMENTS:
-                answers.update((protocol.label, answer) for protocol, answer in zip(protocols, answers_of(ended.output)))
-            return []
+        return protocols, level, ended
+
+    def _after(self, some: List[str], protocols: List[Part], ended: Ended, done: Set[str]) -> List[List[str]]:
+        """What is to be asked after a run that has no answer, the first last."""
+        half = len(some) // 2
         if ended.status is Status.REFUSED:
             self.leave_out_at(ended, protocols)
-            return [some]
+            return [some] if len(some) <= FEW else [some[half:], some[:half]]
+        if half:
+            return [some[half:], some[:half]]
+        first = [label for label in self.closure.in_order(self.closure.needed(set(some))) if self._comes_before(label, some[0], done)]
+        if first:
+            return [some, first]
         self.leave_out(some[0], ended.reason)
         return []
 
+    def _comes_before(self, label: str, other: str, done: Set[str]) -> bool:
+        """Whether a protocol is not asked yet, and does not need another one, which needs it."""
+        return label in self.labels and label not in done and other not in self.closure.needed({label})

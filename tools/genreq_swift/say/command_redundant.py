@@ -2,7 +2,7 @@
 import argparse
 import json
 from dataclasses import replace
-from typing import Dict, Iterator, List, Sequence, Set, Tuple
+from typing import Dict, Iterator, List, Sequence, Tuple
 
 from ..ask.derivations import shown
 from ..read.model import Place, Reading, Requirement
@@ -18,6 +18,7 @@ from ..ask.closure import LeftOut
 from .reading_options import add_asking_options, add_reading_options, program_of, reading_of
 from ..ask.findings import Finding
 from ..ask.in_signatures import Redundancy
+from ..ask.settled import Settled
 from .telling import left_out_lines, status_of, tell, time_up_lines, told
 
 FOUND = 1
@@ -78,7 +79,7 @@ class Lint:
         signatures = Redundancy(questions, reading.protocols)
         try:
             questions.settle()
-            self._ask_protocols({part.label for part in questions.protocols})
+            self._ask_protocols(questions.settled)
             while done < len(reading.signatures):
                 some = reading.signatures[done : done + _MANY]
                 found = signatures.findings(some)
@@ -92,12 +93,12 @@ class Lint:
         yield from self._of_protocols
         self.left_out += [*questions.protocols_left_out, *signatures.left_out]
 
-    def _ask_protocols(self, there: Set[str]) -> None:
-        """Asks of the protocols, which may take half of the time."""
+    def _ask_protocols(self, settled: Settled) -> None:
+        """Asks of the protocols over which is answered, which may take half of the time."""
         clock = self.program.clock
-        program = replace(self.program, clock=Clock(clock.seconds / 2) if clock.seconds is not None else clock)
-        protocols = ProtocolRedundancy(program, [protocol for protocol in self.reading.protocols if protocol.label in there])
-        own = [protocol for protocol in self.reading.own_protocols if protocol.label in there]
+        settled.program = replace(self.program, clock=Clock(clock.seconds / 2) if clock.seconds is not None else clock)
+        own = [protocol for protocol in self.reading.own_protocols if protocol.label in settled.labels]
+        protocols = ProtocolRedundancy(settled, self.reading.protocols)
         try:
             self._of_protocols = sorted(protocols.findings(own), key=lambda finding: finding.unit.place)
         except TimeUp:
