@@ -113,9 +113,10 @@ class DeclarationReader(TypeReader):
             start = cursor.token.start
             try:
                 declaration = self._declaration()
-            except SourceError as error:
+            except (SourceError, RecursionError) as failure:
+                error = failure if isinstance(failure, SourceError) else cursor.source.error("nested too deeply", start)
                 if self._whole or cursor.token.start == start:
-                    raise
+                    raise error from None
                 self.errors.append(error)
                 self._go_on()
             else:

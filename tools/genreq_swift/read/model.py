@@ -34,6 +34,11 @@ def label_of(name: str) -> str:
     return word + "_" if RESERVED_LIKE.fullmatch(word) else word
 
 
+def on_one_line(path: str) -> str:
+    """A path as it is told, where it has line breaks."""
+    return path.replace("\n", "\\n").replace("\r", "\\r")
+
+
 @dataclass(frozen=True, order=True)
 class Place:
     """A place in a source: the file as it was named, the line and the column, each from 1. Columns count bytes, as the compiler does."""
@@ -43,7 +48,7 @@ class Place:
     column: int
 
     def __str__(self) -> str:
-        return "%s:%d:%d" % (self.file, self.line, self.column)
+        return "%s:%d:%d" % (on_one_line(self.file), self.line, self.column)
 
 
 @dataclass(frozen=True)
@@ -295,7 +300,7 @@ class Problem:
     file: str = ""
 
     def __str__(self) -> str:
-        where = str(self.place) if self.place else self.file
+        where = str(self.place) if self.place else on_one_line(self.file)
         return "%s: error: %s" % (where, self.message) if where else self.message
 
 

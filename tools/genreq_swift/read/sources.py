@@ -3,6 +3,7 @@ from dataclasses import dataclass
 import os
 from pathlib import Path
 import re
+import stat
 from typing import List, Sequence, Tuple
 
 from .model import Problem
@@ -29,12 +30,10 @@ def read_files(paths: Sequence[str]) -> Files:
     problems: List[Problem] = []
     seen = set()
     for path in paths:
-        try:
-            files = _files_in(Path(path))
-        except OSError as error:
-            problems.append(Problem(error.strerror or str(error), file=path))
-            continue
-        if not files:
+        unread: List[OSError] = []
+        files = _files_in(Path(path), unread)
+        problems += [Problem(error.strerror or str(error), file=str(error.filename or path)) for error in unread]
+        if not files and not unread:
             problems.append(Problem("no Swift file is there", file=path))
         for file in files:
             if file not in seen:
@@ -54,18 +53,29 @@ def _read(file: Path, under: Path, sources: List[Source], problems: List[Problem
         sources.append(Source(str(file), text, _module(file, under, text)))
 
 
-def _files_in(path: Path) -> List[Path]:
-    if not path.is_dir():
-        return [path]
+def _files_in(path: Path, unread: List[OSError]) -> List[Path]:
+    """The file itself, or the Swift files in a folder. The errors of folders below it that cannot be read are added to the last."""
+    try:
+        if not path.is_dir():
+            return [path]
+    except OSError as error:
+        unread.append(error)
+        return []
     found = []
-    for folder, folders, files in os.walk(path, onerror=_raise):
+    for folder, folders, files in os.walk(path, onerror=unread.append):
         folders[:] = [name for name in folders if name not in _BESIDE]
-        found += [Path(folder, name) for name in files if name.endswith(_SUFFIXES) and not _MANIFEST.fullmatch(name)]
+        swift = [Path(folder, name) for name in files if name.endswith(_SUFFIXES) and not _MANIFEST.fullmatch(name)]
+        found += [file for file in swift if not _is_special(file)]
     return sorted(found)
 
 
-def _raise(error: OSError) -> None:
-    raise error
+def _is_special(file: Path) -> bool:
+    """Whether a file is a pipe, a socket or a device, which may never end."""
+    try:
+        mode = file.stat().st_mode
+    except OSError:
+        return False
+    return not (stat.S_ISREG(mode) or stat.S_ISDIR(mode))
 
 
 def _module(file: Path, under: Path, text: str) -> str:

@@ -1,16 +1,18 @@
 """The command line of `genreq-swift`."""
 import argparse
 import importlib
-import os
 import sys
 from typing import List, Optional
 
-from .output import OutputError
+from .output import OutputError, print_error
+from .telling import SOMETHING_LEFT_OUT
+from ..ask.clock import TimeUp
 from ..ask.printed import Unreadable
 from ..ask.program import ProgramFailed
 from ..ask.query import QueryError
 
 WRONG_WORDS = 2
+NOT_WRITTEN = 5
 FAILED = 70
 _SUBCOMMANDS = ("text", "signatures", "requirements", "redundant", "ask", "outline")
 
@@ -21,7 +23,7 @@ signature is `whole`, `without ~Copyable`, `incomplete` with the first cause and
 it reaches is incomplete, with the nearest and what it says. Less may follow of these two than in Swift.
 
 Statuses: 0 done; 1 something redundant was found, or a query is not answered with yes; 2 wrong words; 3 something could not be read or answered: it
-is told on the standard error, and the rest is printed; 70 genreq could not be run, or a file could not be written.
+is told on the standard error, and the rest is printed; 4 both 1 and 3; 5 something could not be written; 70 genreq could not be run.
 The variable GENREQ names another program to run in place of ./genreq."""
 
 
@@ -45,11 +47,17 @@ def main(words: Optional[List[str]] = None) -> int:
     except QueryError as error:
         print("genreq-swift: %s" % error, file=sys.stderr)
         return WRONG_WORDS
-    except (OutputError, ProgramFailed, Unreadable) as error:
+    except (ProgramFailed, Unreadable) as error:
         print("genreq-swift: %s" % error, file=sys.stderr)
         return FAILED
-    except BrokenPipeError:
-        os.dup2(os.open(os.devnull, os.O_WRONLY), sys.stdout.fileno())
-        return FAILED
+    except OutputError as error:
+        try:
+            print_error("genreq-swift: %s\n" % error)
+        except OutputError:
+            pass
+        return NOT_WRITTEN
+    except TimeUp:
+        print("genreq-swift: %g seconds are over" % arguments.seconds, file=sys.stderr)
+        return SOMETHING_LEFT_OUT
     except KeyboardInterrupt:
         return 130

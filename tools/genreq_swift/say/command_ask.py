@@ -15,15 +15,14 @@ from ..ask.program import Answer, Command, Part, Program, default_program
 from ..ask.query import Asked, Query, asked_of, read_query
 from ..ask.asking import Questions
 from .reading_options import add_reading_options, reading_of
-from .telling import SOMETHING_LEFT_OUT, left_out_lines, standing_object, status_of, tell
-
-NOT_YES = 1
+from .telling import left_out_lines, standing_object, status_of, tell
 
 DESCRIPTION = """Answers one query in the context of a declaration: whether a requirement follows (yes, no, or invalid where a side is no
 type), what a type reduces to, or the minimised signature. QUERY is NAME(T.Element : Equatable), NAME(T == U.Index), NAME(T.SubSequence) or
 NAME(), where NAME is that of a declaration, as map or Sequence.map, or LINE or FILE:LINE for the innermost declaration around a line. Where
 several have the name, all answer. Where something was left out of what a declaration rests on, an answer other than yes says so: `no, as far as
-was read: ..`, with the first thing. The status is 1 where an answer is no or invalid."""
+was read: ..`, with the first thing. The status is 1 where an answer is no or invalid, and 4 where something could
+not be read or asked too."""
 
 
 def add(subparsers: "argparse._SubParsersAction[argparse.ArgumentParser]") -> None:
@@ -77,9 +76,7 @@ def run(arguments: argparse.Namespace) -> int:
         lines += [as_object(one)] if arguments.json else as_lines(one)
     print_text("".join(line + "\n" for line in lines))
     tell([str(problem) for problem in reading.problems] + left_out)
-    if any(one.answer.line in ("no", "invalid") for one in answered):
-        return NOT_YES
-    return SOMETHING_LEFT_OUT if left_out else status_of(reading)
+    return status_of(reading, left_out, any(one.answer.line in ("no", "invalid") for one in answered))
 
 
 def answers_to(query: Query, reading: Reading, command: Command, program: Program) -> Tuple[List[DeclarationAnswer], List[str]]:

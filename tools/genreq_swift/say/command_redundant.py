@@ -21,10 +21,9 @@ from ..ask.in_signatures import Redundancy
 from ..ask.settled import Settled
 from .telling import left_out_lines, status_of, tell, time_up_lines, told
 
-FOUND = 1
-
 DESCRIPTION = """Prints a warning for each written requirement that follows from the others of its declaration, of the declarations around it
-and of the protocols: FILE:LINE:COLUMN: warning: requirement .. is redundant: it follows from ... The status is 1 where there is one.
+and of the protocols: FILE:LINE:COLUMN: warning: requirement .. is redundant: it follows from ... The status is 1 where there is one,
+and 4 where something could not be read or asked too.
 
 What is told can all be taken out together. Each requirement is asked of a function without it, and for each warning there is a derivation
 that `genreq verify` accepts; --why prints it, with the place of each requirement that it uses. What is left out of an incomplete signature
@@ -55,7 +54,7 @@ def run(arguments: argparse.Namespace) -> int:
             for line in [as_object(finding, names)] if arguments.json else as_lines(finding, names, arguments.why):
                 print_line(line)
     tell(told(reading) + left_out_lines(reading, lint.left_out) + lint.late)
-    return FOUND if count else status_of(reading, [*lint.left_out, *lint.late])
+    return status_of(reading, [*lint.left_out, *lint.late], count > 0)
 
 
 # So many signatures are asked together.

@@ -3,17 +3,36 @@ import os
 from pathlib import Path
 import sys
 import tempfile
+from typing import TextIO
 
 
 class OutputError(Exception):
-    """A file could not be written."""
+    """Something could not be written."""
 
 
 def print_text(text: str) -> None:
-    """Writes a text to the standard output, as UTF-8."""
-    sys.stdout.flush()
-    sys.stdout.buffer.write(text.encode("utf-8", "replace"))
-    sys.stdout.buffer.flush()
+    """Writes a text to the standard output, as UTF-8. Raises OutputError."""
+    try:
+        sys.stdout.buffer.write(text.encode("utf-8", "replace"))
+        sys.stdout.buffer.flush()
+    except OSError as error:
+        discard(sys.stdout)
+        raise OutputError("the standard output: %s" % error.strerror) from error
+
+
+def print_error(text: str) -> None:
+    """Writes a text to the standard error, as UTF-8. Raises OutputError."""
+    try:
+        sys.stderr.buffer.write(text.encode("utf-8", "replace"))
+        sys.stderr.buffer.flush()
+    except OSError as error:
+        discard(sys.stderr)
+        raise OutputError("the standard error: %s" % error.strerror) from error
+
+
+def discard(stream: TextIO) -> None:
+    """Lets go what was written to a stream and has no room, so that it is not tried again at the end."""
+    os.dup2(os.open(os.devnull, os.O_WRONLY), stream.fileno())
 
 
 def print_line(line: str) -> None:

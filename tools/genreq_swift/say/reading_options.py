@@ -1,5 +1,6 @@
 """The words of the command line that say what to read, the same for all subcommands."""
 import argparse
+import re
 from pathlib import Path
 from typing import Iterable, List, Tuple
 
@@ -29,8 +30,8 @@ def add_reading_options(parser: argparse.ArgumentParser) -> None:
     )
     parser.add_argument("--os", default="Linux", metavar="NAME", help="the system for which #if is read (Linux)")
     parser.add_argument("--arch", default="x86_64", metavar="NAME", help="the processor for which #if is read (x86_64)")
-    parser.add_argument("--compiler", default="6.0.3", metavar="VERSION", help="the compiler for which #if is read (6.0.3)")
-    parser.add_argument("--language", default="6", metavar="VERSION", help="the language mode for which #if is read (6)")
+    parser.add_argument("--compiler", type=_version, default="6.0.3", metavar="VERSION", help="the compiler for which #if is read (6.0.3)")
+    parser.add_argument("--language", type=_version, default="6", metavar="VERSION", help="the language mode for which #if is read (6)")
     parser.add_argument(
         "--concrete",
         action="store_true",
@@ -71,15 +72,22 @@ def configuration_of(arguments: argparse.Namespace) -> Configuration:
     return Configuration(
         arguments.os,
         arguments.arch,
-        _version(arguments.compiler),
-        _version(arguments.language),
+        arguments.compiler,
+        arguments.language,
         frozenset(arguments.defined),
         modules,
     )
 
 
 def _version(text: str) -> Tuple[int, ...]:
-    return tuple(int(part) for part in text.split(".") if part.isdigit())
+    """The numbers of a version. ValueError where it is none."""
+    if not re.fullmatch(r"[0-9]{1,9}(\.[0-9]{1,9})*", text):
+        raise ValueError(text)
+    return tuple(int(part) for part in text.split("."))
+
+
+_version.__name__ = "version"  # as argparse tells it
+_seconds.__name__ = "number of seconds"
 
 
 def kept(declarations: Iterable[Signature], strict: bool, standing: Standing) -> List[Signature]:

@@ -1,18 +1,21 @@
 """What is told on the standard error: what was not read or not answered, and how much of the rest is whole."""
 from collections import Counter
-import sys
 from typing import Dict, Iterable, List, Sequence
 
 from ..read.model import Declaration, Problem, Reading, Status
 from ..ask.closure import LeftOut
 from ..mean.standing import Standing
+from .output import print_error
 
+
+SOMETHING_FOUND = 1
 SOMETHING_LEFT_OUT = 3
+FOUND_AND_LEFT_OUT = 4
 
 
 def tell(lines: Iterable[str]) -> None:
     """Writes lines to the standard error."""
-    sys.stderr.write("".join(line + "\n" for line in lines))
+    print_error("".join(line + "\n" for line in lines))
 
 
 def told(reading: Reading) -> List[str]:
@@ -67,6 +70,8 @@ def left_out_lines(reading: Reading, left_out: Sequence[LeftOut]) -> List[str]:
     return lines
 
 
-def status_of(reading: Reading, left_out: Sequence[object] = ()) -> int:
-    """The status of a run in which nothing else was found."""
-    return SOMETHING_LEFT_OUT if reading.problems or left_out else 0
+def status_of(reading: Reading, left_out: Sequence[object] = (), is_found: bool = False) -> int:
+    """The status of a run: whether something redundant was found or a query not answered with yes, and whether something was left out."""
+    if reading.problems or left_out:
+        return FOUND_AND_LEFT_OUT if is_found else SOMETHING_LEFT_OUT
+    return SOMETHING_FOUND if is_found else 0

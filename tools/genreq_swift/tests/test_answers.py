@@ -133,7 +133,7 @@ class Answers(unittest.TestCase):
     def test_what_could_not_be_asked_is_told_by_the_lint(self):
         self.file.write_text("protocol P { associatedtype A }\nfunc f<T>(_: T) where T.A: P {}\nfunc g<T: P>(_: T) where T: P {}\n")
         status, printed, told = self.run_tool("redundant", self.file)
-        self.assertEqual((status, printed), (1, ["sample.swift:3:29: warning: requirement 'T : P' is redundant: it is written at sample.swift:3:11"]))
+        self.assertEqual((status, printed), (4, ["sample.swift:3:29: warning: requirement 'T : P' is redundant: it is written at sample.swift:3:11"]))
         self.assertIn("sample.swift:2:6: error: f is left out: not a type parameter", told)
 
 
