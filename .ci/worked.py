@@ -133,8 +133,8 @@ def main(folder: pathlib.Path) -> int:
     try:
         runs = [run for path in files for run in readers[path.suffix](path.name, path.read_text(encoding="utf-8"))]
         faults = [fault for fault in map(fault_of, runs) if fault]
-    except (Malformed, TooLong) as fault:
-        print("worked: %s" % fault, file=sys.stderr)
+    except (Malformed, TooLong) as error:
+        print("worked: %s" % error, file=sys.stderr)
         return 1
     for fault in faults:
         print("worked: %s" % fault, file=sys.stderr)

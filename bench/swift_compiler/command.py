@@ -6,7 +6,7 @@ import sys
 import tempfile
 from typing import List, Optional, Sequence
 
-from genreq_swift.program import ProgramFailed
+from genreq_swift.ask.program import ProgramFailed
 
 from swift_compiler.as_swift import Untranslated
 from swift_compiler.comparing import Pair, files_named, pairs

@@ -4,14 +4,14 @@ Here the compiler sees no more than genreq does. So incomplete signatures are co
 from dataclasses import dataclass
 from typing import Dict, List, Sequence
 
-from genreq_swift.conditions import Configuration
-from genreq_swift.parts import function_part, protocol_part
-from genreq_swift.program import Command, LEVELS, Limits, Part, Program, Status, default_program, written
-from genreq_swift.questions import Questions, requirement_signatures
-from genreq_swift.reader import read
-from genreq_swift.reading_options import STANDARD as STANDARD_OUTLINE
-from genreq_swift.requirement_form import reduced_signatures
-from genreq_swift.swift_form import as_swift as in_compilers_form, compiler_form
+from genreq_swift.read.conditions import Configuration
+from genreq_swift.ask.parts import function_part, protocol_part
+from genreq_swift.ask.program import Command, LEVELS, Limits, Part, Program, Status, default_program, written
+from genreq_swift.ask.asking import Questions, requirement_signatures
+from genreq_swift.mean.reader import read
+from genreq_swift.say.reading_options import STANDARD as STANDARD_OUTLINE
+from genreq_swift.ask.reduced_requirements import reduced_signatures
+from genreq_swift.ask.swift_form import as_swift as in_compilers_form, compiler_form
 
 from swift_compiler.as_swift import as_swift
 from swift_compiler.comparing import PROTOCOL, WHOLE, Pair, pairs

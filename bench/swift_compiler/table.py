@@ -78,7 +78,7 @@ def differences(pairs: Iterable[Pair], kinds: Sequence[Likeness]) -> List[str]:
     lines = []
     for pair in pairs:
         kind = pair.likeness() if pair.is_compared else None
-        if kind in kinds:
+        if kind is not None and kind in kinds:
             lines += [
                 "",
                 "%s: %s: %s" % (pair.own.place, pair.own.name, kind.value),

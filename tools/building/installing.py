@@ -111,7 +111,7 @@ def tool_entries(top: pathlib.Path) -> Iterator[Entry]:
     yield Entry("share/genreq/genreq", leads_to="../../bin/genreq")
     for path in sorted((top / "tools/genreq_swift").rglob("*")):
         below = path.relative_to(top / "tools/genreq_swift")
-        if path.is_file() and below.parts[0] not in ("tests", "__pycache__"):
+        if path.is_file() and not {"tests", "__pycache__"}.intersection(below.parts):
             yield file_entry("share/genreq/tools/genreq_swift/%s" % below, path)
     for name in TOOLS:
         yield file_entry("share/genreq/tools/" + name, top / "tools" / name, True)

@@ -20,6 +20,19 @@ class AsSwift(unittest.TestCase):
     def test_what_the_compiler_has_itself_is_left_out(self) -> None:
         self.assertEqual(as_swift(["protocol Copyable { }", "protocol CopyableToo { }"], []).label_at, {2: "CopyableToo"})
 
+    def test_a_protocol_with_the_name_of_something_nearer_has_an_alias(self) -> None:
+        made = as_swift(["protocol Digest { }", "protocol Hash: Digest {\n  associatedtype Digest: Digest\n}"], ["func f<Hash>() where Hash : Hash"])
+        wanted = """typealias Digest_protocol = Digest
+typealias Hash_protocol = Hash
+protocol Digest { }
+protocol Hash: Digest_protocol {
+  associatedtype Digest: Digest_protocol
+}
+func f<Hash>(_: Hash.Type) where Hash : Hash_protocol {}
+"""
+        self.assertEqual(made.content.partition("\n")[2], wanted)
+        self.assertEqual(made.label_at, {4: "Digest", 5: "Hash", 8: "f"})
+
     def test_a_function_with_something_else(self) -> None:
         with self.assertRaises(Untranslated):
             function("func f<T: P>()")

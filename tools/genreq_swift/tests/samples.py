@@ -1,11 +1,11 @@
 """Sources for tests."""
 from typing import List, Sequence
 
-from ..conditions import Configuration
-from ..declarations import DeclarationSyntax, read_declarations
-from ..model import Reading, Signature
-from ..reader import reading_of
-from ..tokens import Source
+from ..read.conditions import Configuration
+from ..read.declarations import DeclarationSyntax, read_declarations
+from ..read.model import Reading, Signature
+from ..mean.reader import reading_of
+from ..read.tokens import Source
 
 FILE = "sample.swift"
 

@@ -48,7 +48,63 @@ class Answers(unittest.TestCase):
 
     def test_an_incomplete_signature_is_told_where_that_could_turn_the_answer(self):
         self.assertEqual(self.ask("g(U.A : P)"), (0, ["sample.swift:5:6: g(U.A : P): yes"]))
-        self.assertEqual(self.ask("g(T.A == T)"), (1, ["sample.swift:5:6: g(T.A == T): no  // incomplete: concrete type at sample.swift:5:38"]))
+        self.assertEqual(self.ask("g(T.A == T)"), (1, ["sample.swift:5:6: g(T.A == T): no, as far as was read: concrete type at sample.swift:5:38"]))
+
+    def ask_folder(self, query, **texts):
+        """What is printed of a folder with these files."""
+        self.file.write_text("")
+        for name, text in texts.items():
+            (self.file.parent / (name + ".swift")).write_text(text)
+        return self.run_tool("ask", self.file.parent, query)
+
+    def test_of_two_private_protocols_that_of_the_file_is_asked(self):
+        files = {"a": "private protocol Key {}; private func f<T: Key>(_: T) {}\n", "b": "private protocol Key: Hashable {}\nprotocol Hashable {}\n", "c": "protocol Z {}\n"}
+        self.assertEqual(self.ask_folder("f(T : Key)", **files)[:2], (0, ["a.swift:1:39: f(T : Key): yes"]))
+        status, _, told = self.run_tool("ask", self.file.parent, "Z(Self : Key)")
+        self.assertEqual((status, told.count("is named Key")), (2, 0))
+        self.assertIn("several protocols are named Key, and none is seen there: ", told)
+
+    def test_of_two_declarations_of_one_name_each_is_asked_of_what_it_sees(self):
+        one = "public protocol Key: Text {}\npublic struct Box<K: Key> {}\npublic protocol Text {}\n"
+        other = "public protocol Key {}\npublic struct Box<K: Key> {}\n"
+        wanted = ["a.swift:2:15: Box(K : Key): yes", "b.swift:2:15: Box(K : Key): yes"]
+        self.assertEqual(self.ask_folder("Box(K : Key)", a=one, b=other)[:2], (0, wanted))
+        wanted = ["a.swift:2:15: Box(K : Text): yes", "b.swift:2:15: Box(K : Text): no"]
+        self.assertEqual(self.ask_folder("Box(K : Text)", a=one, b=other)[1], wanted)
+
+    def test_an_alias_that_lacks_a_name_leads_to_its_type(self):
+        self.file.write_text("protocol P {}\nstruct Flat<Base: P> {}\ntypealias Old<T: P> = Flat<T>\n")
+        self.assertEqual(self.ask("Old(Base : P)"), (0, ["sample.swift:2:8: Flat(Base : P): yes"]))
+        self.assertEqual(self.ask("Old(T : P)"), (0, ["sample.swift:3:11: Old(T : P): yes"]))
+
+    def test_a_protocol_that_no_declaration_needs_can_be_asked(self):
+        self.file.write_text("func f<T: BinaryInteger>(_: T) {}\nstruct S { protocol P {}\n func g<T: P>(_: T) {} }\n")
+        self.assertEqual(self.ask("--with", "standard", "f(T : Identifiable)")[1][0][:42], "sample.swift:1:6: f(T : Identifiable): no,")
+        self.assertEqual(self.ask("--with", "standard", "f(T : Swift.Hashable)"), (0, ["sample.swift:1:6: f(T : Swift.Hashable): yes"]))
+        self.assertEqual(self.ask("g(T : P)"), (0, ["sample.swift:3:7: S.g(T : P): yes"]))
+        self.assertEqual(self.ask("g(T : S.P)"), (0, ["sample.swift:3:7: S.g(T : S.P): yes"]))
+
+    def test_a_no_over_an_incomplete_protocol_says_so(self):
+        self.file.write_text("func f<T: BinaryInteger>(_: T) {}\nfunc g<T: BinaryInteger>(_: T) where T.Words: P {}\nprotocol P: SetAlgebra {}\n")
+        lack = "as far as was read: BinaryInteger says Self.Words.Element == UInt"
+        for protocol in ("FixedWidthInteger", "Equatable"):
+            query = "f(T.Words.Element : %s)" % protocol
+            self.assertEqual(self.ask("--with", "standard", query), (1, ["sample.swift:1:6: %s: no, %s" % (query, lack)]))
+        self.assertEqual(self.ask("--with", "standard", "f(T.Words.Index : Comparable)"), (0, ["sample.swift:1:6: f(T.Words.Index : Comparable): yes"]))
+        self.assertEqual(self.ask("--with", "standard", "f(T.Words)"), (0, ["sample.swift:1:6: f(T.Words): T.[BinaryInteger]Words, %s" % lack]))
+        self.assertEqual(self.ask("--with", "standard", "P(Self == Self.Element)"), (1, ["sample.swift:3:10: P(Self == Self.Element): no"]))
+        status, printed = self.ask("--with", "standard", "--json", "f(T.Magnitude == T)")
+        self.assertEqual((status, json.loads(printed[0])["status"]), (1, "over incomplete protocols"))
+        self.assertEqual(self.ask("--with", "standard", "--strict", "f(T.Words)"), (3, []))
+
+    def test_a_signature_over_an_incomplete_protocol_says_so(self):
+        self.file.write_text("extension StringProtocol { func lineRange<R: RangeExpression>(_: R) where R.Bound == Index {} }\n")
+        status, printed, told = self.run_tool("signatures", "--with", "standard", self.file)
+        end = ", Self.[Collection]Index == R.[RangeExpression]Bound>  // over incomplete protocols: StringProtocol says Self.Element == Character"
+        self.assertEqual((status, printed[0].endswith(end)), (0, True), printed)
+        self.assertIn("1 signatures: 0 whole, 0 without ~Copyable, 1 over incomplete protocols, 0 incomplete\n  1 over StringProtocol\n", told)
+        self.assertEqual(self.run_tool("signatures", "--strict", "--with", "standard", self.file)[:2], (0, []))
+        self.assertEqual(self.run_tool("text", "--strict", "--with", "standard", self.file)[1][-1], "}")
 
     def test_why_prints_the_derivation_with_places(self):
         wanted = [
@@ -60,7 +116,7 @@ class Answers(unittest.TestCase):
 
     def test_answers_are_objects_for_tools(self):
         found = json.loads(self.ask("--json", "f(T.A : P)")[1][0])
-        wanted = {"file": "sample.swift", "line": 3, "column": 8, "declaration": "P.f", "query": "T.A : P", "answer": "yes", "status": "whole"}
+        wanted = {"file": "sample.swift", "line": 3, "column": 8, "declaration": "P.f", "query": "T.A : P", "answer": "yes", "status": "whole", "causes": []}
         self.assertEqual(found, wanted)
 
     def test_a_query_of_another_form_has_status_2(self):
@@ -77,7 +133,7 @@ class Answers(unittest.TestCase):
     def test_what_could_not_be_asked_is_told_by_the_lint(self):
         self.file.write_text("protocol P { associatedtype A }\nfunc f<T>(_: T) where T.A: P {}\nfunc g<T: P>(_: T) where T: P {}\n")
         status, printed, told = self.run_tool("redundant", self.file)
-        self.assertEqual((status, printed), (1, ["sample.swift:3:29: warning: requirement 'T : P' is redundant: it is written at sample.swift:3:11"]))
+        self.assertEqual((status, printed), (4, ["sample.swift:3:29: warning: requirement 'T : P' is redundant: it is written at sample.swift:3:11"]))
         self.assertIn("sample.swift:2:6: error: f is left out: not a type parameter", told)
 
 

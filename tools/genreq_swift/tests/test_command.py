@@ -57,7 +57,7 @@ class Commands(unittest.TestCase):
     def test_text_prints_what_genreq_reads_and_tells_what_is_left_out(self):
         status, printed, told = self.run_tool("text", self.file)
         self.assertEqual((status, printed), (0, TEXT))
-        self.assertIn("4 signatures: 2 whole, 1 without ~Copyable, 1 incomplete", told)
+        self.assertIn("4 signatures: 2 whole, 1 without ~Copyable, 0 over incomplete protocols, 1 incomplete", told)
 
     def test_strict_text_has_whole_signatures_alone(self):
         self.assertEqual(self.run_tool("text", "--strict", self.file)[1], "".join(TEXT.splitlines(True)[:5]))
@@ -103,12 +103,50 @@ class Commands(unittest.TestCase):
             self.assertEqual(status == 3, bool(errors), told)
             self.assertTrue(all(line.startswith(str(self.file)) for line in errors), told)
 
-    def test_wrong_words_have_status_2_and_an_output_that_cannot_be_written_70(self):
+    def test_wrong_words_have_status_2_and_an_output_that_cannot_be_written_5(self):
         self.assertEqual(self.run_tool("text")[0], 2)
         self.assertEqual(self.run_tool("fly", self.file)[0], 2)
         status, printed, told = self.run_tool("text", "--map", self.folder / "none" / "map", self.file)
-        self.assertEqual((status, printed), (70, ""))
+        self.assertEqual((status, printed), (5, ""))
         self.assertIn("No such file or directory", told)
+        for words in (("--compiler", "abc"), ("--language", "5x")):
+            self.assertEqual(self.run_tool("text", *words, self.file)[0], 2)
+
+    def test_a_full_disk_is_told_in_one_line(self):
+        with open("/dev/full", "wb") as full:
+            for words in (("text",), ("signatures",), ("outline",)):
+                done = subprocess.run([sys.executable, str(TOOL), *words, str(self.file)], stdout=full, stderr=subprocess.PIPE, check=False)
+                lines = done.stderr.decode("utf-8").splitlines()
+                self.assertEqual((done.returncode, lines[-1]), (5, "genreq-swift: the standard output: No space left on device"))
+                self.assertEqual([line for line in lines[:-1] if "not proved" not in line], [])
+
+    def test_what_is_no_file_in_a_folder_is_skipped_and_a_folder_that_cannot_be_read_is_told(self):
+        os.mkfifo(self.folder / "pipe.swift")
+        (self.folder / "dangling.swift").symlink_to("nowhere")
+        locked = self.folder / "locked"
+        locked.mkdir()
+        (locked / "other.swift").write_text("protocol Q {}")
+        locked.chmod(0)
+        self.addCleanup(locked.chmod, 0o700)
+        status, printed, told = self.run_tool("text", self.folder)
+        self.assertEqual(status, 3)
+        self.assertIn("dangling.swift: error: No such file or directory\n", told)
+        if os.geteuid() != 0:  # who may read everything
+            self.assertIn("locked: error: Permission denied\n", told)
+            self.assertEqual(printed, TEXT)
+
+    def test_a_type_that_is_nested_too_deeply_leaves_out_its_declaration_alone(self):
+        deep = "(" * 5000 + ")" * 5000
+        self.file.write_text("func a<T: P>(_: T, _: %s) {}\nprotocol P {}\nfunc b<T: P>(_: T) {}\nextension %s {}\n" % (deep, deep))
+        status, printed, told = self.run_tool("text", self.file)
+        self.assertEqual((status, printed.splitlines()[-1]), (3, "func b_1<T>() where T : P"))
+        self.assertIn("sample.swift:1:1: error: nested too deeply; this declaration is left out\n", told)
+
+    def test_a_line_feed_in_a_path_breaks_no_line(self):
+        self.file = self.folder / "a\nb.swift"
+        self.file.write_text("protocol P {}\nfunc f<T: P>(_: T) {}\n")
+        printed = self.run_tool("signatures", self.file)[1]
+        self.assertEqual(printed, "%s/a\\nb.swift:2:6: f: <T where T : P>\n" % self.folder)
 
     def answering(self, output):
         """A program in place of genreq, that prints this."""

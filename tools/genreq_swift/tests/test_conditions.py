@@ -1,8 +1,8 @@
 """Conditions of #if, and which branches are read."""
 import unittest
 
-from ..conditions import DARWIN_MODULES, Configuration, condition
-from ..tokens import Source, SourceError
+from ..read.conditions import DARWIN_MODULES, Configuration, condition
+from ..read.tokens import Source, SourceError
 from .samples import declared
 
 MAC = Configuration(system="macOS", processor="arm64", compiler=(5, 9), language=(5,), defined=frozenset(("DEBUG",)), modules=DARWIN_MODULES)

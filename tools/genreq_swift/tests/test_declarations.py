@@ -1,11 +1,11 @@
 """Declarations as they are written."""
 import unittest
 
-from ..conditions import Configuration
-from ..declarations import read_declarations
-from ..model import DeclarationKind
-from ..tokens import Source, SourceError
-from ..type_syntax import spelled
+from ..read.conditions import Configuration
+from ..read.declarations import read_declarations
+from ..read.model import DeclarationKind
+from ..read.tokens import Source, SourceError
+from ..read.type_syntax import spelled
 from .samples import declared
 
 

@@ -1,6 +1,6 @@
 import unittest
 
-from ..query import Labelled, Labels, Query, QueryError, declarations_of, read_query
+from ..ask.query import Labelled, Query, QueryError, declarations_of, labelled, read_query
 from .samples import reading
 
 SOURCE = """protocol P {
@@ -56,7 +56,7 @@ class Contexts(unittest.TestCase):
 class OwnNames(unittest.TestCase):
     def labelled(self, name, asked):
         found = reading(SOURCE)
-        return Labels(found.protocols).of_query(asked, next(one.parameters for one in found.signatures if one.name == name))
+        return labelled(asked, next(one for one in found.signatures if one.name == name), found)
 
     def test_become_labels(self):
         self.assertEqual(self.labelled("P.g", "T : Outer.Inner"), Labelled("T : Outer_Inner", frozenset(["Outer_Inner"])))

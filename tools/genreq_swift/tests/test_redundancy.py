@@ -1,8 +1,8 @@
 import unittest
 
-from ..command_redundant import as_lines, as_object, findings_of
-from ..own_names import own_names
-from ..program import LEVELS, Command, Ended, Program, ProgramFailed, default_program
+from ..say.command_redundant import as_lines, as_object, findings_of
+from ..ask.own_names import own_names
+from ..ask.program import LEVELS, Command, Ended, Program, ProgramFailed, default_program
 from .samples import reading
 
 PROTOCOLS = """

@@ -1,10 +1,10 @@
 import unittest
 
-from ..parts import protocol_part
-from ..program import Program, default_program
-from ..questions import requirement_signatures
-from ..requirement_form import kept_numbers, reduced_signatures
-from ..swift_form import compiler_form
+from ..ask.parts import protocol_part
+from ..ask.program import Program, default_program
+from ..ask.asking import requirement_signatures
+from ..ask.reduced_requirements import kept_numbers, reduced_signatures
+from ..ask.swift_form import compiler_form
 from .samples import reading
 
 SOURCE = """

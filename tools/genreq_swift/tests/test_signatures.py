@@ -1,11 +1,12 @@
 """How declarations become signatures and protocols."""
 import unittest
 
-from ..conditions import Configuration
-from ..declarations import read_declarations
-from ..model import Cause, Origin, Place, Status, label_of
-from ..reader import reading_of
-from ..tokens import Source
+from ..read.conditions import Configuration
+from ..read.declarations import read_declarations
+from ..read.model import Cause, Origin, Place, Status, label_of
+from ..mean.reader import reading_of
+from ..mean.standing import Standing
+from ..read.tokens import Source
 from .samples import omissions, reading, shown, signatures
 
 PROTOCOLS = """
@@ -164,7 +165,7 @@ class Inferred(unittest.TestCase):
 
     def inferred(self, text):
         found = reading(text, self.BESIDE).signatures[0]
-        return [str(requirement) for requirement in found.requirements if requirement.origin is Origin.INFERRED], found.status
+        return [str(requirement) for requirement in found.requirements if requirement.origin is Origin.INFERRED], found.own_status
 
     def test_generic_types_need_what_they_require(self):
         for text, wanted in [
@@ -188,7 +189,7 @@ class Inferred(unittest.TestCase):
 
     def test_what_grows_without_end_is_given_up(self):
         text = "struct B<T> {}; extension B: Hashable where B<B<T>>: Hashable {}; func f<T>(_: Set<B<T>>) {}"
-        self.assertEqual(reading(text, self.BESIDE).signatures[-1].status, Status.INCOMPLETE)
+        self.assertEqual(reading(text, self.BESIDE).signatures[-1].own_status, Status.INCOMPLETE)
         doubling = "typealias A<T> = (T, T);" + "".join("typealias A%d<T> = A%s<A%s<T>>;" % (n, n - 1 or "", n - 1 or "") for n in range(1, 9))
         self.assertEqual(len(reading(doubling + "func f<T>(_: A8<T>) {}").signatures), 10)
 
@@ -224,7 +225,7 @@ class Omissions(unittest.TestCase):
 
     def test_a_status_says_what_is_left_out(self):
         found = reading(PROTOCOLS + "struct Int {}\nstruct S<T: ~Copyable> {\n  func f<U: P>(_: U) where U.A == Int {} }\nfunc g<T>() {}").signatures
-        self.assertEqual([signature.status_line for signature in found], ["without ~Copyable", "incomplete: concrete type at sample.swift:6:28", "whole"])
+        self.assertEqual([Standing(()).line(signature) for signature in found], ["without ~Copyable", "incomplete: concrete type at sample.swift:6:28", "whole"])
         self.assertEqual([omission.origin for omission in found[1].omissions], [Origin.CONTEXT, Origin.OWN])
 
 
@@ -235,7 +236,7 @@ class ConcreteTypes(unittest.TestCase):
 
     def concrete(self, text):
         found = reading(PROTOCOLS + text, self.BESIDE, concrete=True).signatures[-1]
-        return shown(found), found.status
+        return shown(found), found.own_status
 
     def test_one_stands_as_a_parameter_with_its_declared_conformances(self):
         self.assertEqual(

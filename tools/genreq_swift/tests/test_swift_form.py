@@ -1,7 +1,7 @@
 import unittest
 
-from genreq_swift.printed import PrintedMember, PrintedType, Unreadable, read_signature, read_type
-from genreq_swift.swift_form import as_genreq, as_swift, compiler_form
+from genreq_swift.ask.printed import PrintedMember, PrintedType, Unreadable, read_signature, read_type
+from genreq_swift.ask.swift_form import as_genreq, as_swift, compiler_form
 
 # What genreq prints of a signature, and what swift-frontend 6.0.3 prints with -debug-generic-signatures, of these declarations:
 #     protocol P { associatedtype A; associatedtype B }

@@ -1,8 +1,8 @@
 """Tokens, and what is gone past."""
 import unittest
 
-from ..model import Place
-from ..tokens import Source, SourceError, Token, TokenKind
+from ..read.model import Place
+from ..read.tokens import Source, SourceError, Token, TokenKind
 
 
 def texts(text: str):

@@ -1,0 +1,1 @@
+func words<T: BinaryInteger>(_: T) {}

@@ -1,0 +1,1 @@
+"""What genreq is asked of them, and how its answers are read."""

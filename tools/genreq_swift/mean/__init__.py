@@ -1,0 +1,1 @@
+"""What declarations mean: from names to protocols and generic signatures."""

@@ -1,0 +1,1 @@
+"""Reads Swift: from files to declarations as they are written."""
