@@ -60,7 +60,7 @@ class Ours:
 
     functions: List[Part]
     signatures: Dict[str, str]
-    protocols: List[Part]
+    protocols: Sequence[Part]
     requirements: Dict[str, str]
 
 
